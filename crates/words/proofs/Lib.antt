@@ -1,0 +1,5 @@
+pub mod Bit
+pub mod Tally
+pub mod Row
+pub mod NextMember
+pub mod Bytes
