@@ -9,7 +9,7 @@ use lib.Bits.{bitOr}
 use Rattle.masks.specs.declared.Effect.{Effect}
 use Rattle.masks.specs.Step.{stepOf}
 use Rattle.masks.specs.State.{State, none, auto, dimmed, stateMask, same, holds, turns, brought}
-use Rattle.masks.proofs.Finite.{and-left, and-right, or-cases, all-states, implies, implied, alike, alike→eq, eq→alike, everyBelow, at-below, everyState, at-state, everyMask, at-mask}
+use Rattle.masks.proofs.Finite.{and-left, and-right, or-cases, all-states, implies, implied, alike, alike→eq, eq→alike, everyBelow, at-below, everyState, at-state, at-mask}
 
 -- a mask of states stays one
 pub step-lt : (e : Effect) (m : ℕ) → m < 8 → stepOf e m < 8

@@ -1,6 +1,6 @@
 -- The bits of a number: of a union, a difference, a power of two and a shift, and that a number is its bits.
 -- By the digit steps of the library, and by induction on the digits. Assumes nothing.
-use mathlib.Core.Path.{_≡_, refl, sym, ap, ap₂, _∙_, subst}
+use mathlib.Core.Path.{_≡_, refl, sym, ap, _∙_}
 use mathlib.Core.Bool.{not}
 use mathlib.Core.Logic.{_≢_}
 use Prim.Native.Nat.{ℕ, zero, suc, _+_, _-_, _*_, _/_, _%_, _^_, _≤_, _<_, min, max}
@@ -11,9 +11,9 @@ use native.Mathlib.Omega.{arith}
 use borrow.Author.Tests.{eq-eqb, ne-eqb}
 use lib.Arith.{bin-ind}
 use lib.Bits.{bitAnd, bitOr, or-shr, or-step, and-shr, and-step, and-mask}
-use lib.Count.{trailingZeros, under, trailing-le}
+use lib.Count.{trailingZeros, under}
 use lib.Dec.{eqb}
-use lib.Pow.{pow-mono, pow-lt, pow-pos, shr-shr, pow-add, shl-shr}
+use lib.Pow.{pow-mono, pow-lt, pow-pos, shr-shr}
 use Rattle.words.specs.Row.{bit}
 use Rattle.words.specs.Change.{without}
 

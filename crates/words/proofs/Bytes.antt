@@ -1,6 +1,6 @@
 -- The bytes of a row: the bits of a byte are bits of the row, a byte that is set is that byte and leaves the others, and a union of rows unites each byte.
 -- By a word's parts above, at and below the byte. Assumes nothing.
-use mathlib.Core.Path.{_≡_, refl, sym, ap, ap₂, _∙_, subst}
+use mathlib.Core.Path.{_≡_, sym, ap, ap₂, _∙_, subst}
 use mathlib.Core.List.{List}
 use mathlib.Core.Logic.{_≢_}
 use Prim.Native.Nat.{ℕ, _+_, _-_, _*_, _/_, _%_, _^_, _≤_, _<_}
@@ -9,19 +9,24 @@ use native.Mathlib.Decide.{decLt, ℕ-discrete}
 use native.Mathlib.Omega.{arith}
 use lib.Arith.{digits-lt, digits-div, digits-mod}
 use lib.Bits.{bitOr, or-shr, or-mod}
-use lib.Dec.{lit<}
-use lib.ListN.{length, getD, set, length-set}
+use lib.ListN.{length, getD, length-set}
 use lib.Pow.{pow-pos, pow-add, shr-lt, shr-shr, shl-exact, split, high, low, field, mod-mod-pow}
 use lib.Seq.{getD-set-same, getD-set-other}
 use Rattle.words.specs.Row.{bit, has, Words}
-use Rattle.words.specs.Change.{unioned}
+use Rattle.words.specs.Change.{unioned, ReadFirst}
 use Rattle.words.specs.Byte.{byteOf, byteAt, withByte, byteSet}
 use Rattle.words.proofs.Bit.{bit-shr, bit-mod}
-use Rattle.words.proofs.Row.{words-set, ReadFirst, unioned-word}
+use Rattle.words.proofs.Row.{words-set}
+use Rattle.words.proofs.Unioned.{unioned-word}
 
 pub byte-lt : (ws : List ℕ) (base k : ℕ) → byteAt ws base k < 256
 unfolding byteAt byteOf
 byte-lt ws base k = omega arith
+
+-- a byte goes by its word
+pub byte-cong : (ws vs : List ℕ) (base k : ℕ) → getD ws (base + k / 8) 0 ≡ getD vs (base + k / 8) 0 → byteAt ws base k ≡ byteAt vs base k
+unfolding byteAt
+byte-cong ws vs base k e = ap (λ (w : ℕ). byteOf w (k % 8)) e
 
 -- bit s of byte k is number 8 k + s of the row
 pub byte-has : (ws : List ℕ) (base k s : ℕ) → s < 8 → has ws base (8 * k + s) ≡ bit (byteAt ws base k) s

@@ -12,7 +12,7 @@ use lib.Count.{trailingZeros}
 use lib.Dec.{eqb}
 use lib.ListN.{getD}
 use lib.Pow.{shr-lt, shr-le}
-use Rattle.words.specs.Row.{bit, has, pick, seek, nextMember}
+use Rattle.words.specs.Row.{bit, has, pick, seek, nextMember, First}
 use Rattle.words.proofs.Bit.{bit-shr, bit-high, bit-of-zero, trailing-zero, trailing-one, trailing-lt}
 use Rattle.words.proofs.Row.{has-lt}
 
@@ -48,13 +48,6 @@ unfolding nextMember seek
 next-past ws base i bound l =
     let left : bound - i ≡ 0 = omega arith in
     ap (seek ws base i) left
-
--- r is the first member of the row from `from` on and below `bound`, or `bound`
-pub record First (ws : List ℕ) (base from bound r : ℕ) : Type 0 where
-  pub low : from ≤ r
-  pub high : r ≤ bound
-  pub none : (j : ℕ) → from ≤ j → j < r → has ws base j ≡ 0
-  pub member : r < bound → has ws base r ≡ 1
 
 sought : (ws : List ℕ) (base i n : ℕ) → First ws base i (i + n) (seek ws base i n)
 unfolding seek

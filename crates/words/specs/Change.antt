@@ -1,9 +1,10 @@
 -- What the slice is after a change, every word of it, and whether the row grew.
 -- A change of a row writes its words one after the other, the lowest first. Assumes nothing.
-use Prim.Native.Nat.{ℕ, zero, suc, _+_, _-_, _/_, _%_, _^_}
+use Prim.Native.Nat.{ℕ, zero, suc, _+_, _-_, _/_, _%_, _^_, _<_}
 use mathlib.Core.Path.{_≡_}
 use mathlib.Core.Bool.{Bool, false, _||_, not}
 use mathlib.Core.List.{List}
+use mathlib.Core.Logic.{_≢_}
 use lib.Bits.{bitAnd, bitOr}
 use lib.Dec.{eqb}
 use lib.ListN.{getD, set}
@@ -33,6 +34,10 @@ rewritten f ws base (suc k) = set (rewritten f ws base k) (base + k) (f (rewritt
 
 unfoldable pub unioned : List ℕ → ℕ → ℕ → ℕ → List ℕ
 unioned ws to from width = rewritten (λ vs k. bitOr (getD vs (to + k) 0) (getD vs (from + k) 0)) ws to width
+
+-- no word of the row at `from` is written before it is read: so it is where the rows are one, are apart, or `to` is the lower
+abbrev pub ReadFirst : ℕ → ℕ → ℕ → Type 0
+ReadFirst to from width = (j k : ℕ) → j < k → k < width → from + k ≢ to + j
 
 -- some word of the row at base is another in vs than in ws
 unfoldable pub differs : List ℕ → List ℕ → ℕ → ℕ → Bool

@@ -1,6 +1,7 @@
 -- A set of numbers is a row of 64-bit words: number i is a member of the row at `base` when bit i % 64 of word base + i / 64 is 1.
 -- What a row has, how many, and which comes next. Assumes nothing.
-use Prim.Native.Nat.{ℕ, zero, suc, _+_, _-_, _*_, _/_, _%_, _^_, _<_}
+use Prim.Native.Nat.{ℕ, zero, suc, _+_, _-_, _*_, _/_, _%_, _^_, _≤_, _<_}
+use mathlib.Core.Path.{_≡_}
 use mathlib.Core.Bool.{Bool, true, false}
 use mathlib.Core.List.{List}
 use lib.Dec.{eqb}
@@ -39,3 +40,10 @@ seek ws base i (suc d) = pick (eqb (has ws base i) 1) i (seek ws base (i + 1) d)
 -- the first member at or after `from` and below `bound`, or `bound`
 unfoldable pub nextMember : List ℕ → ℕ → ℕ → ℕ → ℕ
 nextMember ws base from bound = seek ws base from (bound - from)
+
+-- r is the first member of the row from `from` on and below `bound`, or `bound`
+pub record First (ws : List ℕ) (base from bound r : ℕ) : Type 0 where
+  pub low : from ≤ r
+  pub high : r ≤ bound
+  pub none : (j : ℕ) → from ≤ j → j < r → has ws base j ≡ 0
+  pub member : r < bound → has ws base r ≡ 1

@@ -1,6 +1,6 @@
 -- `words::set_byte` meets its contract: the byte that was there is taken off the word and v is put in its place, and neither leaves the word's width.
 -- Assumes nothing.
-use mathlib.Core.Path.{_≡_, sym, ap, subst}
+use mathlib.Core.Path.{sym, ap, subst}
 use Prim.Native.Nat.{ℕ, _+_, _/_, _%_, _^_, _<_}
 use native.Mathlib.Omega.{arith}
 use borrow.Author.Needs.{needs}

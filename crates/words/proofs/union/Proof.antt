@@ -5,7 +5,7 @@ use Prim.Native.Nat.{_-_}
 use native.Mathlib.Omega.{arith}
 use borrow.Author.Needs.{needs}
 use Rattle.words.specs.Change.{unioned, differs}
-use Rattle.words.proofs.Row.{Joining, joining-none, joining-more}
+use Rattle.words.proofs.Unioned.{Joining, joining-none, joining-more}
 use Rattle.words.proofs.union.Statement.{statement}
 use Rattle.words.proofs.union.Tie as tie
 
