@@ -236,7 +236,8 @@ fn called_continuations(flow: &Flow) -> impl Iterator<Item = usize> {
 fn list_returns(random: &mut Random, flow: &mut Flow) {
     let mut all: Vec<u16> = flow.statements.iter().filter_map(Statement::continuation).collect();
     all.dedup();
-    all.truncate(255);
+    // Few in a large flow, so that its file stays within its limit.
+    all.truncate(if flow.statements.len() < 100 { 255 } else { 16 });
     if random.once_in(2) {
         for s in flow.statements.iter_mut().filter(|s| s.kind == Kind::Return) {
             s.successors = all.clone();

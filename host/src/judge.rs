@@ -1,8 +1,9 @@
 //! The right answer to a file, from the original where it has something to say and from the
-//! reference answerer elsewhere; how a fault shows against it; and the comparison of the two.
+//! reference answerer elsewhere; how a fault shows against it; and who agrees with it.
 
 use crate::answerer::{self, Answer, Areas, Fault};
 use crate::flow::{self, Refusal};
+use crate::sides::{self, Original};
 use crate::{generate, reader};
 
 /// Lengths of the lent areas: mask bytes, live-in, live-out and work words.
@@ -29,30 +30,6 @@ impl Lent {
         Areas::patterned(self.masks, self.live_in, self.live_out, self.work)
     }
 }
-
-/// What the original says of an accepted flow.
-#[derive(Clone, Debug, PartialEq, Eq)]
-pub struct Original {
-    pub masks: Vec<u8>,
-    pub live_in: Vec<u64>,
-    pub live_out: Vec<u64>,
-}
-
-#[cfg(original)]
-pub fn original(flow: &flow::Flow) -> Option<Original> {
-    let original = crate::original::Original::new(flow);
-    let masks = original.array_states().concat();
-    let (live_in, live_out) = original.live_words();
-    Some(Original { masks, live_in, live_out })
-}
-
-#[cfg(not(original))]
-pub fn original(_: &flow::Flow) -> Option<Original> {
-    None
-}
-
-/// Printed where the supplied source tree is absent.
-pub const NO_ORIGINAL: &str = "the original Rust is not here: what needs it is skipped";
 
 /// The answer to a file, and what stands in the areas after it.
 #[derive(Clone, Debug, PartialEq, Eq)]
@@ -87,7 +64,7 @@ pub struct Right {
 pub fn right(file: &[u8], lent: Lent) -> Right {
     let outcome = outcome(file, lent, None);
     let original = match outcome.answer.number {
-        0 => flow::read(file).ok().and_then(|flow| original(&flow)),
+        0 => flow::read(file).ok().and_then(|flow| sides::original(&flow)),
         _ => None,
     };
     Right { outcome, original }
@@ -133,7 +110,7 @@ pub fn print_fault_table(table: &[(Fault, Shown)], count: u64) -> bool {
     table.iter().all(|(_, shown)| shown.flows > 0)
 }
 
-// ----- Original against answerer ------------------------------------------
+// ----- Comparisons --------------------------------------------------------
 
 #[derive(Default)]
 pub struct Comparison {
@@ -144,27 +121,16 @@ pub struct Comparison {
 }
 
 impl Comparison {
-    fn differs(&mut self, index: u64, what: &str) {
-        self.differences.push(format!("flow {index}: {what}"));
-    }
-
-    fn one(&mut self, index: u64, file: &[u8]) {
-        let right = right(file, Lent::for_file(file, (index % 3) as usize));
-        let answer = right.outcome.answer;
-        let read = reader::read(file, &mut Vec::new());
-        let expected = match answer.number {
-            0 => Ok(()),
-            number => Err(Refusal { number, place: answer.place }),
-        };
-        if read != expected {
-            self.differs(index, "the plain reader and the answerer");
-        }
+    fn count(&mut self, answer: Answer) {
         match answer.number {
             0 => self.accepted += 1,
             number => self.refused[number as usize] += 1,
         }
-        if right.original.is_some_and(|original| !right.outcome.agrees(&original)) {
-            self.differs(index, "the original and the answerer");
+    }
+
+    fn hold(&mut self, index: u64, what: &str, agree: bool) {
+        if !agree {
+            self.differences.push(format!("file {index}: {what}"));
         }
     }
 
@@ -178,11 +144,83 @@ impl Comparison {
     }
 }
 
+/// The refusal of the file alone, where the areas served it.
+fn of_file(answer: Answer) -> Result<(), Refusal> {
+    match answer.number {
+        0 | 10 => Ok(()),
+        number => Err(Refusal { number, place: answer.place }),
+    }
+}
+
 /// The answerer beside the original (masks, live sets) and beside the plain reader (refusals).
 pub fn compare(count: u64, seed: u64) -> Comparison {
     let mut comparison = Comparison::default();
     for index in 0..count {
-        comparison.one(index, &generate::file(seed, index));
+        let file = generate::file(seed, index);
+        let right = right(&file, Lent::for_file(&file, (index % 3) as usize));
+        comparison.count(right.outcome.answer);
+        let read = reader::read(&file, &mut Vec::new());
+        comparison.hold(index, "the plain reader and the answerer", read == of_file(right.outcome.answer));
+        let agree = right.original.is_none_or(|original| right.outcome.agrees(&original));
+        comparison.hold(index, "the original and the answerer", agree);
     }
     comparison
+}
+
+/// Whether the proved reader refuses as the answer says; `None` without the proved reader.
+pub fn reader_agrees(file: &[u8], answer: Answer) -> Option<bool> {
+    sides::proved_check(file).map(|checked| checked == of_file(answer))
+}
+
+/// The proved reader beside the answerer.
+pub fn compare_reader(count: u64, seed: u64) -> Option<Comparison> {
+    let mut comparison = Comparison::default();
+    for index in 0..count {
+        let file = generate::file(seed, index);
+        let answer = match flow::read(&file) {
+            Ok(_) => Answer::default(),
+            Err(refusal) => refusal.into(),
+        };
+        comparison.count(answer);
+        comparison.hold(index, "the proved reader and the answerer", reader_agrees(&file, answer)?);
+    }
+    Some(comparison)
+}
+
+/// What the proved call answers and leaves in the areas; `None` without it.
+pub fn proved_outcome(file: &[u8], lent: Lent) -> Option<Outcome> {
+    let mut areas = lent.areas();
+    let answer = sides::proved_states(file, &mut areas)?;
+    Some(Outcome { answer, areas })
+}
+
+/// Areas that serve the file as a rule; in one file of eight, one of them may be short.
+fn lent_in_turn(file: &[u8], index: u64) -> Lent {
+    let mut lent = Lent::for_file(file, (index % 3) as usize);
+    let areas = [&mut lent.masks, &mut lent.live_in, &mut lent.live_out, &mut lent.work];
+    if index / 4 % 8 == 0 {
+        for (i, length) in areas.into_iter().enumerate() {
+            if index / 32 % 4 == i as u64 {
+                *length = length.saturating_sub(1 + (index % 3) as usize);
+            }
+        }
+    }
+    lent
+}
+
+/// The proved call beside the original (masks, live sets) and beside the answerer (refusals,
+/// places, visits, every byte of the areas).
+pub fn compare_proved(count: u64, seed: u64) -> Option<Comparison> {
+    let mut comparison = Comparison::default();
+    for index in 0..count {
+        let file = generate::file(seed, index);
+        let lent = lent_in_turn(&file, index);
+        let right = right(&file, lent);
+        let proved = proved_outcome(&file, lent)?;
+        comparison.count(right.outcome.answer);
+        comparison.hold(index, "the proved call and the answerer", proved == right.outcome);
+        let agree = right.original.is_none_or(|original| proved.agrees(&original));
+        comparison.hold(index, "the proved call and the original", agree);
+    }
+    Some(comparison)
 }

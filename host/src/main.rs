@@ -6,17 +6,24 @@ use std::time::Instant;
 use std::{env, fs};
 
 use yarnuskel_host::generate::{self, Family};
-use yarnuskel_host::judge::{self, Lent, NO_ORIGINAL};
-use yarnuskel_host::{cases, flow, store};
+use yarnuskel_host::judge::{self, Comparison, Lent};
+use yarnuskel_host::sides::{self, NO_ORIGINAL, NO_READER, NO_STATES};
+use yarnuskel_host::{bench, cases, flow, listing, store, worst};
 
 const USAGE: &str = "commands:
   answer FILE|DIR              masks and live sets by the original, refusals by the answerer
   random KIND COUNT SEED DIR   write random files: plain, layered, limits, damaged
   time FILE                    time the original
   compare COUNT SEED           the original beside the answerer
+  compare-reader COUNT SEED    the proved reader beside the answerer
+  compare-proved COUNT SEED    the proved call beside original and answerer
   faults COUNT SEED            in how many flows each fault shows
   store                        write the stored answers and the example flows
-  stored                       list the stored cases";
+  stored                       list the stored cases
+  list FILE                    what the listing program prints
+  bench-reader                 the proved reader beside a plain one
+  bench                        the proved call beside the original
+  worst ROUNDS SEED            search for the file that takes the proved call longest";
 
 type Outcome = Result<bool, String>;
 
@@ -50,7 +57,7 @@ fn answer_file(path: &Path) -> Outcome {
             return Ok(true);
         }
     };
-    let Some(answer) = judge::original(&flow) else {
+    let Some(answer) = sides::original(&flow) else {
         println!("{NO_ORIGINAL}");
         return Ok(true);
     };
@@ -89,7 +96,7 @@ fn random(kind: &str, count: u64, seed: u64, folder: &Path) -> Outcome {
 fn time(path: &Path) -> Outcome {
     let flow = flow::read(&load(path)?).map_err(|r| format!("refused {} at {}", r.number, r.place))?;
     let start = Instant::now();
-    if judge::original(&flow).is_none() {
+    if sides::original(&flow).is_none() {
         println!("{NO_ORIGINAL}");
         return Ok(true);
     }
@@ -97,11 +104,16 @@ fn time(path: &Path) -> Outcome {
     Ok(true)
 }
 
-fn compare(count: u64, seed: u64) -> Outcome {
+type Compare = fn(u64, u64) -> Option<Comparison>;
+
+fn compare(count: u64, seed: u64, with: Compare, absent: &str) -> Outcome {
     if cfg!(not(original)) {
         println!("{NO_ORIGINAL}");
     }
-    let comparison = judge::compare(count, seed);
+    let Some(comparison) = with(count, seed) else {
+        println!("{absent}");
+        return Ok(true);
+    };
     comparison.print(count, seed);
     Ok(comparison.differences.is_empty())
 }
@@ -143,10 +155,25 @@ fn run(words: &[&str]) -> Outcome {
             random(kind, number(count)?, number(seed)?, Path::new(folder))
         }
         ["time", path] => time(Path::new(path)),
-        ["compare", count, seed] => compare(number(count)?, number(seed)?),
+        ["compare", count, seed] => {
+            compare(number(count)?, number(seed)?, |c, s| Some(judge::compare(c, s)), "")
+        }
+        ["compare-reader", count, seed] => {
+            compare(number(count)?, number(seed)?, judge::compare_reader, NO_READER)
+        }
+        ["compare-proved", count, seed] => {
+            compare(number(count)?, number(seed)?, judge::compare_proved, NO_STATES)
+        }
         ["faults", count, seed] => faults(number(count)?, number(seed)?),
         ["store"] => write_store(),
         ["stored"] => list_store(),
+        ["list", path] => {
+            print!("{}", listing::listing(&load(Path::new(path))?));
+            Ok(true)
+        }
+        ["bench-reader"] => Ok(bench::readers()),
+        ["bench"] => Ok(bench::whole_call()),
+        ["worst", rounds, seed] => Ok(worst::search(number(rounds)?, number(seed)?)),
         _ => Err(USAGE.into()),
     }
 }

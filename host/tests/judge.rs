@@ -3,7 +3,8 @@
 use std::path::Path;
 
 use yarnuskel_host::answerer::{self, Fault};
-use yarnuskel_host::judge::{self, NO_ORIGINAL};
+use yarnuskel_host::judge;
+use yarnuskel_host::sides::{self, NO_ORIGINAL};
 use yarnuskel_host::{cases, store};
 
 const SEED: u64 = 1;
@@ -21,7 +22,7 @@ fn worked_flows() {
         if let Some(visits) = worked.visits {
             assert_eq!(states.visits, visits, "{} visits", worked.name);
         }
-        match judge::original(&worked.flow) {
+        match sides::original(&worked.flow) {
             Some(original) => assert_eq!(original.masks, worked.masks, "{} by the original", worked.name),
             None => println!("{NO_ORIGINAL}"),
         }
