@@ -2,7 +2,6 @@
 
 use std::path::{Path, PathBuf};
 use std::process::ExitCode;
-use std::time::Instant;
 use std::{env, fs};
 
 use yarnuskel_host::generate::{self, Family};
@@ -95,12 +94,12 @@ fn random(kind: &str, count: u64, seed: u64, folder: &Path) -> Outcome {
 
 fn time(path: &Path) -> Outcome {
     let flow = flow::read(&load(path)?).map_err(|r| format!("refused {} at {}", r.number, r.place))?;
-    let start = Instant::now();
-    if sides::original(&flow).is_none() {
+    let Some([mut masks, mut live]) = sides::original_runs(&flow) else {
         println!("{NO_ORIGINAL}");
         return Ok(true);
-    }
-    println!("masks and live sets: {:?}", start.elapsed());
+    };
+    let [masks, live] = bench::medians(5, [&mut masks, &mut live]);
+    println!("array_states {masks:.2?}, live solve {live:.2?}, medians of 5 runs");
     Ok(true)
 }
 
