@@ -123,6 +123,9 @@ fn every_kind() -> Flow {
     Flow { arrays: 3, names: 5, entry: 0, statements, lines: vec![(10, 0), (50, 4), (60, 5)] }
 }
 
+/// The so-many-th field of its kind, set to a value.
+type Edit = (What, usize, u64);
+
 /// Edits of one encoded file.
 struct Base(Encoded);
 
@@ -132,8 +135,8 @@ impl Base {
         (field.offset, field.width)
     }
 
-    /// The file with the `nth` field of its kind set to a value.
-    fn set(&self, edits: &[(What, usize, u64)]) -> Vec<u8> {
+    /// The edited file.
+    fn set(&self, edits: &[Edit]) -> Vec<u8> {
         let mut bytes = self.0.bytes.clone();
         for &(what, nth, value) in edits {
             let (offset, width) = self.offset(what, nth);
@@ -143,7 +146,7 @@ impl Base {
     }
 
     /// The edited file, cut `keep` bytes into the field.
-    fn cut(&self, edits: &[(What, usize, u64)], what: What, nth: usize, keep: usize) -> Vec<u8> {
+    fn cut(&self, edits: &[Edit], what: What, nth: usize, keep: usize) -> Vec<u8> {
         let mut bytes = self.set(edits);
         bytes.truncate(self.offset(what, nth).0 + keep);
         bytes
@@ -253,7 +256,7 @@ fn marks_and_ends() -> Vec<Case> {
 fn orders() -> Vec<Case> {
     use What::*;
     let base = Base(every_kind().encode());
-    let two: [(&str, &[(What, usize, u64)]); 14] = [
+    let two: [(&str, &[Edit]); 14] = [
         ("arrays before entry", &[(Arrays, 0, 65), (Entry, 0, 9)]),
         ("entry before a mark", &[(Entry, 0, 8), (Mark, 1, 0)]),
         ("a kind before its successor", &[(Kind, 0, 7), (Successor, 0, 8)]),
@@ -303,7 +306,7 @@ fn orders() -> Vec<Case> {
             ));
         }
     }
-    let late: [(&str, &[(What, usize, u64)]); 3] = [
+    let late: [(&str, &[Edit]); 3] = [
         ("bytes after FE, areas short", &[]),
         ("a mark wrong, areas short", &[(Mark, 12, 0)]),
         ("an FL line not rising, areas short", &[(FirstLine, 2, 50)]),

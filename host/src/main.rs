@@ -12,6 +12,7 @@ use yarnuskel_host::{bench, cases, flow, listing, store, worst};
 const USAGE: &str = "commands:
   answer FILE|DIR              masks and live sets by the original, refusals by the answerer
   random KIND COUNT SEED DIR   write random files: plain, layered, limits, damaged
+  file SEED INDEX PATH         write one file of a comparison
   time FILE                    time the original
   compare COUNT SEED           the original beside the answerer
   compare-reader COUNT SEED    the proved reader beside the answerer
@@ -152,6 +153,9 @@ fn run(words: &[&str]) -> Outcome {
         ["answer", path] => answer(Path::new(path)),
         ["random", kind, count, seed, folder] => {
             random(kind, number(count)?, number(seed)?, Path::new(folder))
+        }
+        ["file", seed, index, path] => {
+            save(Path::new(path), &generate::file(number(seed)?, number(index)?)).map(|()| true)
         }
         ["time", path] => time(Path::new(path)),
         ["compare", count, seed] => {
