@@ -249,3 +249,22 @@ pub fn search(rounds: u64, seed: u64) -> bool {
     println!("longest {longest:.2?} (under 2 s)");
     longest < Duration::from_secs(2)
 }
+
+#[cfg(test)]
+mod tests {
+    use super::*;
+
+    /// A family whose files were all refused would search nothing.
+    #[test]
+    fn most_files_are_fit() {
+        let mut random = Random::new(1, 0);
+        for family in FAMILIES {
+            let fit = (0..40).filter(|_| {
+                let knobs = Knobs::any(&mut random);
+                flow::read(&build(family, knobs, &mut random)).is_ok()
+            });
+            let count = fit.count();
+            assert!(count > 20, "{family:?}: {count} of 40");
+        }
+    }
+}
