@@ -1,0 +1,531 @@
+//! A reference answerer: the answer to a flow file, written from the paper and not from the
+//! original. It follows the definitions one by one, and can be given one fault at a time.
+
+use std::collections::{BTreeMap, BTreeSet, VecDeque};
+
+use crate::flow::{self, Flow, Kind, Refusal, WORK_WORDS};
+
+pub const NONE: u8 = 1;
+pub const AUTO: u8 = 2;
+pub const DIMMED: u8 = 4;
+
+/// The lent areas.
+#[derive(Clone, Debug, PartialEq, Eq)]
+pub struct Areas {
+    pub masks: Vec<u8>,
+    pub live_in: Vec<u64>,
+    pub live_out: Vec<u64>,
+    pub work: Vec<u64>,
+}
+
+/// Number 0 where the flow is accepted.
+#[derive(Clone, Copy, Debug, Default, PartialEq, Eq)]
+pub struct Answer {
+    pub number: u64,
+    pub place: u64,
+    pub visits: u64,
+}
+
+impl From<Refusal> for Answer {
+    fn from(r: Refusal) -> Self {
+        Answer { number: r.number, place: r.place, visits: 0 }
+    }
+}
+
+/// Where a port goes astray.
+#[derive(Clone, Copy, Debug, PartialEq, Eq)]
+pub enum Fault {
+    EveryMaskSeven,
+    FirstVisitOnly,
+    AreasUntouched,
+    EverythingRefused,
+    TooShortUnread,
+    VisitsFitTheBound,
+    NoneDroppedAfterCall,
+    FlagZeroNotOpaque,
+    FlagZeroSteps,
+    BodyReturnToBaseZero,
+    BodyReturnInBody,
+    ContinuationStepLost,
+    NestedTouchedLeftOut,
+    OpaqueCalleeLeftOut,
+    OpaqueCycleLeftOut,
+}
+
+impl Fault {
+    pub const ALL: [Fault; 15] = [
+        Fault::EveryMaskSeven,
+        Fault::FirstVisitOnly,
+        Fault::AreasUntouched,
+        Fault::EverythingRefused,
+        Fault::TooShortUnread,
+        Fault::VisitsFitTheBound,
+        Fault::NoneDroppedAfterCall,
+        Fault::FlagZeroNotOpaque,
+        Fault::FlagZeroSteps,
+        Fault::BodyReturnToBaseZero,
+        Fault::BodyReturnInBody,
+        Fault::ContinuationStepLost,
+        Fault::NestedTouchedLeftOut,
+        Fault::OpaqueCalleeLeftOut,
+        Fault::OpaqueCycleLeftOut,
+    ];
+
+    pub fn text(self) -> &'static str {
+        match self {
+            Fault::EveryMaskSeven => "every mask is 7",
+            Fault::FirstVisitOnly => "only the first visit's mask is copied onward",
+            Fault::AreasUntouched => "the areas are left untouched",
+            Fault::EverythingRefused => "everything is refused",
+            Fault::TooShortUnread => "'too short' is said unread",
+            Fault::VisitsFitTheBound => "the visit count is invented to fit the bound",
+            Fault::NoneDroppedAfterCall => "NONE is dropped after a touching call",
+            Fault::FlagZeroNotOpaque => "DIM flag 0 is harmless to opacity",
+            Fault::FlagZeroSteps => "DIM flag 0 steps its mask",
+            Fault::BodyReturnToBaseZero => "a base-n RETURN goes where base 0 goes",
+            Fault::BodyReturnInBody => "a base-n RETURN goes to n + where base 0 goes",
+            Fault::ContinuationStepLost => "the continuation step is lost on a shared edge of base n",
+            Fault::NestedTouchedLeftOut => "touched arrays of nested bodies are left out",
+            Fault::OpaqueCalleeLeftOut => "opaque by a call of an opaque body is left out",
+            Fault::OpaqueCycleLeftOut => "opaque by a cycle is left out",
+        }
+    }
+}
+
+// ----- Subroutines --------------------------------------------------------
+
+/// A body, by its entry: the statements walked, and what calling it does.
+struct Body {
+    walk: Vec<bool>,
+    /// Entries of the bodies that its calls enter.
+    callees: BTreeSet<usize>,
+    touched: u64,
+    opaque: bool,
+}
+
+struct Subroutines<'a> {
+    flow: &'a Flow,
+    fault: Option<Fault>,
+    bodies: BTreeMap<usize, Body>,
+}
+
+impl<'a> Subroutines<'a> {
+    fn new(flow: &'a Flow, fault: Option<Fault>) -> Self {
+        let mut all = Subroutines { flow, fault, bodies: BTreeMap::new() };
+        for call in 0..flow.statements.len() {
+            if flow.statements[call].continuation().is_some() {
+                for e in flow.entered(call) {
+                    if !all.bodies.contains_key(&e) {
+                        let body = all.walk(e);
+                        all.bodies.insert(e, body);
+                    }
+                }
+            }
+        }
+        if fault != Some(Fault::OpaqueCycleLeftOut) {
+            all.close_cycles();
+        }
+        all.close_calls();
+        all
+    }
+
+    /// The body walk from `e`, with what its own statements do.
+    fn walk(&self, e: usize) -> Body {
+        let mut body = Body {
+            walk: vec![false; self.flow.statements.len()],
+            callees: BTreeSet::new(),
+            touched: 0,
+            opaque: false,
+        };
+        let mut waiting = vec![e];
+        while let Some(i) = waiting.pop() {
+            if std::mem::replace(&mut body.walk[i], true) {
+                continue;
+            }
+            let s = &self.flow.statements[i];
+            body.touched |= array_set(&s.references);
+            body.opaque |= self.lays_out(&s.kind);
+            if let Some(k) = s.continuation() {
+                body.callees.extend(self.flow.entered(i));
+                waiting.push(k.into());
+            } else if s.kind != Kind::Return {
+                waiting.extend(s.successors.iter().map(|&t| usize::from(t)));
+            }
+        }
+        body
+    }
+
+    /// CLR, RUN, or a DIM with at least one item of either flag.
+    fn lays_out(&self, kind: &Kind) -> bool {
+        let harmless = |flag: u8| flag == 0 && self.fault == Some(Fault::FlagZeroNotOpaque);
+        match kind {
+            Kind::Clr | Kind::Run => true,
+            Kind::Dim(items) => items.iter().any(|&(_, flag)| !harmless(flag)),
+            _ => false,
+        }
+    }
+
+    /// A body on a cycle of calls is opaque.
+    fn close_cycles(&mut self) {
+        let entries: Vec<usize> = self.bodies.keys().copied().collect();
+        for e in entries {
+            let mut called = BTreeSet::new();
+            let mut waiting: Vec<usize> = self.bodies[&e].callees.iter().copied().collect();
+            while let Some(c) = waiting.pop() {
+                if called.insert(c) {
+                    waiting.extend(&self.bodies[&c].callees);
+                }
+            }
+            if called.contains(&e) {
+                self.bodies.get_mut(&e).unwrap().opaque = true;
+            }
+        }
+    }
+
+    /// A body touches what its callees touch, and is opaque when one of them is.
+    fn close_calls(&mut self) {
+        let entries: Vec<usize> = self.bodies.keys().rev().copied().collect();
+        loop {
+            let mut changed = false;
+            for e in &entries {
+                let body = &self.bodies[e];
+                let (mut touched, mut opaque) = (body.touched, body.opaque);
+                for callee in body.callees.iter().map(|c| &self.bodies[c]) {
+                    if self.fault != Some(Fault::NestedTouchedLeftOut) {
+                        touched |= callee.touched;
+                    }
+                    if self.fault != Some(Fault::OpaqueCalleeLeftOut) {
+                        opaque |= callee.opaque;
+                    }
+                }
+                if (touched, opaque) != (body.touched, body.opaque) {
+                    let body = self.bodies.get_mut(e).unwrap();
+                    (body.touched, body.opaque) = (touched, opaque);
+                    changed = true;
+                }
+            }
+            if !changed {
+                return;
+            }
+        }
+    }
+
+    fn opaque_call(&self, call: usize) -> bool {
+        self.flow.entered(call).iter().any(|e| self.bodies[e].opaque)
+    }
+
+    fn touched_by_call(&self, call: usize) -> u64 {
+        self.flow.entered(call).iter().fold(0, |set, e| set | self.bodies[e].touched)
+    }
+
+    /// For each statement that is a RETURN, where it goes in base 0.
+    fn return_targets(&self) -> Vec<BTreeSet<usize>> {
+        let statements = &self.flow.statements;
+        let mut targets = vec![BTreeSet::new(); statements.len()];
+        for (call, s) in statements.iter().enumerate() {
+            let Some(k) = s.continuation() else { continue };
+            if !self.opaque_call(call) {
+                continue;
+            }
+            let entered: BTreeSet<usize> = self.flow.entered(call).into_iter().collect();
+            for e in entered {
+                for (r, met) in self.bodies[&e].walk.iter().enumerate() {
+                    if *met && statements[r].kind == Kind::Return {
+                        targets[r].insert(k.into());
+                    }
+                }
+            }
+        }
+        targets
+    }
+}
+
+fn array_set(arrays: &[u8]) -> u64 {
+    arrays.iter().fold(0, |set, &a| set | 1 << a)
+}
+
+// ----- The doubled graph --------------------------------------------------
+
+/// An edge of the doubled graph, with the arrays that take the touched step on it.
+#[derive(Clone, Copy)]
+struct Edge {
+    to: usize,
+    touched: u64,
+}
+
+/// The edges that leave each doubled number, in order.
+fn doubled_edges(flow: &Flow, fault: Option<Fault>) -> Vec<Vec<Edge>> {
+    let n = flow.statements.len();
+    let subroutines = Subroutines::new(flow, fault);
+    let returns = subroutines.return_targets();
+    let mut edges = Vec::with_capacity(2 * n);
+    for base in [0, n] {
+        for (i, s) in flow.statements.iter().enumerate() {
+            let plain = |to: usize| Edge { to, touched: 0 };
+            edges.push(if s.kind == Kind::Return {
+                let base = match fault {
+                    Some(Fault::BodyReturnToBaseZero) => Some(0),
+                    Some(Fault::BodyReturnInBody) => Some(base),
+                    _ => (base == 0).then_some(0),
+                };
+                let to = |base: usize| returns[i].iter().map(move |k| plain(base + k)).collect();
+                base.map_or_else(Vec::new, to)
+            } else if s.continuation().is_some() && !subroutines.opaque_call(i) {
+                call_edges(&subroutines, i, base)
+            } else {
+                s.successors.iter().map(|&t| plain(base + usize::from(t))).collect()
+            });
+        }
+    }
+    edges
+}
+
+/// The edges of a call that is not opaque and has a continuation.
+fn call_edges(subroutines: &Subroutines, call: usize, base: usize) -> Vec<Edge> {
+    let flow = subroutines.flow;
+    let n = flow.statements.len();
+    let s = &flow.statements[call];
+    let k = usize::from(s.continuation().unwrap());
+    let entered = flow.entered(call);
+    let mut numbers: Vec<usize> = entered.iter().map(|e| n + e).collect();
+    let shared = numbers.contains(&(base + k));
+    numbers.push(base + k);
+    let others = s.successors.iter().map(|&t| usize::from(t));
+    numbers.extend(others.filter(|t| !entered.contains(t) && *t != k).map(|t| base + t));
+    let lost = shared && subroutines.fault == Some(Fault::ContinuationStepLost);
+    let mut edges: Vec<Edge> = Vec::new();
+    for to in numbers {
+        if edges.iter().all(|e| e.to != to) {
+            let steps = to == base + k && !lost;
+            edges.push(Edge { to, touched: if steps { subroutines.touched_by_call(call) } else { 0 } });
+        }
+    }
+    edges
+}
+
+// ----- Masks by the queue rule --------------------------------------------
+
+struct Queue<'a> {
+    flow: &'a Flow,
+    fault: Option<Fault>,
+    edges: Vec<Vec<Edge>>,
+    /// Edges by the number they lead to; `to` is the number they come from.
+    back: Vec<Vec<Edge>>,
+    masks: Vec<Vec<u8>>,
+    /// Masks after the statement's act, at its last visit.
+    acted: Vec<Option<Vec<u8>>>,
+}
+
+impl<'a> Queue<'a> {
+    fn new(flow: &'a Flow, fault: Option<Fault>) -> Self {
+        let edges = doubled_edges(flow, fault);
+        let mut back = vec![Vec::new(); edges.len()];
+        for (from, list) in edges.iter().enumerate() {
+            for edge in list {
+                back[edge.to].push(Edge { to: from, touched: edge.touched });
+            }
+        }
+        let masks = vec![vec![0; flow.arrays.into()]; edges.len()];
+        let acted = vec![None; edges.len()];
+        Queue { flow, fault, edges, back, masks, acted }
+    }
+
+    /// What statement `i` makes of the masks it starts with.
+    fn act(&self, i: usize, masks: &[u8]) -> Vec<u8> {
+        let s = &self.flow.statements[i];
+        let mut out = masks.to_vec();
+        for &a in &s.references {
+            let mask = &mut out[usize::from(a)];
+            if *mask & NONE != 0 {
+                *mask = *mask & !NONE | AUTO;
+            }
+        }
+        match &s.kind {
+            Kind::Dim(items) => {
+                for &(a, flag) in items {
+                    if flag == 1 || self.fault == Some(Fault::FlagZeroSteps) {
+                        out[usize::from(a)] = DIMMED;
+                    }
+                }
+            }
+            Kind::Clr | Kind::Run => out.fill(NONE),
+            _ => {}
+        }
+        out
+    }
+
+    /// The touched step: NONE gains AUTO and stays.
+    fn touched(&self, mask: u8) -> u8 {
+        match self.fault {
+            _ if mask & NONE == 0 => mask,
+            Some(Fault::NoneDroppedAfterCall) => mask & !NONE | AUTO,
+            _ => mask | AUTO,
+        }
+    }
+
+    /// The union over edges from numbers visited before, with NONE at the entry.
+    fn union(&self, number: usize) -> Vec<u8> {
+        let first = if number == usize::from(self.flow.entry) { NONE } else { 0 };
+        let mut masks = vec![first; self.flow.arrays.into()];
+        for edge in &self.back[number] {
+            let Some(acted) = &self.acted[edge.to] else { continue };
+            for (a, (mask, &from)) in masks.iter_mut().zip(acted).enumerate() {
+                *mask |= if edge.touched >> a & 1 == 1 { self.touched(from) } else { from };
+            }
+        }
+        masks
+    }
+
+    /// The visits until nothing waits.
+    fn run(&mut self) -> u64 {
+        let n = self.flow.statements.len();
+        if n == 0 {
+            return 0;
+        }
+        let mut queue = VecDeque::from([usize::from(self.flow.entry)]);
+        let mut waiting = vec![false; 2 * n];
+        waiting[queue[0]] = true;
+        let mut visits = 0;
+        while let Some(number) = queue.pop_front() {
+            waiting[number] = false;
+            let first = self.acted[number].is_none();
+            if !first && self.fault == Some(Fault::FirstVisitOnly) {
+                continue;
+            }
+            visits += 1;
+            let masks = self.union(number);
+            let changed = masks != self.masks[number];
+            self.acted[number] = Some(self.act(number % n, &masks));
+            self.masks[number] = masks;
+            if first || changed {
+                for edge in &self.edges[number] {
+                    if !std::mem::replace(&mut waiting[edge.to], true) {
+                        queue.push_back(edge.to);
+                    }
+                }
+            }
+        }
+        if self.fault == Some(Fault::VisitsFitTheBound) {
+            let edges: usize = self.edges.iter().map(Vec::len).sum();
+            return visit_bound(edges, self.flow.arrays);
+        }
+        visits
+    }
+
+    /// Statement by statement, the union over both copies.
+    fn statement_masks(&self) -> Vec<u8> {
+        let (outer, body) = self.masks.split_at(self.flow.statements.len());
+        let both = outer.iter().flatten().zip(body.iter().flatten());
+        match self.fault {
+            Some(Fault::EveryMaskSeven) => both.map(|_| NONE | AUTO | DIMMED).collect(),
+            _ => both.map(|(a, b)| a | b).collect(),
+        }
+    }
+}
+
+/// The most visits that a doubled graph with so many edges may take.
+pub fn visit_bound(edges: usize, arrays: u8) -> u64 {
+    1 + edges as u64 * (1 + 2 * u64::from(arrays))
+}
+
+/// Edges of the doubled graph, and those that leave RETURNs.
+pub fn edge_counts(flow: &Flow) -> (usize, usize) {
+    let edges = doubled_edges(flow, None);
+    let kinds = flow.statements.iter().chain(&flow.statements).map(|s| &s.kind);
+    let returns = edges.iter().zip(kinds).filter(|(_, k)| **k == Kind::Return);
+    (edges.iter().map(Vec::len).sum(), returns.map(|(list, _)| list.len()).sum())
+}
+
+// ----- Live names ---------------------------------------------------------
+
+/// Live-in and live-out of each statement: the least sets that satisfy their definition.
+fn live_sets(flow: &Flow) -> (Vec<u64>, Vec<u64>) {
+    let n = flow.statements.len();
+    let (mut live_in, mut live_out) = (vec![0u64; n], vec![0u64; n]);
+    loop {
+        let mut changed = false;
+        for (i, s) in flow.statements.iter().enumerate().rev() {
+            let out = s.successors.iter().fold(0, |set, &t| set | live_in[usize::from(t)]);
+            let start = s.read | out & !s.written;
+            changed |= (start, out) != (live_in[i], live_out[i]);
+            (live_in[i], live_out[i]) = (start, out);
+        }
+        if !changed {
+            return (live_in, live_out);
+        }
+    }
+}
+
+// ----- The answer ---------------------------------------------------------
+
+/// What an accepted flow is answered with.
+#[derive(Clone, Debug, PartialEq, Eq)]
+pub struct States {
+    pub masks: Vec<u8>,
+    pub live_in: Vec<u64>,
+    pub live_out: Vec<u64>,
+    pub visits: u64,
+}
+
+pub fn states(flow: &Flow, fault: Option<Fault>) -> States {
+    let mut queue = Queue::new(flow, fault);
+    let visits = queue.run();
+    let masks = queue.statement_masks();
+    let (live_in, live_out) = live_sets(flow);
+    States { masks, live_in, live_out, visits }
+}
+
+impl Areas {
+    /// Areas of these lengths, filled with a pattern, so that a byte left alone is told from one written.
+    pub fn patterned(masks: usize, live_in: usize, live_out: usize, work: usize) -> Areas {
+        let word = |i: usize| 0xA5C3_96F0_5A3C_690F_u64.rotate_left(i as u32);
+        Areas {
+            masks: (0..masks).map(|i| 0xA0 | (i % 8) as u8).collect(),
+            live_in: (0..live_in).map(word).collect(),
+            live_out: (0..live_out).map(word).collect(),
+            work: (0..work).map(word).collect(),
+        }
+    }
+
+    /// What the areas of a flow must have at least: mask bytes, live words, work words.
+    pub fn least(n: usize, arrays: usize) -> (usize, usize, usize) {
+        (n * arrays, n, WORK_WORDS * n)
+    }
+
+    fn serve(&self, flow: &Flow) -> bool {
+        let (masks, live, work) = Areas::least(flow.statements.len(), flow.arrays.into());
+        self.masks.len() >= masks
+            && self.live_in.len() >= live
+            && self.live_out.len() >= live
+            && self.work.len() >= work
+    }
+
+    /// What an accepted call leaves in the areas.
+    pub fn write(&mut self, states: &States) {
+        self.masks[..states.masks.len()].copy_from_slice(&states.masks);
+        self.live_in[..states.live_in.len()].copy_from_slice(&states.live_in);
+        self.live_out[..states.live_out.len()].copy_from_slice(&states.live_out);
+        self.work.fill(0);
+    }
+}
+
+/// The answer to a file with these areas lent.
+pub fn answer(file: &[u8], areas: &mut Areas, fault: Option<Fault>) -> Answer {
+    match fault {
+        Some(Fault::EverythingRefused) => return Answer { number: 2, place: 0, visits: 0 },
+        Some(Fault::TooShortUnread) => return Answer { number: 10, place: 0, visits: 0 },
+        _ => {}
+    }
+    let flow = match flow::read(file) {
+        Ok(flow) => flow,
+        Err(refusal) => return refusal.into(),
+    };
+    if !areas.serve(&flow) {
+        return Answer { number: 10, place: 0, visits: 0 };
+    }
+    let states = states(&flow, fault);
+    if fault != Some(Fault::AreasUntouched) {
+        areas.write(&states);
+    }
+    Answer { number: 0, place: 0, visits: states.visits }
+}

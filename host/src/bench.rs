@@ -1,0 +1,238 @@
+//! Flows to measure on, medians, and the measurements: the proved reader beside a plain one, and
+//! the whole call beside the original.
+
+use std::hint::black_box;
+use std::time::{Duration, Instant};
+
+use crate::flow::{Flow, Kind, MAX_ARRAYS, MAX_FILE, MAX_STATEMENTS, Statement};
+use crate::generate::Script;
+use crate::judge::Lent;
+use crate::random::Random;
+use crate::{cases, sides};
+
+const N: usize = MAX_STATEMENTS as usize;
+
+/// The median time of each side, taken in turns so that both meet the same machine.
+pub fn medians<const SIDES: usize>(runs: usize, sides: [&mut dyn FnMut(); SIDES]) -> [Duration; SIDES] {
+    let mut times: [Vec<Duration>; SIDES] = std::array::from_fn(|_| Vec::new());
+    for _ in 0..runs {
+        for side in 0..SIDES {
+            let start = Instant::now();
+            sides[side]();
+            times[side].push(start.elapsed());
+        }
+    }
+    times.map(|mut all| {
+        all.sort();
+        all[all.len() / 2]
+    })
+}
+
+fn ratio(slow: Duration, fast: Duration) -> f64 {
+    slow.as_secs_f64() / fast.as_secs_f64()
+}
+
+// ----- Flows --------------------------------------------------------------
+
+fn line(i: usize) -> u16 {
+    10 + 10 * i as u16
+}
+
+/// One array in turn, and some names.
+fn busy(random: &mut Random, i: usize, mut s: Statement) -> Statement {
+    if s.kind != Kind::Return && i % 3 == 0 {
+        s.references = vec![random.below(MAX_ARRAYS.into()) as u8];
+    }
+    (s.written, s.read) = (1 << random.below(64), 1 << random.below(64));
+    s
+}
+
+fn script(statements: Vec<Statement>, entered: &[usize]) -> Flow {
+    let lines = entered.iter().map(|&i| (line(i), i as u16)).collect();
+    Flow { arrays: MAX_ARRAYS, names: 64, entry: 0, statements, lines }
+}
+
+/// Tables laid out first, then a line of statements with branches ahead.
+pub fn call_free(n: usize) -> Flow {
+    let mut random = Random::new(11, 0);
+    let statement = |i: usize| {
+        let kind = if i < 16 { Kind::Dim(vec![(i as u8, 1)]) } else { Kind::Other };
+        let mut successors = if i + 1 < n { vec![i as u16 + 1] } else { vec![] };
+        if i % 4 == 1 && i + 9 < n {
+            successors.push(i as u16 + 2 + random.below(7) as u16);
+        }
+        busy(&mut random, i, Statement::new(line(i), kind, &successors, &[]))
+    };
+    script((0..n).map(statement).collect(), &[])
+}
+
+/// Loops within loops: statements in groups of 8, groups in groups of 8, and so on.
+pub fn loops(n: usize) -> Flow {
+    let mut flow = call_free(n);
+    for i in 16..n {
+        let inner = [8usize, 64, 512].into_iter().filter(|size| (i + 1) % size == 0);
+        let back: Vec<u16> = inner.map(|size| (i + 1 - size) as u16).collect();
+        flow.statements[i].successors.extend(back);
+    }
+    flow
+}
+
+/// The deepest nest that there may be: each statement calls the next, and all share one RETURN.
+pub fn deep_chain(n: usize) -> Flow {
+    let mut random = Random::new(12, 0);
+    let last = n as u16 - 1;
+    let statement = |i: usize| {
+        let next = i as u16 + 1;
+        let s = match (i + 1, i + 2) {
+            (end, _) if end == n => Statement::new(line(i), Kind::Return, &[], &[]),
+            (_, end) if end == n => Statement::new(line(i), Kind::Other, &[next], &[]),
+            _ => {
+                let kind = Kind::Gosub { line: line(i + 1), continuation: Some(last) };
+                Statement::new(line(i), kind, &[next], &[])
+            }
+        };
+        busy(&mut random, i, s)
+    };
+    let entered: Vec<usize> = (1..n - 1).collect();
+    script((0..n).map(statement).collect(), &entered)
+}
+
+/// A main part of calls, each of a body that lays a table out; RETURNs list where they go.
+pub fn opaque_calls(n: usize) -> Flow {
+    let mut random = Random::new(13, 0);
+    let (calls, length) = (n / 2, n / 32);
+    let bodies = calls / length;
+    let next = |i: usize| (i + 1 < calls).then_some(i as u16 + 1);
+    let mut statements = Vec::new();
+    for i in 0..calls {
+        let e = calls + length * (i % bodies);
+        let kind = Kind::Gosub { line: line(e), continuation: next(i) };
+        statements.push(busy(&mut random, i, Statement::new(line(i), kind, &[e as u16], &[])));
+    }
+    for i in calls..n {
+        let (body, k) = ((i - calls) / length, (i - calls) % length);
+        let dim = Kind::Dim(vec![(random.below(64) as u8, 1)]);
+        let callers: Vec<u16> = (body..calls).step_by(bodies).filter_map(next).collect();
+        let s = match k {
+            1 => Statement::new(line(i), dim, &[i as u16 + 1], &[]),
+            _ if k + 1 == length => Statement::new(line(i), Kind::Return, &callers, &[]),
+            _ => Statement::new(line(i), Kind::Other, &[i as u16 + 1], &[]),
+        };
+        statements.push(busy(&mut random, i, s));
+    }
+    let entered: Vec<usize> = (0..bodies).map(|body| calls + length * body).collect();
+    script(statements, &entered)
+}
+
+/// Few subroutines that all parts of the script share, some by way of others.
+pub fn shared_subroutines(n: usize, arrays: u8) -> Flow {
+    let mut random = Random::new(14, 0);
+    let script = Script { main: n / 2, subroutines: n / 16, body: 8, arrays, names: 64, opaque: 1_000_000 };
+    loop {
+        let mut flow = script.flow(&mut random);
+        let total = flow.statements.len();
+        if total <= n && flow.bytes().len() <= MAX_FILE {
+            let end = flow.statements.len() as u16;
+            flow.statements.extend((total..n).map(|i| Statement::new(line(i), Kind::Other, &[end], &[])));
+            if let Some(last) = flow.statements.last_mut() {
+                last.successors.retain(|&t| usize::from(t) < n);
+            }
+            return flow;
+        }
+    }
+}
+
+/// The flows that the figures are given for.
+pub fn flows() -> Vec<(&'static str, Flow)> {
+    vec![
+        ("n 2048, call-free", call_free(N)),
+        ("n 2048, deep chain", deep_chain(N)),
+        ("n 2048, loops", loops(N)),
+        ("n 2048, opaque calls", opaque_calls(N)),
+        ("n 2048, shared subroutines", shared_subroutines(N, MAX_ARRAYS)),
+        ("n 512, shared subroutines", shared_subroutines(512, MAX_ARRAYS)),
+        ("n 96, shared subroutines", shared_subroutines(96, 16)),
+        ("P5", cases::worked().remove(0).flow),
+    ]
+}
+
+/// A fit file of some 250 kB with long lists and many `FL` records.
+pub fn reading_file() -> Vec<u8> {
+    let mut random = Random::new(15, 0);
+    let n = 1_000;
+    let statement = |i: usize| {
+        let successors: Vec<u16> = (0..50).map(|_| random.below(n) as u16).collect();
+        let references: Vec<u8> = (0..MAX_ARRAYS).filter(|_| random.below(8) < 5).collect();
+        Statement::new(i as u16, Kind::Other, &successors, &references)
+    };
+    let statements = (0..n).map(statement).collect();
+    let lines = (0..14_500).map(|i| (4 * i, random.below(n) as u16)).collect();
+    Flow { arrays: MAX_ARRAYS, names: 64, entry: 0, statements, lines }.bytes()
+}
+
+// ----- Measurements -------------------------------------------------------
+
+/// The plain reader's time on `reading_file`, and the proved reader's beside it; whether the
+/// second is within twice the first.
+pub fn readers() -> bool {
+    let file = reading_file();
+    let mut offsets = Vec::with_capacity(N);
+    let mut plain = || assert!(crate::reader::read(black_box(&file), &mut offsets).is_ok());
+    let mut proved = || {
+        black_box(sides::proved_check(black_box(&file)));
+    };
+    println!("a file of {} bytes, medians of 501 runs", file.len());
+    let [plain, proved] = medians(501, [&mut plain, &mut proved]);
+    println!("plain reader {plain:.2?}");
+    match sides::proved_check(&file) {
+        Some(checked) => {
+            let ratio = ratio(proved, plain);
+            println!("proved reader {proved:.2?}, ratio {ratio:.2} (at most 2)");
+            checked.is_ok() && ratio <= 2.0
+        }
+        None => {
+            println!("{}", sides::NO_READER);
+            true
+        }
+    }
+}
+
+/// How many times faster the call is: than `array_states` alone, and with its live solve.
+fn measure(name: &str, flow: &Flow) -> Option<(f64, f64)> {
+    let file = flow.bytes();
+    let mut areas = Lent::for_file(&file, 0).areas();
+    let answer = sides::proved_states(&file, &mut areas)?;
+    assert_eq!(answer.number, 0, "{name}");
+    let mut call = || {
+        black_box(sides::proved_states(black_box(&file), &mut areas));
+    };
+    let [mut masks, mut live] = sides::original_runs(flow)?;
+    let runs = if flow.statements.len() > 500 { 9 } else { 101 };
+    let [call, alone, live] = medians(runs, [&mut call, &mut masks, &mut live]);
+    let (first, second) = (ratio(alone, call), ratio(alone + live, call));
+    let (bytes, both) = (file.len(), alone + live);
+    println!(
+        "{name:28} {bytes:>6} {:>8} {call:>10.2?} {alone:>12.2?} {first:>7.1} {both:>12.2?} {second:>8.1}",
+        answer.visits
+    );
+    Some((first, second))
+}
+
+/// The whole call beside the original: at least twice as fast as `array_states` alone on every
+/// flow, and 50 times as fast as `array_states` with its live solve at the geometric mean.
+pub fn whole_call() -> bool {
+    println!(
+        "{:28} {:>6} {:>8} {:>10} {:>12} {:>7} {:>12} {:>8}",
+        "flow", "bytes", "visits", "call", "array_states", "times", "with live", "times"
+    );
+    let measured: Option<Vec<(f64, f64)>> = flows().iter().map(|(name, flow)| measure(name, flow)).collect();
+    let Some(times) = measured else {
+        println!("{}", if cfg!(original) { sides::NO_STATES } else { sides::NO_ORIGINAL });
+        return true;
+    };
+    let least = times.iter().map(|t| t.0).fold(f64::MAX, f64::min);
+    let mean = (times.iter().map(|t| t.1.ln()).sum::<f64>() / times.len() as f64).exp();
+    println!("over array_states alone, at the least: {least:.1} times (at least 2)");
+    println!("over array_states with its live solve, geometric mean: {mean:.1} times (at least 50)");
+    least >= 2.0 && mean >= 50.0
+}

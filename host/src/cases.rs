@@ -1,0 +1,417 @@
+//! The flows that the paper works through, and files at each row of its refusal table.
+
+use crate::flow::{Encoded, Flow, Kind, Statement, What};
+use crate::judge::Lent;
+
+/// A file as blocks, each repeated so many times, and the areas lent with it.
+#[derive(Clone, Debug)]
+pub struct Case {
+    pub name: String,
+    pub blocks: Vec<(u16, Vec<u8>)>,
+    pub lent: Lent,
+}
+
+impl Case {
+    pub fn new(name: impl Into<String>, file: Vec<u8>, more: usize) -> Case {
+        let lent = Lent::for_file(&file, more);
+        Case { name: name.into(), blocks: if file.is_empty() { vec![] } else { vec![(1, file)] }, lent }
+    }
+
+    fn repeated(name: &str, blocks: Vec<(u16, Vec<u8>)>) -> Case {
+        let mut case = Case { name: name.into(), blocks, lent: Lent::for_file(&[], 0) };
+        case.lent = Lent::for_file(&case.file(), 1);
+        case
+    }
+
+    pub fn file(&self) -> Vec<u8> {
+        self.blocks.iter().flat_map(|(times, block)| block.repeat((*times).into())).collect()
+    }
+}
+
+// ----- P1 to P10 ----------------------------------------------------------
+
+/// A flow of the paper, with its masks and, where the paper gives them, its visits.
+pub struct Worked {
+    pub name: &'static str,
+    pub flow: Flow,
+    pub masks: &'static [u8],
+    pub visits: Option<u64>,
+}
+
+fn p5_with(kind: Kind, references: &[u8]) -> Flow {
+    let call = Kind::Gosub { line: 30, continuation: Some(1) };
+    let mut statements = vec![
+        Statement::new(10, call, &[2], &[]),
+        Statement::new(20, Kind::Other, &[], &[0]),
+        Statement::new(30, kind, &[3], references),
+        Statement::new(40, Kind::Return, &[], &[]),
+    ];
+    statements[1].read = 1;
+    let lines = vec![(10, 0), (20, 1), (30, 2), (40, 3)];
+    Flow { arrays: 1, names: 1, entry: 0, statements, lines }
+}
+
+fn p9() -> Flow {
+    let call = Kind::Gosub { line: 10, continuation: Some(1) };
+    let statements = vec![Statement::new(10, call, &[0], &[]), Statement::new(20, Kind::Return, &[], &[])];
+    Flow { arrays: 1, names: 0, entry: 0, statements, lines: vec![(10, 0), (20, 1)] }
+}
+
+/// Statements one after the other, the last without successors.
+fn in_line(statements: Vec<(Kind, &[u8])>) -> Flow {
+    let last = statements.len() - 1;
+    let statement = |(i, (kind, references)): (usize, (Kind, &[u8]))| {
+        let next = i as u16 + 1;
+        Statement::new(10 * next, kind, if i < last { std::slice::from_ref(&next) } else { &[] }, references)
+    };
+    let statements = statements.into_iter().enumerate().map(statement).collect();
+    Flow { arrays: 1, names: 0, entry: 0, statements, lines: Vec::new() }
+}
+
+/// P1 to P4: the mask that a step is taken from, and the mask after it, among those of a flow.
+pub fn steps() -> Vec<Worked> {
+    let case = |name, flow, masks| Worked { name, flow, masks, visits: None };
+    let dim = || Kind::Dim(vec![(0, 1)]);
+    let mut joined = in_line(vec![(Kind::Other, &[]), (dim(), &[]), (Kind::Other, &[0]), (Kind::Other, &[])]);
+    joined.statements[0].successors.push(2);
+    let call = Kind::Gosub { line: 50, continuation: Some(3) };
+    let mut touched = joined.clone();
+    touched.statements[2] = Statement::new(30, call, &[4], &[]);
+    touched.statements[3].successors.clear();
+    touched.statements.push(Statement::new(50, Kind::Other, &[5], &[0]));
+    touched.statements.push(Statement::new(60, Kind::Return, &[], &[]));
+    touched.lines = vec![(50, 4)];
+    vec![
+        case("p1", in_line(vec![(Kind::Other, &[0]), (Kind::Other, &[])]), &[1, 2]),
+        case("p2", joined, &[1, 1, 5, 6]),
+        case("p3", in_line(vec![(dim(), &[]), (Kind::Other, &[0]), (Kind::Other, &[])]), &[1, 4, 4]),
+        case("p4", touched, &[1, 1, 5, 7, 5, 6]),
+    ]
+}
+
+/// P5 to P10.
+pub fn worked() -> Vec<Worked> {
+    let case = |name, flow, masks, visits| Worked { name, flow, masks, visits };
+    let empty = Flow { arrays: 1, names: 1, entry: 7, ..Flow::default() };
+    vec![
+        case("p5", p5_with(Kind::Other, &[0]), &[1, 3, 1, 2], Some(4)),
+        case("p6", p5_with(Kind::Dim(vec![(0, 1)]), &[]), &[1, 4, 1, 4], None),
+        case("p7", p5_with(Kind::Dim(vec![(0, 0)]), &[]), &[1, 1, 1, 1], None),
+        case("p8", p5_with(Kind::Clr, &[]), &[1, 1, 1, 1], None),
+        case("p9", p9(), &[1, 0], None),
+        case("p10", empty, &[], Some(0)),
+    ]
+}
+
+// ----- Refusals and limits ------------------------------------------------
+
+/// A small flow with a statement of each kind.
+fn every_kind() -> Flow {
+    let gosub = Kind::Gosub { line: 50, continuation: Some(2) };
+    let on_gosub = Kind::OnGosub { lines: vec![50, 60], continuation: Some(3) };
+    let mut statements = vec![
+        Statement::new(10, Kind::Other, &[1], &[0, 2]),
+        Statement::new(20, gosub, &[4], &[]),
+        Statement::new(30, on_gosub, &[4, 5, 3], &[]),
+        Statement::new(40, Kind::Dim(vec![(1, 1), (2, 0)]), &[6], &[]),
+        Statement::new(50, Kind::Other, &[5], &[1]),
+        Statement::new(60, Kind::Return, &[2, 3], &[]),
+        Statement::new(70, Kind::Clr, &[7], &[]),
+        Statement::new(80, Kind::Run, &[], &[]),
+    ];
+    (statements[0].written, statements[4].read) = (0b00011, 0b10000);
+    Flow { arrays: 3, names: 5, entry: 0, statements, lines: vec![(10, 0), (50, 4), (60, 5)] }
+}
+
+/// The so-many-th field of its kind, set to a value.
+type Edit = (What, usize, u64);
+
+/// Edits of one encoded file.
+struct Base(Encoded);
+
+impl Base {
+    fn offset(&self, what: What, nth: usize) -> (usize, usize) {
+        let field = self.0.fields.iter().filter(|f| f.what == what).nth(nth).unwrap();
+        (field.offset, field.width)
+    }
+
+    /// The edited file.
+    fn set(&self, edits: &[Edit]) -> Vec<u8> {
+        let mut bytes = self.0.bytes.clone();
+        for &(what, nth, value) in edits {
+            let (offset, width) = self.offset(what, nth);
+            bytes[offset..offset + width].copy_from_slice(&value.to_le_bytes()[..width]);
+        }
+        bytes
+    }
+
+    /// The edited file, cut `keep` bytes into the field.
+    fn cut(&self, edits: &[Edit], what: What, nth: usize, keep: usize) -> Vec<u8> {
+        let mut bytes = self.set(edits);
+        bytes.truncate(self.offset(what, nth).0 + keep);
+        bytes
+    }
+}
+
+/// One field at each side of its limit.
+fn one_field() -> Vec<Case> {
+    use What::*;
+    let base = Base(every_kind().encode());
+    let values: [(What, usize, &[u64]); 24] = [
+        (Statements, 0, &[7, 9, 2_048, 2_049, 65_535]),
+        (Arrays, 0, &[2, 64, 65, 255]),
+        (Names, 0, &[4, 64, 65, 255]),
+        (Entry, 0, &[7, 8, 65_535]),
+        (Line, 3, &[0, 65_535]),
+        (Kind, 6, &[3, 7, 255]),
+        (Successor, 0, &[0, 7, 8, 65_535]),
+        (Successor, 8, &[8]),
+        (ReferenceCount, 5, &[1, 255]),
+        (Reference, 0, &[1, 2, 3, 255]),
+        (Reference, 1, &[0, 1, 3]),
+        (Written, 0, &[1 << 4, 1 << 5, 1 << 63]),
+        (Read, 7, &[1 << 4, 1 << 5, 1 << 63]),
+        (DimArray, 0, &[0, 2, 3]),
+        (DimArray, 1, &[0, 1, 3, 255]),
+        (DimFlag, 0, &[0, 2, 255]),
+        (DimFlag, 1, &[1, 2]),
+        (CallLine, 0, &[0, 65_535]),
+        (CallLine, 2, &[55, 50]),
+        (Continuation, 0, &[7, 8, 65_534, 65_535]),
+        (Continuation, 1, &[7, 8, 65_534, 65_535]),
+        (FirstLine, 1, &[9, 10, 11, 60]),
+        (FirstStatement, 2, &[7, 8, 65_535]),
+        (Count, 7, &[254, 255]),
+    ];
+    let mut cases = Vec::new();
+    for (what, nth, values) in values {
+        for &value in values {
+            let name = format!("{what:?} {nth} set to {value}");
+            cases.push(Case::new(name, base.set(&[(what, nth, value)]), 1));
+        }
+    }
+    cases
+}
+
+/// Marks that are wrong or absent, short files, and bytes after the end.
+fn marks_and_ends() -> Vec<Case> {
+    use What::*;
+    let base = Base(every_kind().encode());
+    let mark = |mark: &[u8; 2]| u64::from(u16::from_le_bytes(*mark));
+    let mut cases = Vec::new();
+    // Marks 0 to 12: FH, eight FN, three FL, FE.
+    for (nth, wrong) in
+        [(0, b"FN"), (0, b"fH"), (1, b"FH"), (8, b"FL"), (9, b"FN"), (9, b"FK"), (11, b"FE"), (12, b"FF")]
+    {
+        let name = format!("mark {nth} set to {}", String::from_utf8_lossy(wrong));
+        cases.push(Case::new(name, base.set(&[(Mark, nth, mark(wrong))]), 0));
+    }
+    for (what, nth) in [
+        (Mark, 0),
+        (Statements, 0),
+        (Arrays, 0),
+        (Names, 0),
+        (Entry, 0),
+        (Mark, 1),
+        (Line, 0),
+        (Kind, 0),
+        (Count, 0),
+        (Successor, 0),
+        (ReferenceCount, 0),
+        (Reference, 0),
+        (Reference, 1),
+        (Written, 0),
+        (Read, 0),
+        (CallLine, 0),
+        (Continuation, 0),
+        (Count, 3),
+        (CallLine, 2),
+        (Continuation, 1),
+        (DimArray, 0),
+        (DimFlag, 1),
+        (Mark, 8),
+        (Mark, 9),
+        (FirstLine, 0),
+        (FirstStatement, 2),
+        (Mark, 12),
+    ] {
+        let width = base.offset(what, nth).1;
+        cases.push(Case::new(format!("cut before {what:?} {nth}"), base.cut(&[], what, nth, 0), 0));
+        if width > 1 {
+            cases.push(Case::new(
+                format!("cut within {what:?} {nth}"),
+                base.cut(&[], what, nth, width - 1),
+                0,
+            ));
+        }
+    }
+    for after in [&b"\0"[..], b"F", b"FE", b"FL\0\0\0\0", b"FKxx"] {
+        let name = format!("{} bytes after FE", after.len());
+        cases.push(Case::new(name, [&base.0.bytes[..], after].concat(), 0));
+    }
+    cases
+}
+
+/// Two causes in one file: the field that stands first decides.
+fn orders() -> Vec<Case> {
+    use What::*;
+    let base = Base(every_kind().encode());
+    let two: [(&str, &[Edit]); 14] = [
+        ("arrays before entry", &[(Arrays, 0, 65), (Entry, 0, 9)]),
+        ("entry before a mark", &[(Entry, 0, 8), (Mark, 1, 0)]),
+        ("a kind before its successor", &[(Kind, 0, 7), (Successor, 0, 8)]),
+        ("a successor before a kind further on", &[(Successor, 1, 8), (Kind, 2, 7)]),
+        ("a kind before a successor further on", &[(Kind, 1, 7), (Successor, 2, 8)]),
+        ("a successor before a reference", &[(Successor, 0, 8), (Reference, 0, 3)]),
+        ("a reference out of range before one not rising", &[(Reference, 0, 3), (Reference, 1, 0)]),
+        ("a reference not rising before names", &[(Reference, 1, 0), (Written, 0, 1 << 5)]),
+        ("names written before names read", &[(Written, 4, 1 << 5), (Read, 3, 1 << 6)]),
+        ("references of a RETURN before its names", &[(ReferenceCount, 5, 1), (Written, 5, 1 << 5)]),
+        ("an item's array before its flag", &[(DimArray, 0, 3), (DimFlag, 0, 2)]),
+        ("an item's flag before the next array", &[(DimFlag, 0, 2), (DimArray, 1, 3)]),
+        ("a line before its statement", &[(FirstLine, 1, 10), (FirstStatement, 1, 8)]),
+        ("a statement before the next line", &[(FirstStatement, 0, 8), (FirstLine, 1, 10)]),
+    ];
+    let mut cases: Vec<Case> = two.iter().map(|(name, edits)| Case::new(*name, base.set(edits), 0)).collect();
+    // An unfit field, and the file ends right after it, or within it.
+    for (what, nth, value) in [
+        (Statements, 0, 2_049),
+        (Arrays, 0, 65),
+        (Names, 0, 65),
+        (Entry, 0, 8),
+        (Kind, 0, 7),
+        (Successor, 0, 8),
+        (ReferenceCount, 5, 1),
+        (Reference, 0, 3),
+        (Reference, 1, 0),
+        (Written, 0, 1 << 5),
+        (Read, 0, 1 << 63),
+        (Continuation, 0, 8),
+        (DimArray, 0, 3),
+        (DimFlag, 0, 2),
+        (FirstLine, 1, 10),
+        (FirstStatement, 0, 8),
+    ] {
+        let (edits, width) = ([(what, nth, value)], base.offset(what, nth).1);
+        cases.push(Case::new(
+            format!("cut after unfit {what:?} {nth}"),
+            base.cut(&edits, what, nth, width),
+            0,
+        ));
+        if width > 1 {
+            cases.push(Case::new(
+                format!("cut within unfit {what:?} {nth}"),
+                base.cut(&edits, what, nth, width - 1),
+                0,
+            ));
+        }
+    }
+    let late: [(&str, &[Edit]); 3] = [
+        ("bytes after FE, areas short", &[]),
+        ("a mark wrong, areas short", &[(Mark, 12, 0)]),
+        ("an FL line not rising, areas short", &[(FirstLine, 2, 50)]),
+    ];
+    for (name, edits) in late {
+        let mut case = Case::new(name, [base.set(edits), b"F".to_vec()].concat(), 0);
+        case.lent = Lent { masks: 0, live_in: 0, live_out: 0, work: 0 };
+        cases.push(case);
+    }
+    cases
+}
+
+/// Each area as short as it may be, and one shorter.
+fn areas() -> Vec<Case> {
+    let exact = Case::new("areas exact", every_kind().bytes(), 0);
+    let lent = exact.lent;
+    let shorter = [
+        ("masks one short", Lent { masks: lent.masks - 1, ..lent }),
+        ("live-in one short", Lent { live_in: lent.live_in - 1, ..lent }),
+        ("live-out one short", Lent { live_out: lent.live_out - 1, ..lent }),
+        ("work one short", Lent { work: lent.work - 1, ..lent }),
+        ("all areas empty", Lent { masks: 0, live_in: 0, live_out: 0, work: 0 }),
+        (
+            "live-out long, live-in one short",
+            Lent { live_in: lent.live_in - 1, live_out: lent.live_out + 9, ..lent },
+        ),
+        ("work long", Lent { work: lent.work + 100, ..lent }),
+    ];
+    let mut cases = vec![exact.clone()];
+    cases.extend(shorter.map(|(name, lent)| Case { name: name.into(), lent, ..exact.clone() }));
+    let arrays = |arrays| Flow {
+        arrays,
+        statements: vec![Statement::new(1, Kind::Other, &[], &[])],
+        ..Flow::default()
+    };
+    cases.push(Case::new("no arrays, no mask bytes", arrays(0).bytes(), 0));
+    cases.push(Case::new("64 arrays", arrays(64).bytes(), 0));
+    cases
+}
+
+/// Header limits that need a file of their own.
+fn headers() -> Vec<Case> {
+    let mut cases = vec![Case::new("empty file", Vec::new(), 0), Case::new("half a mark", b"F".to_vec(), 0)];
+    for entry in [0, 1, 65_535] {
+        let flow = Flow { entry, arrays: 64, names: 64, ..Flow::default() };
+        cases.push(Case::new(format!("n 0, entry {entry}"), flow.bytes(), entry.min(1).into()));
+    }
+    cases.push(Case::new("n 0, an FL", Flow { lines: vec![(1, 0)], ..Flow::default() }.bytes(), 0));
+    cases.push(Case::new("n 0, 65 arrays", Flow { arrays: 65, ..Flow::default() }.bytes(), 0));
+    for (names, bit) in [(64, 63), (63, 63), (63, 62), (0, 0), (1, 0), (1, 1)] {
+        for written in [true, false] {
+            let mut s = Statement::new(1, Kind::Other, &[0], &[]);
+            *(if written { &mut s.written } else { &mut s.read }) = 1 << bit;
+            let flow = Flow { names, statements: vec![s], ..Flow::default() };
+            let what = if written { "written" } else { "read" };
+            cases.push(Case::new(format!("{names} names, bit {bit} {what}"), flow.bytes(), 0));
+        }
+    }
+    let all: Vec<u8> = (0..64).collect();
+    let flow =
+        Flow { arrays: 64, statements: vec![Statement::new(1, Kind::Other, &[0], &all)], ..Flow::default() };
+    cases.push(Case::new("64 references", flow.bytes(), 0));
+    cases
+}
+
+/// One statement's record, as it stands in a file.
+fn record(s: &Statement) -> Vec<u8> {
+    let whole = Flow { statements: vec![s.clone()], ..Flow::default() }.bytes();
+    whole[8..whole.len() - 2].to_vec()
+}
+
+fn header(n: u16, arrays: u8, entry: u16) -> Vec<u8> {
+    [b"FH", &n.to_le_bytes()[..], &[arrays, 0], &entry.to_le_bytes()].concat()
+}
+
+/// 2,048 and 2,049 statements; 262,144 and 262,145 bytes.
+fn largest() -> Vec<Case> {
+    let end = || (1, b"FE".to_vec());
+    let plain = record(&Statement::new(1, Kind::Other, &[5], &[0]));
+    let many = |n, entry| vec![(1, header(n, 1, entry)), (n, plain.clone()), end()];
+    let mut cases = vec![
+        Case::repeated("2,048 statements, entry the last", many(2_048, 2_047)),
+        Case::repeated("2,048 statements, entry 2,048", many(2_048, 2_048)),
+        Case::repeated("2,049 statements", many(2_049, 0)),
+    ];
+    let mut short = cases[0].clone();
+    short.name = "2,048 statements, work one short".into();
+    short.lent.work = 64 * 2_048 - 1;
+    cases.push(short);
+    // 250 records of 1,046 bytes and one of 634, with header and end, are 262,144 bytes.
+    let call = |successors: usize, lines: usize| {
+        let kind = Kind::OnGosub { lines: vec![10; lines], continuation: Some(250) };
+        record(&Statement::new(10, kind, &vec![3; successors], &[]))
+    };
+    let full = vec![(1, header(251, 1, 0)), (250, call(255, 255)), (1, call(255, 49)), end()];
+    cases.push(Case::repeated("262,144 bytes", full.clone()));
+    let more = |byte: &[u8]| [full.clone(), vec![(1, byte.to_vec())]].concat();
+    cases.push(Case::repeated("262,145 bytes, one after FE", more(b"F")));
+    cases.push(Case::repeated("262,145 bytes, none of them right", vec![(52_429, b"xxxxx".to_vec())]));
+    let spare = vec![(1, header(251, 1, 0)), (250, call(255, 255)), (1, call(255, 48)), end()];
+    cases.push(Case::repeated("262,144 bytes, two after FE", [spare, vec![(2, b"F".to_vec())]].concat()));
+    cases
+}
+
+/// Every row of the refusal table, its order, and each limit on both sides.
+pub fn refusals() -> Vec<Case> {
+    [headers(), one_field(), marks_and_ends(), orders(), areas(), largest()].concat()
+}

@@ -1,0 +1,101 @@
+//! The safe side of the proved library's door. The areas are sized here, so that a caller cannot
+//! lend short or overlapping ones; an answer owns what was written.
+
+use crate::answerer::{Answer, Areas};
+use crate::flow::{MAX_ARRAYS, MAX_STATEMENTS, Refusal, WORK_WORDS};
+
+unsafe extern "C" {
+    fn yarnuskel_states(
+        file: *const u8,
+        file_length: usize,
+        masks: *mut u8,
+        masks_length: usize,
+        live_in: *mut u64,
+        live_in_length: usize,
+        live_out: *mut u64,
+        live_out_length: usize,
+        work: *mut u64,
+        work_length: usize,
+        place: *mut u64,
+        visits: *mut u64,
+    ) -> u64;
+}
+
+/// What the library says of an accepted flow.
+#[derive(Clone, Debug, PartialEq, Eq)]
+pub struct FlowStates {
+    arrays: usize,
+    masks: Vec<u8>,
+    /// Names live when each statement starts, bit i for name i.
+    pub live_in: Vec<u64>,
+    pub live_out: Vec<u64>,
+    pub visits: u64,
+}
+
+impl FlowStates {
+    pub fn statements(&self) -> usize {
+        self.live_in.len()
+    }
+
+    /// What the array may be when the statement starts: a union of NONE 1, AUTO 2, DIMMED 4.
+    pub fn mask(&self, statement: usize, array: usize) -> u8 {
+        self.masks_of(statement)[array]
+    }
+
+    /// One mask an array.
+    pub fn masks_of(&self, statement: usize) -> &[u8] {
+        &self.masks[statement * self.arrays..(statement + 1) * self.arrays]
+    }
+}
+
+/// How many statements and arrays the header says, where the library will accept as many.
+fn header(file: &[u8]) -> (usize, usize) {
+    match *file {
+        [_, _, low, high, arrays, ..] => {
+            (u16::from_le_bytes([low, high]).min(MAX_STATEMENTS).into(), arrays.min(MAX_ARRAYS).into())
+        }
+        _ => (0, 0),
+    }
+}
+
+/// The states of a flow file, or its refusal.
+pub fn states(file: &[u8]) -> Result<FlowStates, Refusal> {
+    let (n, arrays) = header(file);
+    let mut areas = Areas {
+        masks: vec![0; n * arrays],
+        live_in: vec![0; n],
+        live_out: vec![0; n],
+        work: vec![0; WORK_WORDS * n],
+    };
+    let answer = states_in(file, &mut areas);
+    match answer.number {
+        0 => {
+            let Areas { masks, live_in, live_out, .. } = areas;
+            Ok(FlowStates { arrays, masks, live_in, live_out, visits: answer.visits })
+        }
+        number => Err(Refusal { number, place: answer.place }),
+    }
+}
+
+/// The call itself, over areas of any length.
+pub fn states_in(file: &[u8], areas: &mut Areas) -> Answer {
+    let (mut place, mut visits) = (0, 0);
+    // The areas are distinct vectors, and each pointer goes with its own length.
+    let number = unsafe {
+        yarnuskel_states(
+            file.as_ptr(),
+            file.len(),
+            areas.masks.as_mut_ptr(),
+            areas.masks.len(),
+            areas.live_in.as_mut_ptr(),
+            areas.live_in.len(),
+            areas.live_out.as_mut_ptr(),
+            areas.live_out.len(),
+            areas.work.as_mut_ptr(),
+            areas.work.len(),
+            &mut place,
+            &mut visits,
+        )
+    };
+    Answer { number, place, visits }
+}

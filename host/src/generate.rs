@@ -1,0 +1,454 @@
+//! Random flow files: plain graphs, layered scripts, flows at the limits, damaged copies.
+
+use crate::flow::{Encoded, Flow, Kind, MAX_ARRAYS, MAX_FILE, MAX_STATEMENTS, Statement, What};
+use crate::random::Random;
+
+#[derive(Clone, Copy, Debug, PartialEq, Eq)]
+pub enum Family {
+    Plain,
+    Layered,
+    Limits,
+    Damaged,
+}
+
+impl Family {
+    pub const ALL: [Family; 4] = [Family::Plain, Family::Layered, Family::Limits, Family::Damaged];
+
+    pub fn name(self) -> &'static str {
+        match self {
+            Family::Plain => "plain",
+            Family::Layered => "layered",
+            Family::Limits => "limits",
+            Family::Damaged => "damaged",
+        }
+    }
+
+    pub fn named(name: &str) -> Option<Family> {
+        Family::ALL.into_iter().find(|f| f.name() == name)
+    }
+}
+
+/// File `index` of a run: the families take turns.
+pub fn file(seed: u64, index: u64) -> Vec<u8> {
+    file_of(Family::ALL[(index % 4) as usize], seed, index)
+}
+
+pub fn file_of(family: Family, seed: u64, index: u64) -> Vec<u8> {
+    let mut random = Random::new(seed, index);
+    match family {
+        Family::Plain => plain(&mut random).bytes(),
+        Family::Layered => layered(&mut random).bytes(),
+        Family::Limits => limits(&mut random).bytes(),
+        Family::Damaged => damaged(&mut random),
+    }
+}
+
+/// Each of `count` numbers with one chance in `of`, rising.
+fn some_of(random: &mut Random, count: u8, of: usize) -> Vec<u8> {
+    (0..count).filter(|_| random.once_in(of)).collect()
+}
+
+fn some_names(random: &mut Random, names: u8) -> u64 {
+    let all = if names == 64 { u64::MAX } else { (1 << names) - 1 };
+    all & random.next() & random.next()
+}
+
+/// Few as a rule, and the limit now and then.
+fn few(random: &mut Random, limit: u8) -> u8 {
+    if random.once_in(40) { limit - random.below(2) as u8 } else { random.pick(&[0, 1, 1, 2, 2, 3, 5]) }
+}
+
+// ----- Plain graphs -------------------------------------------------------
+
+fn call(random: &mut Random, lines: &[u16], n: usize) -> Kind {
+    let line = |random: &mut Random| match lines.is_empty() || random.once_in(12) {
+        true => random.below(100) as u16,
+        false => random.pick(lines),
+    };
+    let continuation = (!random.once_in(8)).then(|| random.below(n) as u16);
+    if random.once_in(3) {
+        let lines = (0..random.below(4)).map(|_| line(random)).collect();
+        return Kind::OnGosub { lines, continuation };
+    }
+    Kind::Gosub { line: line(random), continuation }
+}
+
+fn dim(random: &mut Random, arrays: u8) -> Kind {
+    let count = if arrays == 0 { 0 } else { random.below(3) };
+    let item = |_| (random.below(arrays.into()) as u8, random.below(2) as u8);
+    Kind::Dim((0..count).map(item).collect())
+}
+
+fn plain(random: &mut Random) -> Flow {
+    let n = match random.below(20) {
+        0 => 0,
+        1 | 2 => random.within(10, 40),
+        _ => random.within(1, 9),
+    };
+    let (arrays, names) = (few(random, MAX_ARRAYS), few(random, 64));
+    let lined: Vec<u16> = (0..n as u16).filter(|_| !random.once_in(4)).collect();
+    let first = |i: &u16| (10 + 10 * i, if random.once_in(9) { random.below(n) as u16 } else { *i });
+    let lines: Vec<(u16, u16)> = lined.iter().map(first).collect();
+    let known: Vec<u16> = lines.iter().map(|&(line, _)| line).collect();
+    let statements = (0..n).map(|i| {
+        let kind = match random.below(20) {
+            0..=8 => Kind::Other,
+            9 | 10 => Kind::Return,
+            11 if random.once_in(2) => Kind::Clr,
+            11 => Kind::Run,
+            12 | 13 => dim(random, arrays),
+            _ => call(random, &known, n),
+        };
+        let references = if kind == Kind::Return { Vec::new() } else { some_of(random, arrays, 3) };
+        let count = random.pick(&[0, 1, 1, 1, 2, 2, 3]);
+        Statement {
+            line: 10 + 10 * i as u16,
+            kind,
+            successors: (0..count).map(|_| random.below(n) as u16).collect(),
+            references,
+            written: some_names(random, names),
+            read: some_names(random, names),
+        }
+    });
+    let statements = statements.collect();
+    let entry = if n == 0 { random.next() as u16 } else { random.below(n) as u16 };
+    Flow { arrays, names, entry, statements, lines }
+}
+
+// ----- Layered scripts ----------------------------------------------------
+
+/// How large a script is: a main part, then subroutines that call later ones.
+pub struct Script {
+    pub main: usize,
+    pub subroutines: usize,
+    /// The most statements that a subroutine has, its RETURN included.
+    pub body: usize,
+    pub arrays: u8,
+    pub names: u8,
+    /// One statement of a body in so many is a CLR, RUN or DIM.
+    pub opaque: usize,
+}
+
+fn layered(random: &mut Random) -> Flow {
+    let script = Script {
+        main: random.within(2, 8),
+        subroutines: random.within(1, 6),
+        body: random.within(1, 5),
+        arrays: few(random, MAX_ARRAYS).max(1),
+        names: few(random, 64),
+        opaque: 30,
+    };
+    script.flow(random)
+}
+
+fn line_of(statement: usize) -> u16 {
+    10 + 10 * statement as u16
+}
+
+impl Script {
+    pub fn flow(&self, random: &mut Random) -> Flow {
+        let mut starts = vec![0, self.main];
+        for _ in 0..self.subroutines {
+            starts.push(starts[starts.len() - 1] + random.within(1, self.body));
+        }
+        let mut flow = Flow { arrays: self.arrays, names: self.names, ..Flow::default() };
+        for block in 0..starts.len() - 1 {
+            for i in starts[block]..starts[block + 1] {
+                let (kind, successors) = self.statement(random, &starts, block, i);
+                let references = match kind {
+                    Kind::Return => Vec::new(),
+                    _ if random.once_in(2) => some_of(random, self.arrays, 2 + usize::from(self.arrays)),
+                    _ => Vec::new(),
+                };
+                let (written, read) = (some_names(random, self.names), some_names(random, self.names));
+                let line = line_of(i);
+                flow.statements.push(Statement { line, kind, successors, references, written, read });
+            }
+        }
+        let lines = starts[..starts.len() - 1].iter().copied();
+        let mut entered: Vec<usize> = lines.chain(called_continuations(&flow)).collect();
+        entered.sort_unstable();
+        entered.dedup();
+        flow.lines = entered.into_iter().map(|i| (line_of(i), i as u16)).collect();
+        list_returns(random, &mut flow);
+        flow
+    }
+
+    fn statement(&self, random: &mut Random, starts: &[usize], block: usize, i: usize) -> (Kind, Vec<u16>) {
+        let (start, end) = (starts[block], starts[block + 1]);
+        let next = i as u16 + 1;
+        if i + 1 == end {
+            return (if block == 0 { Kind::Other } else { Kind::Return }, Vec::new());
+        }
+        if block > 0 && random.once_in(15) {
+            return (Kind::Return, Vec::new());
+        }
+        if random.once_in(if block == 0 { 8 } else { self.opaque }) {
+            let kind = match random.below(6) {
+                0 => Kind::Clr,
+                1 => Kind::Run,
+                _ => dim(random, self.arrays),
+            };
+            return (kind, vec![next]);
+        }
+        if block + 2 < starts.len() && random.below(9) < 4 || random.once_in(12) {
+            return self.call(random, starts, block, next);
+        }
+        let branch = random.within(start, end - 1) as u16;
+        (Kind::Other, if random.once_in(3) { vec![next, branch] } else { vec![next] })
+    }
+
+    fn call(&self, random: &mut Random, starts: &[usize], block: usize, next: u16) -> (Kind, Vec<u16>) {
+        let last = starts.len() - 2;
+        let entry = |random: &mut Random| {
+            if random.once_in(12) {
+                return usize::from(next);
+            }
+            let earlier = block == last || random.once_in(40);
+            starts[if earlier {
+                random.within(usize::from(last > 0), last)
+            } else {
+                random.within(block + 1, last)
+            }]
+        };
+        let continuation = (!random.once_in(30)).then_some(next);
+        if random.once_in(3) {
+            let entries: Vec<usize> = (0..random.within(1, 3)).map(|_| entry(random)).collect();
+            let lines = entries.iter().map(|&e| line_of(e)).collect();
+            let successors = entries.iter().map(|&e| e as u16).chain([next]).collect();
+            return (Kind::OnGosub { lines, continuation }, successors);
+        }
+        let e = entry(random);
+        (Kind::Gosub { line: line_of(e), continuation }, vec![e as u16])
+    }
+}
+
+/// Continuations whose line a call lists: such a call enters what it also goes on to.
+fn called_continuations(flow: &Flow) -> impl Iterator<Item = usize> {
+    let both = |s: &Statement| {
+        let k = s.continuation()?;
+        s.call_lines().contains(&line_of(k.into())).then_some(k.into())
+    };
+    flow.statements.iter().filter_map(both)
+}
+
+/// RETURNs list the continuations of all calls, as a front end does, or nothing.
+fn list_returns(random: &mut Random, flow: &mut Flow) {
+    let mut all: Vec<u16> = flow.statements.iter().filter_map(Statement::continuation).collect();
+    all.dedup();
+    // Few in a large flow, so that its file stays within its limit.
+    all.truncate(if flow.statements.len() < 100 { 255 } else { 16 });
+    if random.once_in(2) {
+        for s in flow.statements.iter_mut().filter(|s| s.kind == Kind::Return) {
+            s.successors = all.clone();
+        }
+    }
+}
+
+// ----- At the limits ------------------------------------------------------
+
+fn limits(random: &mut Random) -> Flow {
+    match random.below(240) {
+        0 => {
+            let per_body = random.within(1, 6);
+            large(random, per_body)
+        }
+        1 => full(random),
+        2..=20 => Flow { entry: random.next() as u16, arrays: 64, names: 64, ..Flow::default() },
+        21..=80 => wide(random),
+        81..=120 => crowded(random),
+        121..=160 => {
+            let mut flow = layered(random);
+            flow.entry = flow.statements.len() as u16 - 1;
+            flow
+        }
+        161..=200 => Flow { arrays: 0, names: 0, ..without_arrays(layered(random)) },
+        _ => far_lines(random),
+    }
+}
+
+/// All statements that there may be, in subroutines of few statements each.
+fn large(random: &mut Random, per_body: usize) -> Flow {
+    let arrays = random.pick(&[0, 1, 8, 63, 64]);
+    let subroutines = 1500 / per_body;
+    let mut script = Script { main: 200, subroutines, body: per_body, arrays, names: 8, opaque: 4000 };
+    let mut flow = script.flow(random);
+    let n = flow.statements.len();
+    script.main = 200 + usize::from(MAX_STATEMENTS) - n;
+    if script.main > 200 {
+        flow = script.flow(random);
+    }
+    flow.statements.truncate(MAX_STATEMENTS.into());
+    within_itself(&mut flow);
+    flow
+}
+
+/// Cuts what leads beyond the last statement.
+fn within_itself(flow: &mut Flow) {
+    let n = flow.statements.len() as u16;
+    flow.lines.retain(|&(_, first)| first < n);
+    for s in &mut flow.statements {
+        s.successors.retain(|&t| t < n);
+        if let Kind::Gosub { continuation, .. } | Kind::OnGosub { continuation, .. } = &mut s.kind {
+            *continuation = continuation.filter(|&k| k < n);
+        }
+    }
+}
+
+/// 63 or 64 arrays and names, all of them referenced, written and read.
+fn wide(random: &mut Random) -> Flow {
+    let script = Script {
+        main: 4,
+        subroutines: 3,
+        body: 3,
+        arrays: random.within(63, 64) as u8,
+        names: random.within(63, 64) as u8,
+        opaque: 30,
+    };
+    let mut flow = script.flow(random);
+    for s in flow.statements.iter_mut().filter(|s| s.kind != Kind::Return) {
+        s.references = some_of(random, script.arrays, 2);
+    }
+    flow
+}
+
+/// Counts of 254 and 255: successors, DIM items, lines of a call.
+fn crowded(random: &mut Random) -> Flow {
+    let mut flow = layered(random);
+    let n = flow.statements.len();
+    let count = random.within(254, 255);
+    for s in &mut flow.statements {
+        match &mut s.kind {
+            Kind::OnGosub { lines, .. } if !lines.is_empty() => {
+                *lines = (0..count).map(|i| lines[i % lines.len()]).collect();
+            }
+            Kind::Dim(items) => {
+                *items = (0..count).map(|i| ((i % usize::from(flow.arrays)) as u8, (i % 2) as u8)).collect();
+            }
+            Kind::Other if random.once_in(4) => {
+                s.successors = (0..count).map(|_| random.below(n) as u16).collect();
+            }
+            _ => {}
+        }
+    }
+    flow
+}
+
+/// Lines 0 and 65,535, and lines that nothing has.
+fn far_lines(random: &mut Random) -> Flow {
+    let mut flow = layered(random);
+    let last = flow.lines[flow.lines.len() - 1].0;
+    let far = |line: &mut u16| {
+        *line = if *line == 10 {
+            0
+        } else if *line == last {
+            65_535
+        } else {
+            *line
+        };
+    };
+    flow.lines.iter_mut().for_each(|(line, _)| far(line));
+    for s in &mut flow.statements {
+        match &mut s.kind {
+            Kind::Gosub { line, .. } => far(line),
+            Kind::OnGosub { lines, .. } => lines.iter_mut().for_each(far),
+            _ => {}
+        }
+    }
+    flow
+}
+
+fn without_arrays(mut flow: Flow) -> Flow {
+    for s in &mut flow.statements {
+        s.references.clear();
+        (s.written, s.read) = (0, 0);
+        if let Kind::Dim(items) = &mut s.kind {
+            items.clear();
+        }
+    }
+    flow
+}
+
+/// As many bytes as a file may have, to the byte.
+fn full(random: &mut Random) -> Flow {
+    let n = 251;
+    let statement = |i: usize, successors: usize, lines: usize, random: &mut Random| Statement {
+        line: line_of(i),
+        kind: Kind::OnGosub {
+            lines: (0..lines).map(|_| line_of(random.below(n))).collect(),
+            continuation: Some(random.below(n) as u16),
+        },
+        successors: (0..successors).map(|_| random.below(n) as u16).collect(),
+        references: Vec::new(),
+        written: 0,
+        read: 0,
+    };
+    let mut statements: Vec<Statement> = (0..n - 1).map(|i| statement(i, 255, 255, random)).collect();
+    statements.push(statement(n - 1, 255, 49, random));
+    let flow = Flow { arrays: 2, names: 0, entry: 0, statements, lines: Vec::new() };
+    debug_assert_eq!(flow.bytes().len(), MAX_FILE);
+    flow
+}
+
+// ----- Damage -------------------------------------------------------------
+
+fn damaged(random: &mut Random) -> Vec<u8> {
+    let flow = match random.below(4) {
+        0 => plain(random),
+        1 => wide(random),
+        _ => layered(random),
+    };
+    let encoded = flow.encode();
+    let mut bytes = encoded.bytes.clone();
+    for _ in 0..random.within(1, 2) {
+        match random.below(10) {
+            0 => bytes.truncate(random.below(bytes.len() + 1)),
+            1 => bytes.extend((0..random.within(1, 3)).map(|_| random.pick(b"FNLE\0"))),
+            2 => {
+                let at = random.below(bytes.len() + 1);
+                bytes.insert(at, random.next() as u8);
+            }
+            3 if !bytes.is_empty() => {
+                bytes.remove(random.below(bytes.len()));
+            }
+            4 if !bytes.is_empty() => {
+                let at = random.below(bytes.len());
+                bytes[at] ^= 1 << random.below(8);
+            }
+            5 => repeat_line(random, &flow, &mut bytes),
+            _ => set_field(random, &flow, &encoded, &mut bytes),
+        }
+    }
+    bytes
+}
+
+/// A field set to a value near one of the limits.
+fn set_field(random: &mut Random, flow: &Flow, encoded: &Encoded, bytes: &mut [u8]) {
+    let field = encoded.fields[random.below(encoded.fields.len())];
+    let Some(place) = bytes.get_mut(field.offset..field.offset + field.width) else { return };
+    let n = flow.statements.len() as u64;
+    let near = [0, 1, n, n.wrapping_sub(1), n + 1, 64, 65, 2048, 2049, 65_534, 65_535];
+    let names = u64::from(flow.names);
+    let value = match field.what {
+        What::Written | What::Read => {
+            1 << random.pick(&[names, names + 1, names.wrapping_sub(1), 63]).min(63)
+        }
+        What::Reference | What::DimArray => random.pick(&[0, 1, flow.arrays.into(), 63, 64, 255]),
+        What::Kind | What::DimFlag | What::ReferenceCount => random.below(9) as u64,
+        What::Mark => {
+            u64::from(u16::from_le_bytes(random.pick(&[*b"FH", *b"FN", *b"FL", *b"FE", *b"FK", *b"fn"])))
+        }
+        _ => random.pick(&near),
+    };
+    place.copy_from_slice(&value.to_le_bytes()[..field.width]);
+}
+
+/// One more `FL` record before the end, its line often not above the one before.
+fn repeat_line(random: &mut Random, flow: &Flow, bytes: &mut Vec<u8>) {
+    let last = flow.lines.last().map_or(0, |&(line, _)| line);
+    let line = random.pick(&[last, last.wrapping_sub(1), last.wrapping_add(1), 0, 65_535]);
+    let first = random.below(flow.statements.len() + 1) as u16;
+    let record = [b"FL".to_vec(), line.to_le_bytes().to_vec(), first.to_le_bytes().to_vec()].concat();
+    let at = bytes.len().saturating_sub(2);
+    bytes.splice(at..at, record);
+}

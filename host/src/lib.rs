@@ -1,0 +1,27 @@
+//! The Rust side of Yarnuskel: the original as judge, a reference answerer, generators, the
+//! stored answers, the door of the proved library and the benchmarks.
+
+pub mod answerer;
+pub mod bench;
+pub mod cases;
+#[cfg(proved_states)]
+pub mod door;
+pub mod flow;
+pub mod generate;
+pub mod judge;
+pub mod listing;
+#[cfg(original)]
+pub mod original;
+#[cfg(proved_reader)]
+pub mod proved_reader;
+pub mod random;
+pub mod reader;
+pub mod sides;
+#[cfg(original)]
+mod stand_ins;
+pub mod store;
+pub mod worst;
+
+// The cut text names these at the root.
+#[cfg(original)]
+use stand_ins::{analysis, ast, cfg, given, ir, visit};

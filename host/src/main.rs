@@ -1,0 +1,195 @@
+//! The commands of the judge.
+
+use std::path::{Path, PathBuf};
+use std::process::ExitCode;
+use std::{env, fs};
+
+use yarnuskel_host::generate::{self, Family};
+use yarnuskel_host::judge::{self, Comparison, Lent};
+use yarnuskel_host::sides::{self, NO_ORIGINAL, NO_READER, NO_STATES};
+use yarnuskel_host::{bench, cases, flow, listing, store, worst};
+
+const USAGE: &str = "commands:
+  answer FILE|DIR              masks and live sets by the original, refusals by the answerer
+  random KIND COUNT SEED DIR   write random files: plain, layered, limits, damaged
+  file SEED INDEX PATH         write one file of a comparison
+  time FILE                    time the original
+  compare COUNT SEED           the original beside the answerer
+  compare-reader COUNT SEED    the proved reader beside the answerer
+  compare-proved COUNT SEED    the proved call beside original and answerer
+  faults COUNT SEED            in how many flows each fault shows
+  store                        write the stored answers and the example flows
+  stored                       list the stored cases
+  list FILE                    what the listing program prints
+  bench-reader                 the proved reader beside a plain one
+  bench                        the proved call beside the original
+  worst ROUNDS SEED            search for the file that takes the proved call longest";
+
+type Outcome = Result<bool, String>;
+
+fn root() -> PathBuf {
+    Path::new(env!("CARGO_MANIFEST_DIR")).parent().unwrap().to_path_buf()
+}
+
+fn number(word: &str) -> Result<u64, String> {
+    word.parse().map_err(|_| format!("`{word}` is not a number"))
+}
+
+fn load(path: &Path) -> Result<Vec<u8>, String> {
+    fs::read(path).map_err(|e| format!("{}: {e}", path.display()))
+}
+
+fn save(path: &Path, bytes: &[u8]) -> Result<(), String> {
+    let folder = path.parent().unwrap();
+    fs::create_dir_all(folder)
+        .and_then(|()| fs::write(path, bytes))
+        .map_err(|e| format!("{}: {e}", path.display()))
+}
+
+/// One file's answer, in the form of the listing without its lines.
+fn answer_file(path: &Path) -> Outcome {
+    let file = load(path)?;
+    println!("{}", path.display());
+    let flow = match flow::read(&file) {
+        Ok(flow) => flow,
+        Err(refusal) => {
+            println!("R {} {}", refusal.number, refusal.place);
+            return Ok(true);
+        }
+    };
+    let Some(answer) = sides::original(&flow) else {
+        println!("{NO_ORIGINAL}");
+        return Ok(true);
+    };
+    let arrays = usize::from(flow.arrays);
+    for i in 0..flow.statements.len() {
+        let masks = &answer.masks[i * arrays..(i + 1) * arrays];
+        let digits: String = masks.iter().map(|m| char::from(b'0' + m)).collect();
+        let digits = if arrays == 0 { "-" } else { &digits };
+        println!("{i} {digits} {:016x} {:016x}", answer.live_in[i], answer.live_out[i]);
+    }
+    Ok(true)
+}
+
+fn answer(path: &Path) -> Outcome {
+    if !path.is_dir() {
+        return answer_file(path);
+    }
+    let entries = fs::read_dir(path).map_err(|e| e.to_string())?;
+    let mut files: Vec<PathBuf> = entries.flatten().map(|entry| entry.path()).collect();
+    files.sort();
+    for file in files.iter().filter(|path| path.is_file()) {
+        answer_file(file)?;
+    }
+    Ok(true)
+}
+
+fn random(kind: &str, count: u64, seed: u64, folder: &Path) -> Outcome {
+    let family = Family::named(kind).ok_or_else(|| format!("`{kind}` is no kind of flow"))?;
+    for index in 0..count {
+        let file = generate::file_of(family, seed, index);
+        save(&folder.join(format!("{kind}-{seed}-{index}.flow")), &file)?;
+    }
+    Ok(true)
+}
+
+fn time(path: &Path) -> Outcome {
+    let flow = flow::read(&load(path)?).map_err(|r| format!("refused {} at {}", r.number, r.place))?;
+    let Some([mut masks, mut live]) = sides::original_runs(&flow) else {
+        println!("{NO_ORIGINAL}");
+        return Ok(true);
+    };
+    let [masks, live] = bench::medians(5, [&mut masks, &mut live]);
+    println!("array_states {masks:.2?}, live solve {live:.2?}, medians of 5 runs");
+    Ok(true)
+}
+
+type Compare = fn(u64, u64) -> Option<Comparison>;
+
+fn compare(count: u64, seed: u64, with: Compare, absent: &str) -> Outcome {
+    if cfg!(not(original)) {
+        println!("{NO_ORIGINAL}");
+    }
+    let Some(comparison) = with(count, seed) else {
+        println!("{absent}");
+        return Ok(true);
+    };
+    comparison.print(count, seed);
+    Ok(comparison.differences.is_empty())
+}
+
+fn faults(count: u64, seed: u64) -> Outcome {
+    println!("seed {seed}");
+    Ok(judge::print_fault_table(&judge::fault_table(count, seed), count))
+}
+
+fn write_store() -> Outcome {
+    if cfg!(not(original)) {
+        println!("{NO_ORIGINAL}");
+        return Ok(false);
+    }
+    let cases = store::cases();
+    let bytes = store::bytes(&cases)?;
+    save(&root().join(store::PLACE), &bytes)?;
+    for worked in cases::worked() {
+        save(&root().join("examples").join(format!("{}.flow", worked.name)), &worked.flow.bytes())?;
+    }
+    println!("{} cases, {} bytes", cases.len(), bytes.len());
+    Ok(true)
+}
+
+fn list_store() -> Outcome {
+    for (number, case) in store::cases().iter().enumerate() {
+        let right = store::answer(case)?;
+        let (answer, Lent { masks, live_in, live_out, work }) = (right.outcome.answer, case.lent);
+        print!("{number}: {} | areas {masks} {live_in} {live_out} {work} | ", case.name);
+        println!("{} {} {}", answer.number, answer.place, answer.visits);
+    }
+    Ok(true)
+}
+
+fn run(words: &[&str]) -> Outcome {
+    match words {
+        ["answer", path] => answer(Path::new(path)),
+        ["random", kind, count, seed, folder] => {
+            random(kind, number(count)?, number(seed)?, Path::new(folder))
+        }
+        ["file", seed, index, path] => {
+            save(Path::new(path), &generate::file(number(seed)?, number(index)?)).map(|()| true)
+        }
+        ["time", path] => time(Path::new(path)),
+        ["compare", count, seed] => {
+            compare(number(count)?, number(seed)?, |c, s| Some(judge::compare(c, s)), "")
+        }
+        ["compare-reader", count, seed] => {
+            compare(number(count)?, number(seed)?, judge::compare_reader, NO_READER)
+        }
+        ["compare-proved", count, seed] => {
+            compare(number(count)?, number(seed)?, judge::compare_proved, NO_STATES)
+        }
+        ["faults", count, seed] => faults(number(count)?, number(seed)?),
+        ["store"] => write_store(),
+        ["stored"] => list_store(),
+        ["list", path] => {
+            print!("{}", listing::listing(&load(Path::new(path))?));
+            Ok(true)
+        }
+        ["bench-reader"] => Ok(bench::readers()),
+        ["bench"] => Ok(bench::whole_call()),
+        ["worst", rounds, seed] => Ok(worst::search(number(rounds)?, number(seed)?)),
+        _ => Err(USAGE.into()),
+    }
+}
+
+fn main() -> ExitCode {
+    let words: Vec<String> = env::args().skip(1).collect();
+    let words: Vec<&str> = words.iter().map(String::as_str).collect();
+    match run(&words) {
+        Ok(true) => ExitCode::SUCCESS,
+        Ok(false) => ExitCode::FAILURE,
+        Err(message) => {
+            eprintln!("{message}");
+            ExitCode::FAILURE
+        }
+    }
+}

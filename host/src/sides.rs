@@ -1,0 +1,71 @@
+//! The sides of a comparison that may be absent: the original Rust, the proved reader and the
+//! proved call. Each answers `None` where it was not there at build time.
+
+use crate::answerer::{Answer, Areas};
+use crate::flow::{Flow, Refusal};
+
+pub const NO_ORIGINAL: &str = "the original Rust is not here: what needs it is skipped";
+pub const NO_READER: &str = "target/staticlib/libflow.a is not built: what needs it is skipped";
+pub const NO_STATES: &str = "target/staticlib/libdataflow.a is not built: what needs it is skipped";
+
+/// What the original says of an accepted flow.
+#[derive(Clone, Debug, PartialEq, Eq)]
+pub struct Original {
+    pub masks: Vec<u8>,
+    pub live_in: Vec<u64>,
+    pub live_out: Vec<u64>,
+}
+
+#[cfg(original)]
+pub fn original(flow: &Flow) -> Option<Original> {
+    let original = crate::original::Original::new(flow);
+    let masks = original.array_states().concat();
+    let (live_in, live_out) = original.live_words();
+    Some(Original { masks, live_in, live_out })
+}
+
+#[cfg(not(original))]
+pub fn original(_: &Flow) -> Option<Original> {
+    None
+}
+
+/// Something to time.
+pub type Run<'a> = Box<dyn FnMut() + 'a>;
+
+/// The original's `array_states`, and its live solve.
+#[cfg(original)]
+pub fn original_runs(flow: &Flow) -> Option<[Run<'static>; 2]> {
+    use std::hint::black_box;
+    use std::rc::Rc;
+    let masks = Rc::new(crate::original::Original::new(flow));
+    let live = masks.clone();
+    Some([
+        Box::new(move || drop(black_box(masks.array_states()))),
+        Box::new(move || drop(black_box(live.live_sets()))),
+    ])
+}
+
+#[cfg(not(original))]
+pub fn original_runs(_: &Flow) -> Option<[Run<'static>; 2]> {
+    None
+}
+
+#[cfg(proved_reader)]
+pub fn proved_check(file: &[u8]) -> Option<Result<(), Refusal>> {
+    Some(crate::proved_reader::check(file))
+}
+
+#[cfg(not(proved_reader))]
+pub fn proved_check(_: &[u8]) -> Option<Result<(), Refusal>> {
+    None
+}
+
+#[cfg(proved_states)]
+pub fn proved_states(file: &[u8], areas: &mut Areas) -> Option<Answer> {
+    Some(crate::door::states_in(file, areas))
+}
+
+#[cfg(not(proved_states))]
+pub fn proved_states(_: &[u8], _: &mut Areas) -> Option<Answer> {
+    None
+}

@@ -1,0 +1,178 @@
+//! The stored answers: a fixed list of files with their right answers, in one file that a program
+//! replays without Rust.
+
+use crate::answerer::{Answer, Fault, States};
+use crate::cases::{self, Case};
+use crate::flow;
+use crate::generate::{self, Family};
+use crate::judge::{self, Lent, Outcome, Right};
+
+/// Where the stored answers stand, from the root of the repository.
+pub const PLACE: &str = "crates/replay/stdin";
+
+const SEED: u64 = 20_260_411;
+/// Random flows stored, and the most bytes that one of them has.
+const FLOWS: usize = 300;
+const LONGEST: usize = 700;
+/// How many flows show a fault before no more are taken for its sake.
+const ENOUGH: usize = 8;
+
+/// Whether a fault shows against the original; visits are the answerer's alone.
+fn shows(fault: Fault, file: &[u8], lent: Lent, right: &Right) -> bool {
+    let (at_all, against_original) = judge::shows(fault, file, lent, right);
+    if fault == Fault::VisitsFitTheBound { at_all } else { against_original }
+}
+
+/// Random flows: those that show a fault not yet shown often, and half of the others.
+fn random_cases() -> Vec<Case> {
+    let mut shown = Fault::ALL.map(|_| 0);
+    let mut cases = Vec::new();
+    for index in 0.. {
+        let wanting = shown.iter().any(|&times| times < ENOUGH);
+        if cases.len() >= FLOWS && !wanting {
+            return cases;
+        }
+        let family = Family::ALL[(index % 4) as usize];
+        let file = generate::file_of(family, SEED, index);
+        if file.len() > LONGEST {
+            continue;
+        }
+        let lent = Lent::for_file(&file, (index % 3) as usize);
+        let right = judge::right(&file, lent);
+        let shows = Fault::ALL.map(|fault| shows(fault, &file, lent, &right));
+        let adds = shown.iter().zip(shows).any(|(&times, shows)| shows && times < ENOUGH);
+        if adds || cases.len() < FLOWS && index % 2 == 0 {
+            for (times, shows) in shown.iter_mut().zip(shows) {
+                *times += usize::from(shows);
+            }
+            let mut case = Case::new(format!("{} {index}", family.name()), file, 0);
+            case.lent = lent;
+            cases.push(case);
+        }
+    }
+    unreachable!()
+}
+
+/// All cases, in the order in which they are stored.
+pub fn cases() -> Vec<Case> {
+    let worked = cases::steps().into_iter().chain(cases::worked());
+    let worked: Vec<Case> = worked.map(|w| Case::new(w.name, w.flow.bytes(), 1)).collect();
+    [worked, cases::refusals(), random_cases()].concat()
+}
+
+/// The right answer to a case; an error where original and answerer part.
+pub fn answer(case: &Case) -> Result<Right, String> {
+    let right = judge::right(&case.file(), case.lent);
+    match &right.original {
+        Some(original) if !right.outcome.agrees(original) => {
+            Err(format!("{}: the original and the answerer part", case.name))
+        }
+        _ => Ok(right),
+    }
+}
+
+fn put_u32(out: &mut Vec<u8>, value: usize) {
+    out.extend_from_slice(&u32::try_from(value).unwrap().to_le_bytes());
+}
+
+fn put_case(out: &mut Vec<u8>, case: &Case, right: &Right) {
+    out.push(1);
+    for (times, block) in &case.blocks {
+        out.extend_from_slice(&times.to_le_bytes());
+        out.extend_from_slice(&u16::try_from(block.len()).unwrap().to_le_bytes());
+        out.extend_from_slice(block);
+    }
+    out.extend_from_slice(&[0, 0]);
+    let Lent { masks, live_in, live_out, work } = case.lent;
+    for length in [masks, live_in, live_out, work] {
+        put_u32(out, length);
+    }
+    let (answer, areas) = (right.outcome.answer, &right.outcome.areas);
+    out.push(answer.number as u8);
+    put_u32(out, answer.place as usize);
+    if answer.number == 0 {
+        let flow = flow::read(&case.file()).unwrap();
+        let n = flow.statements.len();
+        put_u32(out, answer.visits as usize);
+        out.extend_from_slice(&areas.masks[..n * usize::from(flow.arrays)]);
+        for word in areas.live_in[..n].iter().chain(&areas.live_out[..n]) {
+            out.extend_from_slice(&word.to_le_bytes());
+        }
+    }
+}
+
+/// The stored answers, as bytes.
+pub fn bytes(cases: &[Case]) -> Result<Vec<u8>, String> {
+    let mut out = Vec::new();
+    for case in cases {
+        put_case(&mut out, case, &answer(case)?);
+    }
+    out.push(0);
+    Ok(out)
+}
+
+// ----- Reading them back --------------------------------------------------
+
+/// A stored file with the areas lent and what comes of it.
+pub struct Stored {
+    pub file: Vec<u8>,
+    pub lent: Lent,
+    pub outcome: Outcome,
+}
+
+struct Bytes<'a>(&'a [u8]);
+
+impl Bytes<'_> {
+    fn take(&mut self, count: usize) -> Vec<u8> {
+        let (taken, rest) = self.0.split_at(count);
+        self.0 = rest;
+        taken.to_vec()
+    }
+
+    fn number(&mut self, width: usize) -> usize {
+        self.take(width).iter().rev().fold(0, |value, &b| value << 8 | usize::from(b))
+    }
+
+    fn words(&mut self, count: usize) -> Vec<u64> {
+        (0..count).map(|_| self.number(8) as u64).collect()
+    }
+
+    fn file(&mut self) -> Vec<u8> {
+        let mut file = Vec::new();
+        loop {
+            let times = self.number(2);
+            if times == 0 {
+                return file;
+            }
+            let length = self.number(2);
+            file.extend(self.take(length).repeat(times));
+        }
+    }
+
+    fn stored(&mut self) -> Stored {
+        let file = self.file();
+        let [masks, live_in, live_out, work] = [0; 4].map(|_| self.number(4));
+        let lent = Lent { masks, live_in, live_out, work };
+        let (number, place) = (self.number(1) as u64, self.number(4) as u64);
+        let mut answer = Answer { number, place, visits: 0 };
+        let mut areas = lent.areas();
+        if number == 0 {
+            answer.visits = self.number(4) as u64;
+            let (n, arrays) = (usize::from(u16::from_le_bytes([file[2], file[3]])), usize::from(file[4]));
+            let masks = self.take(n * arrays);
+            let (live_in, live_out) = (self.words(n), self.words(n));
+            areas.write(&States { masks, live_in, live_out, visits: answer.visits });
+        }
+        Stored { file, lent, outcome: Outcome { answer, areas } }
+    }
+}
+
+/// The cases that `bytes` wrote.
+pub fn read(bytes: &[u8]) -> Vec<Stored> {
+    let mut bytes = Bytes(bytes);
+    let mut all = Vec::new();
+    while bytes.number(1) == 1 {
+        all.push(bytes.stored());
+    }
+    all
+}

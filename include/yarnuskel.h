@@ -1,0 +1,38 @@
+/* The door of the Yarnuskel library, in target/staticlib/libdataflow.a. */
+#ifndef YARNUSKEL_H
+#define YARNUSKEL_H
+
+#include <stddef.h>
+#include <stdint.h>
+
+#ifdef __cplusplus
+extern "C" {
+#endif
+
+/* The least areas of a flow with n statements: n * arrays mask bytes, n words of live-in and of
+   live-out, and YARNUSKEL_WORK_WORDS * n words of work. */
+#define YARNUSKEL_WORK_WORDS 64
+#define YARNUSKEL_MAX_STATEMENTS 2048
+#define YARNUSKEL_MAX_ARRAYS 64
+
+#define YARNUSKEL_NONE 1
+#define YARNUSKEL_AUTO 2
+#define YARNUSKEL_DIMMED 4
+
+/* Answers a flow file. Returns 0 where it is accepted: the mask of an array at a statement is then
+   masks[statement * arrays + array], bit i of live_in[statement] says that name i is live when the
+   statement starts, the work area is zero, *place is 0 and *visits the count of visits.
+   Else returns the refusal's number, with its place in *place, and leaves every area as it was.
+   Lengths count elements. No pointer may be null, even with length 0, and no two areas overlap. */
+uint64_t yarnuskel_states(const uint8_t *file, size_t file_length,
+                          uint8_t *masks, size_t masks_length,
+                          uint64_t *live_in, size_t live_in_length,
+                          uint64_t *live_out, size_t live_out_length,
+                          uint64_t *work, size_t work_length,
+                          uint64_t *place, uint64_t *visits);
+
+#ifdef __cplusplus
+}
+#endif
+
+#endif
