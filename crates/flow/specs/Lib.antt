@@ -1,0 +1,4 @@
+pub mod Limits
+pub mod Flow
+pub mod Refusals
+pub mod Format
