@@ -333,20 +333,22 @@ kindOf s p =
 
 unfoldable pub statementAt : List ℕ → ℕ → Statement
 statementAt s p = record {
-    line = lineAt s p;
-    kind = kindOf s p;
-    successors = tabulate (successorCount s p) (successorAt s p);
-    references = tabulate (referenceCount s p) (referenceAt s p);
-    written = writtenAt s p;
-    read = readAt s p }
+  line = lineAt s p;
+  kind = kindOf s p;
+  successors = tabulate (successorCount s p) (successorAt s p);
+  references = tabulate (referenceCount s p) (referenceAt s p);
+  written = writtenAt s p;
+  read = readAt s p;
+}
 
 unfoldable pub flowOf : List ℕ → Flow
 flowOf s = record {
-    arrays = arraysOf s;
-    names = namesOf s;
-    entry = entryOf s;
-    statements = tabulate (statementsOf s) (λ i. statementAt s (recordPlace s i));
-    lines = tabulate (lineCount s) (λ k. record { number = lineNumber s k; first = lineFirst s k }) }
+  arrays = arraysOf s;
+  names = namesOf s;
+  entry = entryOf s;
+  statements = tabulate (statementsOf s) (λ i. statementAt s (recordPlace s i));
+  lines = tabulate (lineCount s) (λ k. record { number = lineNumber s k; first = lineFirst s k });
+}
 
 pub data Reading : Type 0 where
   accepted : Flow → Reading
