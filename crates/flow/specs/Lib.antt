@@ -2,3 +2,4 @@ pub mod Limits
 pub mod Flow
 pub mod Refusals
 pub mod Format
+pub mod Answers

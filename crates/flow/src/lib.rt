@@ -42,4 +42,16 @@ pub struct Header {
     pub lines: usize,
 }
 
+// How a part of a file was passed: the place after it, or why the file is refused.
+pub enum Passed {
+    To(usize),
+    Unfit(Refusal),
+}
+
+// What the reader finds of a file.
+pub enum Checked {
+    Fit(Header),
+    Unfit(Refusal),
+}
+
 mod bytes;
