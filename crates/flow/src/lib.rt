@@ -54,4 +54,32 @@ pub enum Checked {
     Unfit(Refusal),
 }
 
+// An item of a DIM: its array, and its flag, 1 with dimensions, 0 without.
+pub struct Item {
+    pub array: usize,
+    pub flag: usize,
+}
+
+// Where a call goes on after its RETURN, if anywhere.
+pub enum Continuation {
+    To(StmtId),
+    None,
+}
+
+// The statement that a line enters, if there is one.
+pub enum Entered {
+    At(StmtId),
+    Nothing,
+}
+
+// Whether what was judged is fit.
+pub enum Verdict {
+    Fit,
+    Unfit(Refusal),
+}
+
+mod areas;
 mod bytes;
+mod fields;
+mod lines;
+mod offsets;
