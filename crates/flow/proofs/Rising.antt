@@ -17,7 +17,7 @@ risesAt f k = eqb k 0 || ltb (f (k - 1)) (f k)
 abbrev pub Rising : (ℕ → ℕ) → ℕ → Type 0
 Rising f n = (j k : ℕ) → j < k → k < n → f j < f k
 
-or-true : (a b : Bool) → a ≡ false → (a || b) ≡ true → b ≡ true
+pub or-true : (a b : Bool) → a ≡ false → (a || b) ≡ true → b ≡ true
 or-true true b e h = let z : _≡_ {A = ℕ} 0 1 = cc in absurd (omega arith)
 or-true false b e h = h
 
