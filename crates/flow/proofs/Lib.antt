@@ -3,5 +3,7 @@ pub mod Numbers
 pub mod Rising
 pub mod Records
 pub mod Files
+pub mod Tabulated
+pub mod Statements
 pub mod Noting
 pub mod LineSearch

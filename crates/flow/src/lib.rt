@@ -78,8 +78,8 @@ pub enum Verdict {
     Unfit(Refusal),
 }
 
-mod areas;
+pub mod areas;
 mod bytes;
-mod fields;
-mod lines;
-mod offsets;
+pub mod fields;
+pub mod lines;
+pub mod offsets;
