@@ -1,3 +1,5 @@
 pub mod Cases
 pub mod Members
 pub mod Edges
+pub mod Acts
+pub mod Runs

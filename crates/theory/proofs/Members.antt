@@ -1,11 +1,12 @@
 -- Membership in the lists that edges are made of: `select`, `upTo`, `concatMap`, `optionList`, and the tests `any` and `has`.
 -- By induction on the list or on the membership. Assumes nothing.
 use Prim.Native.Nat.{ℕ, zero, suc, _<_}
-use mathlib.Core.Bool.{Bool, true, false, cond, or-true, true-or, true≢false}
+use mathlib.Core.Bool.{Bool, true, false, cond, _||_, or-true, true≢false}
 use mathlib.Core.List.{List, [], _∷_, _++_, List·Memᴰ·head, List·Memᴰ·tail, List·Memᴰ·not-nil, List·Memᴰ·cases-cons, List·Memᴰ·append-cases, List·Memᴰ·eq-of-singleton, Memᴰ·append-left, Memᴰ·append-right}
 use mathlib.Core.Logic.{_⊎_, inl, inr, ⊎-elim}
 use mathlib.Core.Option.{Option, none, some}
 use mathlib.Core.Path.{_≡_, refl, sym, ap, subst, _∙_}
+use lib.Dec.{eqb}
 use native.Mathlib.Decide.{ℕ-discrete}
 use native.Mathlib.Nat.{not-suc-le-zero}
 use native.Mathlib.Omega.{arith}
@@ -21,6 +22,15 @@ pub has-in : {x : ℕ} {l : List ℕ} → In x l → has x l ≡ true
 unfolding has
 has-in {x} (List·Memᴰ·head {x = y} e) = rw (eq-eqb x y e)
 has-in {x} (List·Memᴰ·tail {x = y} m) = rw (has-in m, or-true)
+
+pub in-has : (x : ℕ) (l : List ℕ) → has x l ≡ true → In x l
+unfolding has
+in-has x [] h = absurd (true≢false (sym h))
+in-has x (y ∷ ys) h = go (eqb x y) refl (in-has x ys) h
+  where
+    go : (t : Bool) → eqb x y ≡ t → (has x ys ≡ true → In x ys) → (t || has x ys) ≡ true → In x (y ∷ ys)
+    go true e rest h = List·Memᴰ·head (eqb-true x y e)
+    go false e rest h = List·Memᴰ·tail (rest h)
 
 pub select-in : {A : Type 0} (p : A → Bool) {x : A} {l : List A} → In x l → p x ≡ true → In x (select p l)
 unfolding select
