@@ -3,3 +3,4 @@ pub mod Members
 pub mod Edges
 pub mod Acts
 pub mod Runs
+pub mod Term3

@@ -51,11 +51,10 @@ pub data Invariant (f : Flow) (T : Table) : ℕ → (ℕ → State) → List Fra
       → ((a : ℕ) → Kept f e a (act f c t a) (s a)) → Invariant f T i s (back j ∷ k)
 
 -- all arrays' states stand in the table at one copy
-pub Found : Table → ℕ → (ℕ → State) → Type 0
+abbrev pub Found : Table → ℕ → (ℕ → State) → Type 0
 Found T i s = (b : Base) × ((a : ℕ) → T (at b i) a (s a))
 
 pub found : {f : Flow} {T : Table} {i : ℕ} {s : ℕ → State} {k : List Frame} → Invariant f T i s k → Found T i s
-unfolding Found
 found (Invariant.outer t l) = (Base.zero, t)
 found (Invariant.last t w o) = (Base.n, t)
 found (Invariant.inner t w o c q m v r) = (Base.n, t)
@@ -175,7 +174,6 @@ module _ (f : Flow) (T : Table) (wf : WellFormed f) (listed : Listed f) (decider
   -- a call that is not opaque goes to base n
   enter-copy : {i e j : ℕ} {s : ℕ → State} {k : List Frame} → continuationOf (kind f i) ≡ some j → opaqueCall f i ≡ false → In e (entered f i)
       → Found T i s → Invariant f T i s k → Invariant f T e (act f i s) (back j ∷ k)
-  unfolding Found
   enter-copy {i} {e} {j} c q m (b, t) inv =
       Invariant.inner (along b i _ t (entered-edge f b i c q m)) Reach.here not-opaque c q (entered-callee f i c m) inv (λ a. Kept.kept)
     where
