@@ -1,3 +1,5 @@
 pub mod Lists
 pub mod Reach
+pub mod Body
+pub mod Clear
 pub mod Cases
