@@ -2,4 +2,5 @@ pub mod Lists
 pub mod Reach
 pub mod Body
 pub mod Clear
+pub mod Live
 pub mod Cases
