@@ -3,17 +3,17 @@
 use Prim.Native.Nat.{ℕ}
 use mathlib.Core.Bool.{Bool, true, false, cond, _&&_}
 use mathlib.Core.List.{List, [], _∷_, _++_}
-use mathlib.Core.Path.{_≡_, refl, sym, ap, subst, _∙_}
+use mathlib.Core.Path.{_≡_, refl, sym, subst}
 use Rattle.masks.specs.declared.Effect.{Effect}
 use Rattle.masks.specs.declared.Effect.the-variants.{None, Reference, Dim, Clear, Touched}
 use Rattle.masks.specs.State.{State, referenced, turns}
 use Rattle.flow.specs.Flow.{Flow, Kind}
 use Rattle.theory.specs.Lists.{In, any, has}
 use Rattle.theory.specs.Body.{kind, references, wipes, Walks, Calls, Touches, callTouches}
-use Rattle.theory.specs.Doubled.{Edge, dims, kindEffects, statementEffects, edgeEffects}
+use Rattle.theory.specs.Doubled.{Edge, kindEffects, statementEffects, edgeEffects}
 use Rattle.theory.specs.Walks.{Turns}
 use Rattle.theory.specs.Runs.{become, becomeAll, act}
-use Rattle.theory.proofs.Members.{in-has}
+use Rattle.theory.proofs.Lists.{has-In}
 
 -- what an effect makes of a state is one of its turns
 turns-become : (e : Effect) (s : State) → turns e s (become e s) ≡ true
@@ -102,5 +102,5 @@ act-kept f i a {e} s w h = rw (no-effects (kind f i) a h) (go (has a (references
     referencing State.dimmed m = Kept.kept
 
     go : (t : Bool) → has a (references f i) ≡ t → (u : State) → Kept f e a u (becomeAll (cond t (Reference ∷ []) [] ++ []) u)
-    go true q u = referencing u (in-has a (references f i) q)
+    go true q u = referencing u (has-In a (references f i) q)
     go false q u = Kept.kept

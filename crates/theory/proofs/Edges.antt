@@ -2,21 +2,22 @@
 -- that a RETURN goes to. A call's edge to a target is the first of those with that target, and all of these say the same of it. Every edge stays within the statements.
 use Prim.Native.Nat.{ℕ, _<_, _≤_}
 use mathlib.Core.Bool.{Bool, true, false, cond, not, _&&_, _||_}
-use mathlib.Core.List.{List, [], _∷_, _++_, map, List·Memᴰ·head, List·Memᴰ·tail, List·Memᴰ·not-nil, List·Memᴰ·cases-cons, List·Memᴰ·append-cases, List·Memᴰ·eq-of-singleton, Memᴰ·append-left, Memᴰ·append-right, Memᴰ·map, Memᴰ·of-map, Memᴰ·cast}
-use mathlib.Core.Logic.{_⊎_, inl, inr, ⊎-elim}
+use mathlib.Core.List.{List, [], _∷_, _++_, map, List·Memᴰ·head, List·Memᴰ·tail, List·Memᴰ·not-nil, List·Memᴰ·cases-cons, List·Memᴰ·append-cases, Memᴰ·append-left, Memᴰ·append-right, Memᴰ·map, Memᴰ·of-map}
+use mathlib.Core.Logic.{_⊎_, inl, inr}
 use mathlib.Core.Option.{Option, none, some}
-use mathlib.Core.Path.{_≡_, refl, sym, ap, ap₂, subst, _∙_}
+use mathlib.Core.Path.{_≡_, refl, sym, ap, ap₂, subst}
 use lib.Dec.{eqb}
 use lib.ListN.{List·getD-eq-default}
 use native.Mathlib.Decide.{decLt}
 use native.Mathlib.Omega.{arith}
-use borrow.Author.Tests.{eq-eqb, eqb-true, ltb-true, ltb-false}
-use Rattle.flow.specs.Flow.{Flow, Kind, Statement, size, statement, enters, noStatement}
-use Rattle.theory.specs.Lists.{In, any, has, select, optionList, upTo}
-use Rattle.theory.specs.Body.{kind, successors, continuationOf, callLines, entered, callees, isReturn, walked, opaqueCall}
+use borrow.Author.Tests.{eq-eqb, eqb-true}
+use Rattle.flow.specs.Flow.{Flow, size, statement, noStatement}
+use Rattle.theory.specs.Lists.{In, any, has, select, upTo}
+use Rattle.theory.specs.Body.{kind, successors, continuationOf, entered, callees, isReturn, walked, opaqueCall}
 use Rattle.theory.specs.WellFormed.{WellFormed}
-use Rattle.theory.specs.Doubled.{Base, Node, Edge, at, plain, sameBase, sameNode, isSome, returnsTo, returnEdges, once, callEdges, listedEdges, edgesOf, edges}
-use Rattle.theory.proofs.Members.{any-in, has-in, select-in, in-select, upTo-in, in-upTo, in-concatMap, in-optionList}
+use Rattle.theory.specs.Doubled.{Base, Node, Edge, at, plain, sameBase, sameNode, returnsTo, returnEdges, once, callEdges, listedEdges, edgesOf, edges}
+use Rattle.theory.proofs.Lists.{any-In, In-has, select-In, In-select, upTo-In, In-upTo}
+use Rattle.theory.proofs.Body.{entered-below}
 
 -- a test of two nodes is true of equal ones and of no others
 
@@ -55,7 +56,7 @@ once-in w {v} (List·Memᴰ·tail {x = u} {xs = us} m) = go (sameNode v u) refl 
     go : (t : Bool) → sameNode v u ≡ t → In (callEdge w v) (once (map (callEdge w) us))
         → In (callEdge w v) (callEdge w u ∷ select apart (once (map (callEdge w) us)))
     go true e r = List·Memᴰ·head (ap (callEdge w) (same-node v u e))
-    go false e r = List·Memᴰ·tail (select-in apart r (ap not e))
+    go false e r = List·Memᴰ·tail (select-In apart r (ap not e))
 
 pub in-once : {x : Edge} (l : List Edge) → In x (once l) → In x l
 unfolding once
@@ -67,7 +68,7 @@ in-once {x} (e ∷ es) m = go (in-once es) (List·Memᴰ·cases-cons m)
 
     go : (In x (once es) → In x es) → (x ≡ e) ⊎ In x (select apart (once es)) → In x (e ∷ es)
     go rest (inl h) = List·Memᴰ·head h
-    go rest (inr h) = List·Memᴰ·tail (rest (in-select apart (once es) h))
+    go rest (inr h) = List·Memᴰ·tail (rest (In-select apart (once es) h .0))
 
 -- the edges of a node, by what its statement is
 
@@ -105,11 +106,11 @@ unfolding edges edgesOf returnEdges returnsTo
 return-edge f r {c} {k} {e} cr rr cn kn ck o m w =
     subst (λ (o : Option ℕ). In (plain (at Base.zero k)) (edgesOf f Base.zero r o)) (sym cr)
     (rw rr (Memᴰ·map (λ k. plain (at Base.zero k))
-    (select-in (λ k. any (returnsTo f r k) (upTo (size f))) (upTo-in (size f) kn)
-    (any-in (returnsTo f r k) (upTo-in (size f) cn) passes))))
+    (select-In (λ k. any (returnsTo f r k) (upTo (size f))) (upTo-In (size f) k kn)
+    (any-In (returnsTo f r k) (upTo-In (size f) c cn) passes))))
   where
     passes : returnsTo f r k c ≡ true
-    passes = rw (ck, eq-eqb k k refl, o) (any-in (λ b. has r (walked f b)) m (has-in w))
+    passes = rw (ck, eq-eqb k k refl, o) (any-In (λ b. has r (walked f b)) m (In-has w))
 
 -- only a statement has a continuation
 pub statement-of : (f : Flow) (c : ℕ) {k : ℕ} → continuationOf (kind f c) ≡ some k → c < size f
@@ -126,12 +127,6 @@ statement-of f c {k} e = go (decLt c (size f))
 
 -- within the statements
 module _ (f : Flow) (wf : WellFormed f) where
-  pub entered-below : (i : ℕ) {e : ℕ} → In e (entered f i) → e < size f
-  unfolding entered
-  entered-below i {e} m =
-      let r = in-concatMap (λ l. optionList (enters f l)) (callLines (kind f i)) m in
-      wf .first (r .0) e (in-optionList (enters f (r .0)) (r .2))
-
   stays : Edge → Type 0
   stays x = x .to .stmt < size f
 
@@ -146,7 +141,7 @@ module _ (f : Flow) (wf : WellFormed f) where
   return-stays Base.zero i m =
       let meets : ℕ → Bool = λ k. any (returnsTo f i k) (upTo (size f)) in
       let r = Memᴰ·of-map (λ k. plain (at Base.zero k)) (select meets (upTo (size f))) m in
-      subst (λ x. x .to .stmt < size f) (r .2) (in-upTo (size f) (in-select meets (upTo (size f)) (r .1)))
+      subst (λ x. x .to .stmt < size f) (r .2) (In-upTo (size f) (In-select meets (upTo (size f)) (r .1) .0))
   return-stays Base.n i m = absurd (List·Memᴰ·not-nil m)
 
   call-stays : (b : Base) (i k : ℕ) → k < size f → {x : Edge} → In x (callEdges f b i k) → stays x
@@ -164,10 +159,10 @@ module _ (f : Flow) (wf : WellFormed f) where
 
       rest : {v : Node} → (v ≡ at b k) ⊎ In v (map (at b) (select others (successors f i))) → v .stmt < size f
       rest (inl e) = subst (λ v. v .stmt < size f) (sym e) h
-      rest (inr m) = below b (select others (successors f i)) (λ j m. wf .successor i j (in-select others (successors f i) m)) m
+      rest (inr m) = below b (select others (successors f i)) (λ j m. wf .successor i j (In-select others (successors f i) m .0)) m
 
       target : (v : Node) → In v (map (at Base.n) (entered f i)) ⊎ In v (at b k ∷ map (at b) (select others (successors f i))) → v .stmt < size f
-      target v (inl m) = below Base.n (entered f i) (λ j m. entered-below i m) m
+      target v (inl m) = below Base.n (entered f i) (entered-below wf i) m
       target v (inr m) = rest (List·Memᴰ·cases-cons m)
 
   pub edge-below : (v : Node) {x : Edge} → In x (edges f v) → x .to .stmt < size f

@@ -4,7 +4,6 @@ pub mod Body
 pub mod Clear
 pub mod Live
 pub mod Cases
-pub mod Members
 pub mod Edges
 pub mod Acts
 pub mod Runs

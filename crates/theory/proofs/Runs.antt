@@ -4,25 +4,19 @@ use Prim.Native.Nat.{ℕ, _<_}
 use mathlib.Core.Bool.{Bool, true, false, _||_, or-true, true≢false}
 use mathlib.Core.List.{List, [], _∷_, List·Memᴰ·head}
 use mathlib.Core.Option.{Option, none, some}
-use mathlib.Core.Path.{_≡_, refl, sym, ap, subst, _∙_}
+use mathlib.Core.Path.{_≡_, refl, sym, ap, _∙_}
 use Rattle.masks.specs.State.{State}
 use Rattle.flow.specs.Flow.{Flow, Kind, size}
 use Rattle.theory.specs.Lists.{In}
 use Rattle.theory.specs.Reach.{Reach}
-use Rattle.theory.specs.Body.{kind, successors, continuationOf, entered, callees, isReturn, wipes, walkNext, Walks, walked, Calls, Touches, Opaque, OpaqueCall, CallTouches, opaqueCall, callTouches}
+use Rattle.theory.specs.Body.{kind, successors, continuationOf, entered, callees, isReturn, wipes, walkNext, Walks, Calls, Opaque, OpaqueCall, CallTouches, opaqueCall}
 use Rattle.theory.specs.WellFormed.{WellFormed}
-use Rattle.theory.specs.Doubled.{Base, Node, Edge, at, plain, sameNode, edges, statementEffects, edgeEffects}
+use Rattle.theory.specs.Doubled.{Base, Node, Edge, at, sameNode, edges, statementEffects, edgeEffects}
 use Rattle.theory.specs.Walks.{Turns}
-use Rattle.theory.specs.Runs.{Frame, back, end, frameOf, Config, config, act, goesOn, empties, Move, begin, Run, Listed}
-use Rattle.theory.proofs.Edges.{callEdge, node-same, listed-edge, opaque-edge, entered-edge, continuation-edge, return-edge, statement-of, entered-below}
+use Rattle.theory.specs.Runs.{Frame, back, end, frameOf, Config, act, goesOn, empties, Move, Run, Listed}
+use Rattle.theory.proofs.Edges.{callEdge, node-same, listed-edge, opaque-edge, entered-edge, continuation-edge, return-edge, statement-of}
+use Rattle.theory.proofs.Body.{callees-below, walked-complete, opaqueCall-sound, opaqueCall-complete, callTouches-complete}
 use Rattle.theory.proofs.Acts.{turns-becomeAll, edge-act, edge-kept, Kept, kept-then, kept-nested, act-kept}
-
--- what this proof asks of the deciders
-pub record Deciders (f : Flow) : Type 0 where
-  pub walks : (e i : ℕ) → e < size f → Walks f e i → In i (walked f e)
-  pub opaque-call : (c : ℕ) → opaqueCall f c ≡ true → OpaqueCall f c
-  pub call-opaque : (c : ℕ) → OpaqueCall f c → opaqueCall f c ≡ true
-  pub call-touches : (c a : ℕ) → CallTouches f c a → callTouches f c a ≡ true
 
 -- states of arrays at doubled numbers
 abbrev pub Table : Type 1
@@ -107,15 +101,11 @@ walk-continuation : (f : Flow) (i : ℕ) {j : ℕ} → continuationOf (kind f i)
 unfolding walkNext
 walk-continuation f i c = rw (calls-on (kind f i) c, c) (List·Memᴰ·head refl)
 
-callee-entered : (f : Flow) (c : ℕ) {e j : ℕ} → continuationOf (kind f c) ≡ some j → In e (callees f c) → In e (entered f c)
-unfolding callees
-callee-entered f c h m = rw h at m
-
 entered-callee : (f : Flow) (c : ℕ) {e j : ℕ} → continuationOf (kind f c) ≡ some j → In e (entered f c) → In e (callees f c)
 unfolding callees
 entered-callee f c h m = rw h m
 
-module _ (f : Flow) (T : Table) (wf : WellFormed f) (listed : Listed f) (deciders : Deciders f) (closed : Closed f T) where
+module _ (f : Flow) (T : Table) (wf : WellFormed f) (listed : Listed f) (closed : Closed f T) where
   -- the statement's act is brought along any edge
   along : (b : Base) (i : ℕ) {s : ℕ → State} (x : Edge) → ((a : ℕ) → T (at b i) a (s a)) → In x (edges f (at b i)) → (a : ℕ) → T (x .to) a (act f i s a)
   along b i {s} x t m a = closed .edge (at b i) x a (s a) (act f i s a) (t a) m (edge-act f i x a s)
@@ -168,8 +158,8 @@ module _ (f : Flow) (T : Table) (wf : WellFormed f) (listed : Listed f) (decider
   enter-opaque {i} {e} c q m (Invariant.outer t l) =
       Invariant.outer (along Base.zero i _ t (opaque-edge f Base.zero i c q (listed .enters i e m)))
       (Level.called c q (entered-callee f i c m) Reach.here l)
-  enter-opaque {i} c q m (Invariant.last t w o) = absurd (no-opaque-call w o (deciders .opaque-call i q))
-  enter-opaque {i} c q m (Invariant.inner t w o d p b call r) = absurd (no-opaque-call w o (deciders .opaque-call i q))
+  enter-opaque {i} c q m (Invariant.last t w o) = absurd (no-opaque-call w o (opaqueCall-sound f i q))
+  enter-opaque {i} c q m (Invariant.inner t w o d p b call r) = absurd (no-opaque-call w o (opaqueCall-sound f i q))
 
   -- a call that is not opaque goes to base n
   enter-copy : {i e j : ℕ} {s : ℕ → State} {k : List Frame} → continuationOf (kind f i) ≡ some j → opaqueCall f i ≡ false → In e (entered f i)
@@ -178,7 +168,7 @@ module _ (f : Flow) (T : Table) (wf : WellFormed f) (listed : Listed f) (decider
       Invariant.inner (along b i _ t (entered-edge f b i c q m)) Reach.here not-opaque c q (entered-callee f i c m) inv (λ a. Kept.kept)
     where
       not-opaque : Opaque f e → ⊥
-      not-opaque o = true≢false (sym (deciders .call-opaque i (OpaqueCall.enters-opaque (entered-callee f i c m) o)) ∙ q)
+      not-opaque o = true≢false (sym (opaqueCall-complete wf (OpaqueCall.enters-opaque (entered-callee f i c m) o)) ∙ q)
 
   call-move : {i e : ℕ} {s : ℕ → State} {k : List Frame} (c : Option ℕ) → continuationOf (kind f i) ≡ c → isReturn (kind f i) ≡ false → In e (entered f i)
       → Invariant f T i s k → Invariant f T e (act f i s) (frameOf c ∷ k)
@@ -207,7 +197,7 @@ module _ (f : Flow) (T : Table) (wf : WellFormed f) (listed : Listed f) (decider
     unfolding act
     brought b u a =
         closed .edge (at b c) (callEdge (at b j) (at b j)) a (t a) (s a) (u a) (continuation-edge f b c h q)
-        (edge-kept f c (callEdge (at b j) (at b j)) a (node-same (at b j)) (λ p. deciders .call-touches c a (CallTouches.enters-touching m p))
+        (edge-kept f c (callEdge (at b j) (at b j)) a (node-same (at b j)) (λ p. callTouches-complete wf (CallTouches.enters-touching m p))
         (turns-becomeAll (statementEffects f c a) (t a)) (r a))
 
     resumed : {k : List Frame} → Invariant f T c t k → Invariant f T j s k
@@ -222,7 +212,7 @@ module _ (f : Flow) (T : Table) (wf : WellFormed f) (listed : Listed f) (decider
       Invariant.outer
       (along Base.zero i _ t
       (return-edge f i (ap continuationOf h) (ap isReturn h) (statement-of f c d) (wf .continuation c j d) d q m
-      (deciders .walks e i (entered-below f wf c (callee-entered f c d m)) w)))
+      (walked-complete wf (callees-below wf c e m) w)))
       (level-on l (walk-continuation f c d))
   return-move {i} {s = s} h (Invariant.inner t w o d q m call r) =
       resumed d q m (λ a. kept-then (r a) (act-kept f i a s w (not-wiping w o))) call
