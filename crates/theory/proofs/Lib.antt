@@ -8,3 +8,4 @@ pub mod Edges
 pub mod Acts
 pub mod Runs
 pub mod Term3
+pub mod RunCases
