@@ -1,4 +1,8 @@
 pub mod Lists
+pub mod Reach
+pub mod Body
+pub mod Clear
+pub mod Live
 pub mod Cases
 pub mod MaskLaws
 pub mod Pulls

@@ -1,6 +1,6 @@
--- The Boolean functions on lists say what membership says: `any`, `has`, `select`, `concatMap`, `map`, `optionList` and `upTo`, both ways each.
--- By induction on the list or on the proof of membership. Assumes nothing.
-use Prim.Native.Nat.{ℕ, zero, suc, _<_, _≤_}
+-- The Boolean functions on lists say what membership says: `any`, `has`, `select`, `concatMap`, `map`, `optionList` and `upTo`, both ways each; and sums
+-- compare as their terms do. By induction on the list, on the proof of membership or on the bound. Assumes nothing.
+use Prim.Native.Nat.{ℕ, zero, suc, _+_, _<_, _≤_}
 use mathlib.Core.Bool.{Bool, true, false, cond, not, _&&_, _||_, true≢false}
 use mathlib.Core.List.{List, [], _∷_, _++_, map, List·Memᴰ·head, List·Memᴰ·tail, List·Memᴰ·not-nil, List·Memᴰ·append-cases, List·Memᴰ·eq-of-singleton, Memᴰ·append-left, Memᴰ·append-right}
 use mathlib.Core.Logic.{_⊎_, inl, inr, ⊎-elim}
@@ -9,7 +9,7 @@ use mathlib.Core.Path.{_≡_, refl, sym, _∙_, ap, subst}
 use native.Mathlib.Omega.{arith}
 use lib.Dec.{eqb}
 use borrow.Author.Tests.{eqb-true, eqb-false, eq-eqb}
-use Rattle.theory.specs.Lists.{In, any, has, select, concatMap, optionList, upTo}
+use Rattle.theory.specs.Lists.{In, any, has, select, concatMap, optionList, upTo, sumBelow}
 
 -- Tests
 
@@ -171,3 +171,55 @@ In-upTo (suc k) {x} m = go (In-upTo k) (List·Memᴰ·append-cases (upTo k) m)
     go : (In x (upTo k) → x < k) → In x (upTo k) ⊎ In x (k ∷ []) → x < suc k
     go ih (inl n) = let h : x < k = ih n in omega arith
     go ih (inr n) = let e : x ≡ k = List·Memᴰ·eq-of-singleton n in omega arith
+
+-- sumBelow
+
+pub sumBelow-same : (n : ℕ) (f g : ℕ → ℕ) → ((i : ℕ) → i < n → f i ≡ g i) → sumBelow n f ≡ sumBelow n g
+unfolding sumBelow
+sumBelow-same zero f g h = refl
+sumBelow-same (suc k) f g h =
+    let below : sumBelow k f ≡ sumBelow k g = sumBelow-same k f g (λ i l. h i (omega arith)) in
+    let top : f k ≡ g k = h k (omega arith) in
+    omega arith
+
+-- a sum less at one number alone
+pub sumBelow-less : (n : ℕ) (f g : ℕ → ℕ) (x d : ℕ) → x < n → ((i : ℕ) → (i ≡ x → ⊥) → f i ≡ g i) → f x ≡ g x + d → sumBelow n f ≡ sumBelow n g + d
+unfolding sumBelow
+sumBelow-less zero f g x d l h e = absurd (omega arith)
+sumBelow-less (suc k) f g x d l h e = go (eqb x k) refl (λ l′. sumBelow-less k f g x d l′ h e)
+  where
+    go : (b : Bool) → eqb x k ≡ b → (x < k → sumBelow k f ≡ sumBelow k g + d) → sumBelow k f + f k ≡ sumBelow k g + g k + d
+    go true q ih =
+        let same : sumBelow k f ≡ sumBelow k g = sumBelow-same k f g (λ i i<k. h i (λ i≡x. let x≡k : x ≡ k = eqb-true x k q in omega arith)) in
+        let top : f k ≡ g k + d = subst (λ z. f z ≡ g z + d) (eqb-true x k q) e in
+        omega arith
+    go false q ih =
+        let x≢k : x ≡ k → ⊥ = eqb-false x k q in
+        let below : sumBelow k f ≡ sumBelow k g + d = ih (omega arith) in
+        let top : f k ≡ g k = h k (λ k≡x. x≢k (sym k≡x)) in
+        omega arith
+
+pub sumBelow-le : (n : ℕ) (f g : ℕ → ℕ) → ((i : ℕ) → i < n → f i ≤ g i) → sumBelow n f ≤ sumBelow n g
+unfolding sumBelow
+sumBelow-le zero f g h = omega arith
+sumBelow-le (suc k) f g h =
+    let below : sumBelow k f ≤ sumBelow k g = sumBelow-le k f g (λ i l. h i (omega arith)) in
+    let top : f k ≤ g k = h k (omega arith) in
+    omega arith
+
+-- a sum of numbers that are no more, and less at x
+pub sumBelow-lt : (n : ℕ) (f g : ℕ → ℕ) (x : ℕ) → x < n → ((i : ℕ) → i < n → f i ≤ g i) → f x < g x → sumBelow n f < sumBelow n g
+unfolding sumBelow
+sumBelow-lt zero f g x l h e = absurd (omega arith)
+sumBelow-lt (suc k) f g x l h e = go (eqb x k) refl (λ l′. sumBelow-lt k f g x l′ (λ i i<k. h i (omega arith)) e)
+  where
+    go : (b : Bool) → eqb x k ≡ b → (x < k → sumBelow k f < sumBelow k g) → sumBelow k f + f k < sumBelow k g + g k
+    go true q ih =
+        let below : sumBelow k f ≤ sumBelow k g = sumBelow-le k f g (λ i i<k. h i (omega arith)) in
+        let top : f k < g k = subst (λ z. f z < g z) (eqb-true x k q) e in
+        omega arith
+    go false q ih =
+        let x≢k : x ≡ k → ⊥ = eqb-false x k q in
+        let below : sumBelow k f < sumBelow k g = ih (omega arith) in
+        let top : f k ≤ g k = h k (omega arith) in
+        omega arith

@@ -1,6 +1,6 @@
 -- Live names, by walks over the listed graph: a name is live at a statement's start exactly when a walk from there reads it before any write. Document
 -- 01's equations follow (live-in is reads together with live-out less writes); alone they have other solutions, as a self loop with no read shows.
-use Prim.Native.Nat.{ℕ, zero, suc, _+_, _*_, _/_, _%_, _^_}
+use Prim.Native.Nat.{ℕ, zero, suc, _+_, _*_, _/_, _%_, _^_, _<_}
 use mathlib.Core.Bool.{Bool, true, false, cond, not, _&&_, _||_}
 use mathlib.Core.List.{List, [], _∷_, _++_}
 use mathlib.Core.Path.{_≡_}
@@ -37,6 +37,11 @@ liveIn f x i = any (λ j. reads f j x) (reached (unwritten f x) (size f) i)
 
 unfoldable pub liveOut : Flow → ℕ → ℕ → Bool
 liveOut f x i = any (liveIn f x) (successors f i)
+
+-- Document 01's equations: live-in is reads together with (live-out less writes); live-out is the union of successors' live-in
+pub record Equations (f : Flow) (before after : ℕ → ℕ → Bool) : Type 0 where
+  pub live-in : (x i : ℕ) → i < size f → before x i ≡ (reads f i x || (after x i && not (writes f i x)))
+  pub live-out : (x i : ℕ) → i < size f → after x i ≡ any (before x) (successors f i)
 
 abbrev pub bitOf : Bool → ℕ
 bitOf b = cond b 1 0
