@@ -16,6 +16,7 @@ use Rattle.theory.specs.Walks.{Turns, Brings, empty, along}
 use Rattle.theory.proofs.Lists.{clash, or-cases, member-cases, has-In, has-not}
 use Rattle.theory.proofs.MaskLaws.{Within, Proper, zero-holds, held-pos, some-held, all-proper, all-comes, all-mono}
 use Rattle.theory.proofs.Pulls.{upd-same, upd-other, Pulls, boundary, arc, Pulls-holds, holds-Pulls, pulled-lt}
+use Rattle.theory.proofs.Below.{allBelow-at}
 use Rattle.theory.proofs.Enqueue.{Distinct, more, enqueue-keeps, enqueue-adds, enqueue-cases, enqueue-distinct}
 
 -- what the queue rule asks of a graph: edges and the entry are within its numbers, and each array has a state at the entry
@@ -87,10 +88,11 @@ initial-keeps g wf = record {
 -- one visit, of the front d, with w behind it
 
 module _ (g : Graph) (wf : WellFormedGraph g) (st : Solver) (inv : Invariant g st) (d : ℕ) (w : List ℕ) (front : st .waiting ≡ d ∷ w) where
-  abbrev next : Solver
+  abbrev pub next : Solver
   next = visit g st d w
 
-  grew : Bool
+  -- its first visit, or its masks changed
+  abbrev pub grew : Bool
   grew = not (st .visited d) || changed g st d
 
   front-waits : In d (st .waiting)
@@ -102,28 +104,28 @@ module _ (g : Graph) (wf : WellFormedGraph g) (st : Solver) (inv : Invariant g s
   waiting-cases : {x : ℕ} {P : Type 0} → In x (st .waiting) → (x ≡ d → P) → (In x w → P) → P
   waiting-cases {x} m = member-cases (subst (λ l. In x l) front m)
 
-  front-below : d < g .nodes
+  pub front-below : d < g .nodes
   front-below = inv .waiting-below d front-waits
 
   -- the visited numbers and the masks after the visit
 
-  visited-at : {p : ℕ} → p ≡ d → next .visited p ≡ true
+  pub visited-at : {p : ℕ} → p ≡ d → next .visited p ≡ true
   unfolding visit
   visited-at {p} e = upd-same (st .visited) d true p e
 
-  visited-other : {p : ℕ} → (p ≡ d → ⊥) → next .visited p ≡ st .visited p
+  pub visited-other : {p : ℕ} → (p ≡ d → ⊥) → next .visited p ≡ st .visited p
   unfolding visit
   visited-other {p} n = upd-other (st .visited) d true p n
 
-  masks-at : {p : ℕ} → p ≡ d → next .masks p ≡ pulled g st d
+  pub masks-at : {p : ℕ} → p ≡ d → next .masks p ≡ pulled g st d
   unfolding visit
   masks-at {p} e = upd-same (st .masks) d (pulled g st d) p e
 
-  masks-other : {p : ℕ} → (p ≡ d → ⊥) → next .masks p ≡ st .masks p
+  pub masks-other : {p : ℕ} → (p ≡ d → ⊥) → next .masks p ≡ st .masks p
   unfolding visit
   masks-other {p} n = upd-other (st .masks) d (pulled g st d) p n
 
-  visited-stays : {p : ℕ} → st .visited p ≡ true → next .visited p ≡ true
+  pub visited-stays : {p : ℕ} → st .visited p ≡ true → next .visited p ≡ true
   visited-stays {p} v = go (ℕ-discrete p d)
     where
       go : Dec (p ≡ d) → next .visited p ≡ true
@@ -132,7 +134,7 @@ module _ (g : Graph) (wf : WellFormedGraph g) (st : Solver) (inv : Invariant g s
 
   -- the new masks
 
-  pulled-proper : (a : ℕ) → Proper (pulled g st d a)
+  pub pulled-proper : (a : ℕ) → Proper (pulled g st d a)
   pulled-proper a = go (inv .waiting-due d front-waits)
     where
       below : pulled g st d a < 8
@@ -147,14 +149,14 @@ module _ (g : Graph) (wf : WellFormedGraph g) (st : Solver) (inv : Invariant g s
           let r = some-held (stepAll (e .effects a) (st .masks p a)) (all-proper (e .effects a) (st .masks p a) (inv .visited-proper p a v)) in
           of (r .0) (arc (inv .visited-below p v) v m t (r .1))
 
-  proper-kept : (p a : ℕ) → next .visited p ≡ true → Proper (next .masks p a)
+  pub proper-kept : (p a : ℕ) → next .visited p ≡ true → Proper (next .masks p a)
   proper-kept p a v = go (ℕ-discrete p d)
     where
       go : Dec (p ≡ d) → Proper (next .masks p a)
       go (yes e) = subst (λ (m : ℕ → ℕ). Proper (m a)) (sym (masks-at e)) (pulled-proper a)
       go (no n) = subst (λ (m : ℕ → ℕ). Proper (m a)) (sym (masks-other n)) (inv .visited-proper p a (sym (visited-other n) ∙ v))
 
-  masks-grow : (p a : ℕ) → st .visited p ≡ true → Within (st .masks p a) (next .masks p a)
+  pub masks-grow : (p a : ℕ) → st .visited p ≡ true → Within (st .masks p a) (next .masks p a)
   masks-grow p a v s h = go (ℕ-discrete p d)
     where
       go : Dec (p ≡ d) → holds (next .masks p a) s ≡ true
@@ -163,7 +165,7 @@ module _ (g : Graph) (wf : WellFormedGraph g) (st : Solver) (inv : Invariant g s
           (subst (λ (x : ℕ). holds (pulled g st x a) s ≡ true) e (inv .visited-grows p a v s h))
       go (no n) = subst (λ (m : ℕ → ℕ). holds (m a) s ≡ true) (sym (masks-other n)) h
 
-  pulls-grow : {a t : ℕ} {s : State} → Pulls g st a t s → Pulls g next a t s
+  pub pulls-grow : {a t : ℕ} {s : State} → Pulls g st a t s → Pulls g next a t s
   pulls-grow (boundary e h) = boundary e h
   pulls-grow {a} {t} {s} (arc {p = p} {e = e} l v m q h) =
       arc l (visited-stays v) m q
@@ -216,7 +218,7 @@ module _ (g : Graph) (wf : WellFormedGraph g) (st : Solver) (inv : Invariant g s
 
   -- what waits after the visit
 
-  queue : Bool → List ℕ
+  unfoldable pub queue : Bool → List ℕ
   queue b = cond b (enqueue (g .arcs d) w) w
 
   queue-keeps : (b : Bool) {x : ℕ} → In x w → In x (queue b)
@@ -229,8 +231,8 @@ module _ (g : Graph) (wf : WellFormedGraph g) (st : Solver) (inv : Invariant g s
   queue-cases true m h k = ⊎-elim h (λ r. k (r .0) (r .1) (r .2)) (enqueue-cases (g .arcs d) w m)
   queue-cases false m h k = h m
 
-  waiting-next : next .waiting ≡ queue grew
-  unfolding visit grew queue
+  pub waiting-next : next .waiting ≡ queue grew
+  unfolding visit queue
   waiting-next = refl
 
   next-keeps : {x : ℕ} → In x w → In x (next .waiting)
@@ -273,16 +275,16 @@ module _ (g : Graph) (wf : WellFormedGraph g) (st : Solver) (inv : Invariant g s
   settled-by t back (done v f) =
       done (visited-stays v) (λ a l s h. masks-grow t a v s (f a l s (Pulls-holds g st a t s (back a s l (holds-Pulls g next a t s h)))))
 
-  -- what is brought after the visit was brought before it, but for what d's edges bring
-  pulls-back : (a t : ℕ) (s : State)
-      → ((e : Arc) → In e (g .arcs d) → e .to ≡ t → holds (stepAll (e .effects a) (pulled g st d a)) s ≡ true → Pulls g st a t s)
-      → Pulls g next a t s → Pulls g st a t s
-  pulls-back a t s own (boundary e h) = boundary e h
-  pulls-back a t s own (arc {p = p} {e = e} l v m q h) = go (ℕ-discrete p d)
+  -- what is brought after the visit was brought before it, or d's edges bring it
+  pub pulls-cases : {a t : ℕ} {s : State} {P : Type 0} → Pulls g next a t s → (Pulls g st a t s → P)
+      → ((e : Arc) → In e (g .arcs d) → e .to ≡ t → holds (stepAll (e .effects a) (pulled g st d a)) s ≡ true → P) → P
+  pulls-cases (boundary e h) before own = before (boundary e h)
+  pulls-cases {a} {t} {s} {P} (arc {p = p} {e = e} l v m q h) before own = go (ℕ-discrete p d)
     where
-      go : Dec (p ≡ d) → Pulls g st a t s
+      go : Dec (p ≡ d) → P
       go (yes i) = own e (subst (λ (x : ℕ). In e (g .arcs x)) i m) q (subst (λ (x : ℕ → ℕ). holds (stepAll (e .effects a) (x a)) s ≡ true) (masks-at i) h)
-      go (no n) = arc l (sym (visited-other n) ∙ v) m q (subst (λ (x : ℕ → ℕ). holds (stepAll (e .effects a) (x a)) s ≡ true) (masks-other n) h)
+      go (no n) =
+          before (arc l (sym (visited-other n) ∙ v) m q (subst (λ (x : ℕ → ℕ). holds (stepAll (e .effects a) (x a)) s ≡ true) (masks-other n) h))
 
   due-back : (t : ℕ) → ((e : Arc) → In e (g .arcs d) → e .to ≡ t → Due g st t) → Due g next t → Due g st t
   due-back t own (entry e) = entry e
@@ -291,3 +293,55 @@ module _ (g : Graph) (wf : WellFormedGraph g) (st : Solver) (inv : Invariant g s
       go : Dec (p ≡ d) → Due g st t
       go (yes i) = own e (subst (λ (x : ℕ). In e (g .arcs x)) i m) q
       go (no n) = after (sym (visited-other n) ∙ v) m q
+
+  -- a visit at which nothing grew: d was visited before, and its masks stay as they were
+  pub was-visited : grew ≡ false → st .visited d ≡ true
+  was-visited = go (st .visited d) refl
+    where
+      go : (b : Bool) → st .visited d ≡ b → (not b || changed g st d) ≡ false → st .visited d ≡ true
+      go true v h = v
+      go false v h = clash true refl h
+
+  pub masks-same : grew ≡ false → (a : ℕ) → a < g .arrays → pulled g st d a ≡ st .masks d a
+  unfolding changed
+  masks-same h a l =
+      eqb-true (pulled g st d a) (st .masks d a)
+      (allBelow-at (g .arrays) (λ a. eqb (pulled g st d a) (st .masks d a)) (not-false _ (second (not (st .visited d)) h)) a l)
+    where
+      second : {c : Bool} (b : Bool) → (b || c) ≡ false → c ≡ false
+      second true e = clash true refl e
+      second false e = e
+
+  settled-kept : 0 < g .nodes → (t : ℕ) → Due g next t → Settled g next t
+  settled-kept z t x = go grew refl (has t (next .waiting)) refl
+    where
+      -- where t does not wait, no edge of d goes to it
+      away : grew ≡ true → has t (next .waiting) ≡ false → (e : Arc) → In e (g .arcs d) → e .to ≡ t → ⊥
+      away b n e m q = has-not t (next .waiting) n (subst (λ (y : ℕ). In y (next .waiting)) q (targets-wait b e m))
+
+      go : (b : Bool) → grew ≡ b → (c : Bool) → has t (next .waiting) ≡ c → Settled g next t
+      go true b true n = waits (has-In t (next .waiting) n)
+      go true b false n =
+          settled-by t (λ a s l x. pulls-cases x (λ y. y) (λ e m q h. absurd (away b n e m q)))
+          (inv .due-settled z t (due-back t (λ e m q. absurd (away b n e m q)) x))
+      go false b c n =
+          settled-by t (λ a s l x. pulls-cases x (λ y. y) (own-before b a s l))
+          (inv .due-settled z t (due-back t (λ e m q. after (was-visited b) m q) x))
+        where
+          own-before : grew ≡ false → (a : ℕ) (s : State) → a < g .arrays
+              → (e : Arc) → In e (g .arcs d) → e .to ≡ t → holds (stepAll (e .effects a) (pulled g st d a)) s ≡ true → Pulls g st a t s
+          own-before b a s l e m q h =
+              arc front-below (was-visited b) m q (subst (λ (y : ℕ). holds (stepAll (e .effects a) y) s ≡ true) (masks-same b a l) h)
+
+  pub visit-keeps : Invariant g (visit g st d w)
+  visit-keeps = record {
+    waiting-below = waiting-below-kept;
+    waiting-once = waiting-once-kept;
+    waiting-due = waiting-due-kept;
+    visited-below = below-kept;
+    visited-proper = proper-kept;
+    visited-grows = grows-kept;
+    unvisited-empty = empty-kept;
+    due-settled = settled-kept;
+    held-brought = brought-kept;
+  }

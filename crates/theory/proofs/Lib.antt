@@ -6,5 +6,8 @@ pub mod Live
 pub mod Cases
 pub mod MaskLaws
 pub mod Pulls
+pub mod Below
 pub mod Enqueue
 pub mod Invariant
+pub mod Ends
+pub mod Exact

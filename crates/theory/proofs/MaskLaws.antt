@@ -7,6 +7,7 @@ use mathlib.Core.Logic.{_⊎_, inl, inr, _≢_}
 use mathlib.Core.Path.{_≡_, refl, sym, ap, subst, _∙_}
 use native.Mathlib.Nat.{mod-lt, zero-lt-suc}
 use native.Mathlib.Omega.{arith}
+use borrow.Author.Tests.{ne-eqb}
 use lib.Bits.{bitOr, or-shr, or-step}
 use lib.Dec.{T, eqb, ltb, leb, ltb→lt, lt→ltb, leb→le, not-T, eqb→eq, lit<}
 use Rattle.masks.specs.declared.Effect.{Effect}
@@ -164,5 +165,5 @@ within-more a b ha hb w =
 pub states-mono : (a b : ℕ) → a < 8 → b < 8 → Within a b → statesHeld a ≤ statesHeld b
 states-mono a b ha hb w = let h = within-more a b ha hb w in omega arith
 
-pub states-rise : (a b : ℕ) → a < 8 → b < 8 → Within a b → eqb a b ≡ false → statesHeld a < statesHeld b
-states-rise a b ha hb w e = let h : statesHeld a + 1 ≤ statesHeld b = rw e at (within-more a b ha hb w) in omega arith
+pub states-rise : (a b : ℕ) → a < 8 → b < 8 → Within a b → a ≢ b → statesHeld a < statesHeld b
+states-rise a b ha hb w n = let h : statesHeld a + 1 ≤ statesHeld b = rw (ne-eqb a b n) at (within-more a b ha hb w) in omega arith
