@@ -11,3 +11,8 @@ pub mod Enqueue
 pub mod Invariant
 pub mod Ends
 pub mod Exact
+pub mod Edges
+pub mod Acts
+pub mod Runs
+pub mod Term3
+pub mod Terms
