@@ -4,8 +4,16 @@ pub mod Body
 pub mod Clear
 pub mod Live
 pub mod Cases
+pub mod MaskLaws
+pub mod Pulls
+pub mod Below
+pub mod Enqueue
+pub mod Invariant
+pub mod Ends
+pub mod Exact
 pub mod Edges
 pub mod Acts
 pub mod Runs
 pub mod Term3
+pub mod Terms
 pub mod RunCases

@@ -1,18 +1,17 @@
 -- Runs exist: in P5 one goes through the subroutine and finds AUTO at statement 1; in P8 CLR leaves an empty stack; an ON GOSUB is passed over; and P5 keeps the
 -- premise on listed successors. Each is the run itself, move by move, whose states and stack the checker computes.
-use Prim.Native.Nat.{ℕ, zero, suc, _<_}
-use mathlib.Core.Bool.{true}
-use mathlib.Core.List.{List, [], _∷_, List·Memᴰ·head, List·Memᴰ·not-nil}
+use Prim.Native.Nat.{ℕ, zero, suc}
+use mathlib.Core.List.{List, [], List·Memᴰ·head, List·Memᴰ·not-nil}
 use mathlib.Core.Option.{none, some}
 use mathlib.Core.Path.{_≡_, refl}
 use lib.Dec.{lit<}
 use native.Mathlib.Omega.{arith}
 use Rattle.masks.specs.State.{State}
-use Rattle.flow.specs.Flow.{Flow, Kind, Statement, findLine}
+use Rattle.flow.specs.Flow.{Kind, findLine}
 use Rattle.theory.specs.Lists.{In, any, has, concatMap, optionList}
 use Rattle.theory.specs.Body.{kind, successors, entered}
 use Rattle.theory.specs.Doubled.{kindEffects, statementEffects}
-use Rattle.theory.specs.Runs.{Config, config, becomeAll, act, Move, begin, Run, Listed}
+use Rattle.theory.specs.Runs.{Config, config, becomeAll, act, Move, Run, Listed}
 use Rattle.theory.specs.Cases.{p5, p5On, p8}
 
 -- GOSUB 30, its reference, RETURN to statement 1

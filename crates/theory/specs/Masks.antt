@@ -2,8 +2,10 @@
 -- A state is in it exactly when a walk of the doubled graph brings it to one of the two.
 use Prim.Native.Nat.{ℕ}
 use lib.Bits.{bitOr}
+use Rattle.masks.specs.State.{State}
 use Rattle.flow.specs.Flow.{Flow}
 use Rattle.theory.specs.Queue.{solved}
+use Rattle.theory.specs.Walks.{Brings}
 use Rattle.theory.specs.Doubled.{doubled, number, at, Base}
 
 unfoldable pub nodeMask : Flow → ℕ → ℕ → ℕ
@@ -14,3 +16,7 @@ maskOf f i a = bitOr (nodeMask f (number f (at Base.zero i)) a) (nodeMask f (num
 
 unfoldable pub visitsOf : Flow → ℕ
 visitsOf f = solved (doubled f) .visits
+
+-- a walk brings state s of array a to statement i, in one of its two copies
+pub data BringsTo (f : Flow) (a i : ℕ) (s : State) : Type 0 where
+  copy : (b : Base) → Brings (doubled f) a (number f (at b i)) s → BringsTo f a i s
