@@ -74,6 +74,44 @@ p9 = record {
 abbrev pub p10 : Flow
 p10 = record { arrays = 0; names = 0; entry = 0; statements = []; lines = [] }
 
+-- "Where a port goes astray"
+
+-- a DIM without dimensions makes its body opaque: statement 1 keeps no NONE
+abbrev pub dimFlag0 : Flow
+dimFlag0 = p5With (Kind.dim (item 0 0 ∷ [])) (0 ∷ [])
+
+-- statement 4 is the RETURN of an opaque body and of one that is not: only in base 0 does it go back to statement 1
+abbrev pub sharedReturn : Flow
+sharedReturn = record {
+  arrays = 1;
+  names = 0;
+  entry = 0;
+  statements =
+      stmt 10 (Kind.gosub 40 (some 1)) (3 ∷ []) [] 0 0
+      ∷ stmt 20 (Kind.gosub 50 (some 2)) (4 ∷ []) (0 ∷ []) 0 0
+      ∷ stmt 30 Kind.other [] [] 0 0
+      ∷ stmt 40 Kind.clr (4 ∷ []) [] 0 0
+      ∷ stmt 50 Kind.return [] [] 0 0
+      ∷ [];
+  lines = line 40 3 ∷ line 50 4 ∷ [];
+}
+
+-- in base n statement 1 enters its own continuation: that one edge carries the touched step
+abbrev pub enteredContinuation : Flow
+enteredContinuation = record {
+  arrays = 1;
+  names = 0;
+  entry = 0;
+  statements =
+      stmt 10 (Kind.gosub 20 (some 4)) (1 ∷ []) [] 0 0
+      ∷ stmt 20 (Kind.gosub 30 (some 2)) (2 ∷ []) [] 0 0
+      ∷ stmt 30 Kind.other (3 ∷ []) (0 ∷ []) 0 0
+      ∷ stmt 40 Kind.return [] [] 0 0
+      ∷ stmt 50 Kind.other [] [] 0 0
+      ∷ [];
+  lines = line 20 1 ∷ line 30 2 ∷ [];
+}
+
 abbrev pub masksOf : Flow → List ℕ
 masksOf f = concatMap (λ i. map (maskOf f i) (upTo (f .arrays))) (upTo (size f))
 
@@ -98,4 +136,7 @@ cases =
     ∷ record { flow = p8; masks = 1 ∷ 1 ∷ 1 ∷ 1 ∷ []; visits = 4 }
     ∷ record { flow = p9; masks = 1 ∷ 0 ∷ []; visits = 2 }
     ∷ record { flow = p10; masks = []; visits = 0 }
+    ∷ record { flow = dimFlag0; masks = 1 ∷ 2 ∷ 1 ∷ 2 ∷ []; visits = 4 }
+    ∷ record { flow = sharedReturn; masks = 1 ∷ 1 ∷ 2 ∷ 1 ∷ 3 ∷ []; visits = 6 }
+    ∷ record { flow = enteredContinuation; masks = 1 ∷ 1 ∷ 3 ∷ 2 ∷ 3 ∷ []; visits = 5 }
     ∷ []
