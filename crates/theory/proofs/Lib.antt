@@ -11,6 +11,7 @@ pub mod Enqueue
 pub mod Invariant
 pub mod Ends
 pub mod Exact
+pub mod Push
 pub mod Edges
 pub mod Acts
 pub mod Runs
