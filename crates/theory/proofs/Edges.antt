@@ -11,7 +11,7 @@ use lib.ListN.{List·getD-eq-default}
 use native.Mathlib.Decide.{decLt}
 use native.Mathlib.Omega.{arith}
 use borrow.Author.Tests.{eq-eqb, eqb-true}
-use Rattle.flow.specs.Flow.{Flow, size, statement, noStatement}
+use Rattle.flow.specs.Flow.{Flow, Kind, size, statement, noStatement}
 use Rattle.theory.specs.Lists.{In, any, has, select, upTo}
 use Rattle.theory.specs.Body.{kind, successors, continuationOf, entered, callees, isReturn, walked, opaqueCall}
 use Rattle.theory.specs.WellFormed.{WellFormed}
@@ -70,6 +70,17 @@ in-once {x} (e ∷ es) m = go (in-once es) (List·Memᴰ·cases-cons m)
     go rest (inl h) = List·Memᴰ·head h
     go rest (inr h) = List·Memᴰ·tail (rest (In-select apart (once es) h .0))
 
+-- where a call that is not opaque goes: the listed successors that are neither entered nor the continuation come last
+abbrev others : Flow → ℕ → ℕ → ℕ → Bool
+others f i k j = not (has j (entered f i) || eqb j k)
+
+abbrev targets : Flow → Base → ℕ → ℕ → List Node
+targets f b i k = map (at Base.n) (entered f i) ++ (at b k ∷ map (at b) (select (others f i k) (successors f i)))
+
+in-callEdges : (f : Flow) (b : Base) (i k : ℕ) {x : Edge} → In x (callEdges f b i k) → (v : Node) × In v (targets f b i k) × (callEdge (at b k) v ≡ x)
+unfolding callEdges
+in-callEdges f b i k m = Memᴰ·of-map (callEdge (at b k)) (targets f b i k) (in-once (map (callEdge (at b k)) (targets f b i k)) m)
+
 -- the edges of a node, by what its statement is
 
 module _ (f : Flow) (b : Base) (i : ℕ) where
@@ -97,6 +108,19 @@ module _ (f : Flow) (b : Base) (i : ℕ) where
     pub continuation-edge : In (callEdge (at b k) (at b k)) (edges f (at b i))
     unfolding callEdges
     continuation-edge = from-call (once-in (at b k) (Memᴰ·append-right (map (at Base.n) (entered f i)) (List·Memᴰ·head refl)))
+
+    -- each edge to base + continuation carries the touched step, the one to an entered statement too, and no other does
+    pub continues-at : {x : Edge} → In x (edges f (at b i)) → x .continues ≡ sameNode (x .to) (at b k)
+    unfolding edges edgesOf
+    continues-at {x} m =
+        let called : In x (callEdges f b i k) = rw o at (subst (λ (o : Option ℕ). In x (edgesOf f b i o)) c m) in
+        let r = in-callEdges f b i k called in
+        subst (λ (x : Edge). x .continues ≡ sameNode (x .to) (at b k)) (r .2) refl
+
+-- a RETURN in base n goes nowhere
+pub return-nowhere : (f : Flow) (r : ℕ) → kind f r ≡ Kind.return → edges f (at Base.n r) ≡ []
+unfolding edges edgesOf returnEdges
+return-nowhere f r h = rw (ap continuationOf h, ap isReturn h)
 
 -- a RETURN in base 0 goes to the continuation of each opaque call that enters a body whose walk meets it
 pub return-edge : (f : Flow) (r : ℕ) {c k e : ℕ} → continuationOf (kind f r) ≡ none → isReturn (kind f r) ≡ true → c < size f → k < size f
@@ -144,26 +168,23 @@ module _ (f : Flow) (wf : WellFormed f) where
       subst (λ x. x .to .stmt < size f) (r .2) (In-upTo (size f) (In-select meets (upTo (size f)) (r .1) .0))
   return-stays Base.n i m = absurd (List·Memᴰ·not-nil m)
 
-  call-stays : (b : Base) (i k : ℕ) → k < size f → {x : Edge} → In x (callEdges f b i k) → stays x
-  unfolding stays callEdges
-  call-stays b i k h {x} m = subst (λ x. x .to .stmt < size f) (r .2) (target (r .0) (List·Memᴰ·append-cases (map (at Base.n) (entered f i)) (r .1)))
+  below : (c : Base) (l : List ℕ) {v : Node} → ((j : ℕ) → In j l → j < size f) → In v (map (at c) l) → v .stmt < size f
+  below c l all m = let q = Memᴰ·of-map (at c) l m in subst (λ v. v .stmt < size f) (q .2) (all (q .0) (q .1))
+
+  call-stays : (b : Base) (i k : ℕ) {x : Edge} → k < size f → In x (callEdges f b i k) → stays x
+  unfolding stays
+  call-stays b i k h m =
+      let r = in-callEdges f b i k m in
+      subst (λ x. x .to .stmt < size f) (r .2) (first (List·Memᴰ·append-cases (map (at Base.n) (entered f i)) (r .1)))
     where
-      others : ℕ → Bool
-      others j = not (has j (entered f i) || eqb j k)
-
-      r : (v : Node) × In v (map (at Base.n) (entered f i) ++ (at b k ∷ map (at b) (select others (successors f i)))) × (callEdge (at b k) v ≡ x)
-      r = Memᴰ·of-map (callEdge (at b k)) _ (in-once _ m)
-
-      below : (c : Base) (l : List ℕ) → ((j : ℕ) → In j l → j < size f) → {v : Node} → In v (map (at c) l) → v .stmt < size f
-      below c l all m = let q = Memᴰ·of-map (at c) l m in subst (λ v. v .stmt < size f) (q .2) (all (q .0) (q .1))
-
-      rest : {v : Node} → (v ≡ at b k) ⊎ In v (map (at b) (select others (successors f i))) → v .stmt < size f
+      rest : {v : Node} → (v ≡ at b k) ⊎ In v (map (at b) (select (others f i k) (successors f i))) → v .stmt < size f
       rest (inl e) = subst (λ v. v .stmt < size f) (sym e) h
-      rest (inr m) = below b (select others (successors f i)) (λ j m. wf .successor i j (In-select others (successors f i) m .0)) m
+      rest (inr m) =
+          below b (select (others f i k) (successors f i)) (λ j m. wf .successor i j (In-select (others f i k) (successors f i) m .0)) m
 
-      target : (v : Node) → In v (map (at Base.n) (entered f i)) ⊎ In v (at b k ∷ map (at b) (select others (successors f i))) → v .stmt < size f
-      target v (inl m) = below Base.n (entered f i) (entered-below wf i) m
-      target v (inr m) = rest (List·Memᴰ·cases-cons m)
+      first : {v : Node} → In v (map (at Base.n) (entered f i)) ⊎ In v (at b k ∷ map (at b) (select (others f i k) (successors f i))) → v .stmt < size f
+      first (inl m) = below Base.n (entered f i) (entered-below wf i) m
+      first (inr m) = rest (List·Memᴰ·cases-cons m)
 
   pub edge-below : (v : Node) {x : Edge} → In x (edges f v) → x .to .stmt < size f
   unfolding edges edgesOf stays

@@ -17,3 +17,4 @@ pub mod Acts
 pub mod Runs
 pub mod Term3
 pub mod Terms
+pub mod RunCases

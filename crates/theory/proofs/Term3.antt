@@ -1,15 +1,14 @@
 -- Term 3 at doubled numbers: whatever holds the boundary at the entry and follows every arc of the doubled graph holds what a run finds at a statement, at one of its
 -- two numbers. The walks are such, and so is every closed table of masks; the union of a statement's two masks then holds what a run finds.
 use Prim.Native.Nat.{ℕ, _+_, _-_, _<_, _≤_}
-use mathlib.Core.Bool.{true, _||_, or-true}
+use mathlib.Core.Bool.{true}
 use mathlib.Core.List.{map, Memᴰ·map}
-use mathlib.Core.Path.{_≡_, refl, sym, ap, subst, _∙_}
+use mathlib.Core.Path.{_≡_, refl, sym, subst}
 use lib.Bits.{bitOr}
 use native.Mathlib.Nat.{zero-add}
 use native.Mathlib.Omega.{arith}
 use borrow.Author.Tests.{lt-ltb, le-ltb}
 use Rattle.masks.specs.State.{State, holds}
-use Rattle.masks.proofs.Laws.{or-holds}
 use Rattle.flow.specs.Flow.{Flow, size}
 use Rattle.theory.specs.Lists.{In}
 use Rattle.theory.specs.WellFormed.{WellFormed}
@@ -17,6 +16,7 @@ use Rattle.theory.specs.Queue.{Arc, Graph}
 use Rattle.theory.specs.Walks.{Turns, Brings}
 use Rattle.theory.specs.Doubled.{Base, Node, Edge, at, number, node, edges, edgeEffects, boundary, arcsOf, doubled}
 use Rattle.theory.specs.Runs.{Config, Run, Listed}
+use Rattle.theory.proofs.MaskLaws.{or-holds-left, or-holds-right}
 use Rattle.theory.proofs.Edges.{edge-below}
 use Rattle.theory.proofs.Runs.{Table, Closed, run-found}
 
@@ -85,25 +85,16 @@ run-brings f wf listed r = run-follows f (λ d a s. Brings (doubled f) a d s) wf
 abbrev pub Held : ℕ → (ℕ → ℕ → ℕ) → ℕ → ℕ → State → Type 0
 Held arrays m d a s = a < arrays → holds (m d a) s ≡ true
 
--- the union over both copies of any closed table of masks holds what a run finds
-pub run-masked : (f : Flow) (m : ℕ → ℕ → ℕ) {x : Config} → WellFormed f → Listed f
-    → ((d a : ℕ) → d < size f + size f → a < f .arrays → m d a < 8) → Follows (doubled f) (Held (f .arrays) m)
-    → Run f x → (a : ℕ) → a < f .arrays
-    → holds (bitOr (m (number f (at Base.zero (x .stmt))) a) (m (number f (at Base.n (x .stmt))) a)) (x .states a) ≡ true
-run-masked f m {x} wf listed small follows r a h = either (q .1 .0) (q .1 .1 a h)
+-- Term 3 over any closed table of masks: the union over both copies holds what a run finds
+pub run-masked : (f : Flow) (m : ℕ → ℕ → ℕ) {x : Config} → WellFormed f → Listed f → Follows (doubled f) (Held (f .arrays) m) → Run f x
+    → (a : ℕ) → a < f .arrays → holds (bitOr (m (number f (at Base.zero (x .stmt))) a) (m (number f (at Base.n (x .stmt))) a)) (x .states a) ≡ true
+run-masked f m {x} wf listed follows r a h =
+    let q = run-follows f (Held (f .arrays) m) wf listed follows r in
+    either (q .1 .0) (q .1 .1 a h)
   where
-    q : (x .stmt < size f) × ((b : Base) × ((a : ℕ) → Held (f .arrays) m (number f (at b (x .stmt))) a (x .states a)))
-    q = run-follows f (Held (f .arrays) m) wf listed follows r
+    mask : Base → ℕ
+    mask b = m (number f (at b (x .stmt))) a
 
-    masks : Base → ℕ
-    masks b = m (number f (at b (x .stmt))) a
-
-    below : (b : Base) → masks b < 8
-    below b = small (number f (at b (x .stmt))) a (number-below f (at b (x .stmt)) (q .0)) h
-
-    split : holds (bitOr (masks Base.zero) (masks Base.n)) (x .states a) ≡ (holds (masks Base.zero) (x .states a) || holds (masks Base.n) (x .states a))
-    split = or-holds (masks Base.zero) (masks Base.n) (x .states a) (below Base.zero) (below Base.n)
-
-    either : (b : Base) → holds (masks b) (x .states a) ≡ true → holds (bitOr (masks Base.zero) (masks Base.n)) (x .states a) ≡ true
-    either Base.zero e = split ∙ ap (λ t. t || holds (masks Base.n) (x .states a)) e
-    either Base.n e = split ∙ ap (λ t. holds (masks Base.zero) (x .states a) || t) e ∙ or-true (holds (masks Base.zero) (x .states a))
+    either : (b : Base) → holds (mask b) (x .states a) ≡ true → holds (bitOr (mask Base.zero) (mask Base.n)) (x .states a) ≡ true
+    either Base.zero e = or-holds-left (mask Base.zero) (mask Base.n) (x .states a) e
+    either Base.n e = or-holds-right (mask Base.zero) (mask Base.n) (x .states a) e

@@ -28,14 +28,14 @@ item a g = record { array = a; flag = g }
 abbrev tens : List Line
 tens = line 10 0 ∷ line 20 1 ∷ line 30 2 ∷ line 40 3 ∷ []
 
--- P5 with another statement 2
-abbrev p5With : Kind → List ℕ → Flow
-p5With k rs = record {
+-- P5 with another call and its successors, and another statement 2 and its references
+abbrev p5From : Kind → List ℕ → Kind → List ℕ → Flow
+p5From c ss k rs = record {
   arrays = 1;
   names = 1;
   entry = 0;
   statements =
-      stmt 10 (Kind.gosub 30 (some 1)) (2 ∷ []) [] 0 0
+      stmt 10 c ss [] 0 0
       ∷ stmt 20 Kind.other [] (0 ∷ []) 0 1
       ∷ stmt 30 k (3 ∷ []) rs 0 0
       ∷ stmt 40 Kind.return [] [] 0 0
@@ -43,8 +43,15 @@ p5With k rs = record {
   lines = tens;
 }
 
+abbrev p5With : Kind → List ℕ → Flow
+p5With k rs = p5From (Kind.gosub 30 (some 1)) (2 ∷ []) k rs
+
 abbrev pub p5 : Flow
 p5 = p5With Kind.other (0 ∷ [])
+
+-- P5 with ON GOSUB 30, which may also go to its continuation
+abbrev pub p5On : Flow
+p5On = p5From (Kind.onGosub (30 ∷ []) (some 1)) (2 ∷ 1 ∷ []) Kind.other (0 ∷ [])
 
 abbrev pub p6 : Flow
 p6 = p5With (Kind.dim (item 0 1 ∷ [])) []
