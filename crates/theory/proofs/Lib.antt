@@ -3,6 +3,7 @@ pub mod Reach
 pub mod Body
 pub mod Clear
 pub mod Live
+pub mod Names
 pub mod Cases
 pub mod MaskLaws
 pub mod Pulls
