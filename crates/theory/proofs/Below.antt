@@ -1,6 +1,6 @@
 -- Tests of every number below a bound, and sums of one number: what `allBelow` says of each, both ways, and the sums that bound a count.
 -- By induction on the bound. Assumes nothing.
-use Prim.Native.Nat.{ℕ, zero, suc, _+_, _*_, _<_}
+use Prim.Native.Nat.{ℕ, zero, suc, _*_, _<_}
 use mathlib.Core.Bool.{Bool, true, false, _&&_}
 use mathlib.Core.Path.{_≡_, refl, subst, sym}
 use native.Mathlib.Omega.{arith}

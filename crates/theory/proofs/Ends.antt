@@ -2,19 +2,18 @@
 -- 3 × arrays less the states it holds once visited; what waits, with the sum of edges × what is owed, falls at each visit. Assumes nothing.
 use Prim.Native.Nat.{ℕ, zero, suc, _+_, _-_, _*_, _≤_, _<_}
 use mathlib.Core.Bool.{Bool, true, false, cond, not, _||_}
-use mathlib.Core.List.{List, [], _∷_, cons≢nil}
-use mathlib.Core.Logic.{_⊎_, inl, inr}
+use mathlib.Core.List.{List, [], _∷_}
 use mathlib.Core.Path.{_≡_, refl, sym, ap, ap₂, subst, _∙_}
 use native.Mathlib.Nat.{mul-le-mul-left, mul-add, zero-add, suc-add, add-comm, le-refl}
 use native.Mathlib.Omega.{arith}
-use borrow.Author.Tests.{eqb-true, eqb-false, eq-eqb, not-true}
+use borrow.Author.Tests.{eqb-false, eq-eqb, not-true}
 use lib.Dec.{eqb}
 use lib.ListN.{length}
-use Rattle.theory.specs.Lists.{In, sumBelow}
-use Rattle.theory.specs.Queue.{Arc, Graph, Solver, pulled, changed, enqueue, visit, visitFront, visitTimes, initial, arcCount, visitBound, solved}
-use Rattle.theory.proofs.Lists.{clash, sumBelow-same, sumBelow-less, sumBelow-le, sumBelow-lt}
+use Rattle.theory.specs.Lists.{sumBelow}
+use Rattle.theory.specs.Queue.{Graph, Solver, pulled, changed, visit, visitFront, visitTimes, initial, arcCount, visitBound, solved}
+use Rattle.theory.proofs.Lists.{sumBelow-same, sumBelow-less, sumBelow-le, sumBelow-lt}
 use Rattle.theory.proofs.Below.{allBelow-fails, sumBelow-const, sumBelow-scale}
-use Rattle.theory.proofs.MaskLaws.{Within, Proper, statesHeld, states-pos, states-le, states-mono, states-rise}
+use Rattle.theory.proofs.MaskLaws.{Proper, statesHeld, states-pos, states-le, states-mono, states-rise}
 use Rattle.theory.proofs.Enqueue.{enqueue-length, distinct-length}
 use Rattle.theory.proofs.Invariant.{WellFormedGraph, Invariant, initial-keeps, visit-keeps, grew, queue, front-below, visited-at, visited-other, masks-at, masks-other, pulled-proper, waiting-next, was-visited, masks-same}
 

@@ -1,10 +1,10 @@
 -- What joins the back of the queue: the numbers that waited stay, the targets of the edges are added, and no number stands there twice.
 -- By induction on the list of edges. Assumes nothing.
-use Prim.Native.Nat.{ℕ, zero, suc, _+_, _*_, _≤_, _<_, zero-le}
+use Prim.Native.Nat.{ℕ, _+_, _*_, _≤_, _<_, zero-le}
 use mathlib.Core.Bool.{Bool, true, false, cond}
 use mathlib.Core.List.{List, [], _∷_, _++_, List·Memᴰ·head, List·Memᴰ·tail, List·Memᴰ·not-nil, List·Memᴰ·append-cases, List·Memᴰ·eq-of-singleton, Memᴰ·append-left, Memᴰ·append-right, Memᴰ·cast}
 use mathlib.Core.Logic.{_⊎_, inl, inr, ⊎-elim}
-use mathlib.Core.Path.{_≡_, refl, sym, ap, subst, _∙_}
+use mathlib.Core.Path.{_≡_, refl, sym, ap}
 use native.Mathlib.Omega.{arith}
 use borrow.Author.Tests.{eq-eqb, ne-eqb}
 use lib.ListN.{length, length-append}

@@ -2,18 +2,18 @@
 -- nothing else. So a solver may keep a union for each number and add to it. Steps are monotone and masks only grow. Assumes nothing.
 use Prim.Native.Nat.{ℕ, zero, suc, _<_}
 use mathlib.Core.Bool.{Bool, true, false, cond, not, _||_}
-use mathlib.Core.List.{List, [], _∷_}
+use mathlib.Core.List.{List, _∷_}
 use mathlib.Core.Logic.{⊎-elim}
 use mathlib.Core.Path.{_≡_, refl, sym, ap, subst, _∙_}
 use borrow.Author.Tests.{eqb-true, eq-eqb, not-false}
 use lib.Bits.{bitOr, or-lt, or-zero-r}
 use lib.Dec.{eqb}
 use Rattle.masks.specs.State.{State, holds}
-use Rattle.theory.specs.Lists.{In, allBelow}
-use Rattle.theory.specs.Queue.{Arc, Graph, Solver, stepAll, brings, unionBelow, pulled, changed, visit, initial}
+use Rattle.theory.specs.Lists.{allBelow}
+use Rattle.theory.specs.Queue.{Graph, Solver, stepAll, brings, unionBelow, pulled, changed, visit, initial}
 use Rattle.theory.proofs.Lists.{clash}
 use Rattle.theory.proofs.Below.{allBelow-at, allBelow-all}
-use Rattle.theory.proofs.MaskLaws.{Within, Proper, or-held, or-holds-left, or-holds-right, zero-holds, within-eq}
+use Rattle.theory.proofs.MaskLaws.{Within, or-held, or-holds-left, or-holds-right, zero-holds, within-eq}
 use Rattle.theory.proofs.Pulls.{Pulls, arc, Pulls-holds, holds-Pulls, pulled-lt, In-brings, brings-lt, brings-In}
 use Rattle.theory.proofs.Invariant.{WellFormedGraph, Invariant, grew, front-below, visited-at, masks-at, masks-other, pulled-proper, pulls-grow, pulls-cases, proper-kept, was-visited, masks-same}
 use Rattle.theory.proofs.Exact.{masks-below}
