@@ -1,19 +1,18 @@
 -- The deciders of body walks, calls, touched arrays and opacity say what the inductive types say, for every well-formed flow. Each is membership in a
 -- closure; the closures are exact because a well-formed flow's walks and calls stay below its size. Assumes nothing.
-use Prim.Native.Nat.{ℕ, zero, suc, _+_, _<_, _≤_}
+use Prim.Native.Nat.{ℕ, _<_}
 use mathlib.Core.Bool.{Bool, true, false, cond, _||_}
-use mathlib.Core.List.{List, [], _∷_, List·Memᴰ·not-nil, List·Memᴰ·eq-of-singleton}
+use mathlib.Core.List.{[], List·Memᴰ·not-nil, List·Memᴰ·eq-of-singleton, Memᴰ·cast}
 use mathlib.Core.Logic.{_⊎_, inl, inr, ⊎-elim}
 use mathlib.Core.Option.{Option, none, some}
-use mathlib.Core.Path.{_≡_, refl, sym, _∙_, ap, subst}
-use native.Mathlib.Omega.{arith}
+use mathlib.Core.Path.{_≡_, refl, subst}
 use Rattle.flow.specs.Flow.{Flow, size, enters}
-use Rattle.theory.specs.Lists.{In, any, has, concatMap, optionList, sumBelow}
-use Rattle.theory.specs.Reach.{Reach, reached}
+use Rattle.theory.specs.Lists.{In, any, has, optionList}
+use Rattle.theory.specs.Reach.{Reach}
 use Rattle.theory.specs.Body.{kind, successors, references, callLines, continuationOf, entered, ifSome, callees, isReturn, orElse, walkNext, Walks, walked, Calls, called, Touches, wipes, Calls⁺, Opaque, OpaqueCall, CallTouches, bodies, touches, onCycle, opaque, opaqueCall, callTouches}
 use Rattle.theory.specs.WellFormed.{WellFormed}
-use Rattle.theory.proofs.Lists.{clash, not-so, or-cases, or-left, or-right, any-In, any-find, any-none, none-any, In-has, has-In, concatMap-In, In-concatMap, In-optionList, sumBelow-lt}
-use Rattle.theory.proofs.Reach.{reach-trans, reach-first, reach-below, reached-sound, reached-complete}
+use Rattle.theory.proofs.Lists.{or-cases, or-left, or-right, same-test, any-In, any-find, In-has, has-In, concatMap-In, In-concatMap, In-optionList}
+use Rattle.theory.proofs.Reach.{reach-first, reach-below, reached-sound, reached-complete}
 
 -- Walks
 
@@ -37,13 +36,16 @@ calls-then k Reach.here = Calls⁺.one k
 calls-then {f} k (Reach.on {i = i} r m) = Calls⁺.more (calls-then k r) (called-sound f i m)
 
 -- no call, or one or more
-pub bodies-lead : {f : Flow} {e b : ℕ} → Reach (called f) e b → (b ≡ e) ⊎ Calls⁺ f e b
-bodies-lead Reach.here = inl refl
-bodies-lead {f} {e} {b} (Reach.on {i = i} r m) = inr (go (bodies-lead r))
+leads : {f : Flow} {e b : ℕ} → Reach (called f) e b → (b ≡ e) ⊎ Calls⁺ f e b
+leads Reach.here = inl refl
+leads {f} {e} {b} (Reach.on {i = i} r m) = inr (go (leads r))
   where
     go : (i ≡ e) ⊎ Calls⁺ f e i → Calls⁺ f e b
     go (inl q) = Calls⁺.one (subst (λ z. Calls f z b) q (called-sound f i m))
     go (inr k) = Calls⁺.more k (called-sound f i m)
+
+pub bodies-lead : (f : Flow) (e : ℕ) {b : ℕ} → In b (bodies f e) → (b ≡ e) ⊎ Calls⁺ f e b
+bodies-lead f e m = leads (bodies-sound f e m)
 
 module _ {f : Flow} (w : WellFormed f) where
   pub walkNext-below : (i j : ℕ) → In j (walkNext f i) → j < size f
@@ -97,8 +99,9 @@ module _ {f : Flow} (w : WellFormed f) where
       let s = then-calls l r in
       (s .0, s .1, Reach.on (s .2) (called-complete (reach-below called-below (called-below _ _ (s .1)) (s .2)) k))
 
-  pub lead-bodies : {e b : ℕ} → e < size f → Calls⁺ f e b → In b (bodies f e)
-  lead-bodies l k = let r = then-calls l k in bodies-complete l (reach-first (r .1) (r .2))
+  pub lead-bodies : {e b : ℕ} → e < size f → (b ≡ e) ⊎ Calls⁺ f e b → In b (bodies f e)
+  lead-bodies {e} l (inl q) = Memᴰ·cast q (bodies-complete l Reach.here)
+  lead-bodies l (inr k) = let r = then-calls l k in bodies-complete l (reach-first (r .1) (r .2))
 
 -- Touched arrays
 
@@ -203,3 +206,60 @@ module _ {f : Flow} (w : WellFormed f) where
   unfolding callTouches
   callTouches-complete {c} {a} (CallTouches.enters-touching {b = b} m t) =
       any-In (λ b. touches f b a) m (touches-complete (callees-below w c b m) t)
+
+  -- Summaries, statement by statement of the walk: a body's summary needs its calls, and a call's summary needs its bodies
+
+  abbrev touchesAt : ℕ → ℕ → Bool
+  touchesAt a i = has a (references f i) || callTouches f i a
+
+  touches-some : {a e : ℕ} → e < size f → Touches f a e → any (touchesAt a) (walked f e) ≡ true
+  touches-some {a} l (Touches.own {i = i} r m) =
+      any-In (touchesAt a) (walked-complete w l r) (or-left (has a (references f i)) (callTouches f i a) (In-has m))
+  touches-some {a} l (Touches.nested (Calls.calls {c = c} r m) t) =
+      any-In (touchesAt a) (walked-complete w l r)
+      (or-right (has a (references f c)) (callTouches f c a) (callTouches-complete (CallTouches.enters-touching m t)))
+
+  some-touches : {a e i : ℕ} → Walks f e i → (has a (references f i) ≡ true) ⊎ (callTouches f i a ≡ true) → Touches f a e
+  some-touches {a} {i = i} r (inl h) = Touches.own r (has-In a (references f i) h)
+  some-touches {a} {e} {i} r (inr h) = go (callTouches-sound f i a h)
+    where
+      go : CallTouches f i a → Touches f a e
+      go (CallTouches.enters-touching m t) = Touches.nested (Calls.calls r m) t
+
+  pub touches-equation : (e a : ℕ) → e < size f → touches f e a ≡ any (λ i. has a (references f i) || callTouches f i a) (walked f e)
+  touches-equation e a l =
+      same-test (touches f e a) (any (touchesAt a) (walked f e))
+      (λ h. touches-some l (touches-sound f e a h))
+      (λ h.
+      let r = any-find (touchesAt a) (walked f e) h in
+      touches-complete l (some-touches (walked-sound f e (r .1)) (or-cases (has a (references f (r .0))) (callTouches f (r .0) a) (r .2))))
+
+  abbrev opaqueAt : ℕ → Bool
+  opaqueAt i = wipes (kind f i) || opaqueCall f i
+
+  opaque-some : {e : ℕ} → e < size f → Opaque f e → (any opaqueAt (walked f e) || onCycle f e) ≡ true
+  opaque-some {e} l (Opaque.own {i = i} r h) =
+      or-left (any opaqueAt (walked f e)) (onCycle f e)
+      (any-In opaqueAt (walked-complete w l r) (or-left (wipes (kind f i)) (opaqueCall f i) h))
+  opaque-some {e} l (Opaque.calls (Calls.calls {c = c} r m) o) =
+      or-left (any opaqueAt (walked f e)) (onCycle f e)
+      (any-In opaqueAt (walked-complete w l r) (or-right (wipes (kind f c)) (opaqueCall f c) (opaqueCall-complete (OpaqueCall.enters-opaque m o))))
+  opaque-some {e} l (Opaque.cycle k) = or-right (any opaqueAt (walked f e)) (onCycle f e) (onCycle-complete l k)
+
+  some-opaque : {e i : ℕ} → Walks f e i → (wipes (kind f i) ≡ true) ⊎ (opaqueCall f i ≡ true) → Opaque f e
+  some-opaque r (inl h) = Opaque.own r h
+  some-opaque {e} {i} r (inr h) = go (opaqueCall-sound f i h)
+    where
+      go : OpaqueCall f i → Opaque f e
+      go (OpaqueCall.enters-opaque m o) = Opaque.calls (Calls.calls r m) o
+
+  pub opaque-equation : (e : ℕ) → e < size f → opaque f e ≡ (any (λ i. wipes (kind f i) || opaqueCall f i) (walked f e) || onCycle f e)
+  opaque-equation e l =
+      same-test (opaque f e) (any opaqueAt (walked f e) || onCycle f e)
+      (λ h. opaque-some l (opaque-sound f e h))
+      (λ h. opaque-complete l (⊎-elim by-walk (λ k. Opaque.cycle (onCycle-sound f e k)) (or-cases (any opaqueAt (walked f e)) (onCycle f e) h)))
+    where
+      by-walk : any opaqueAt (walked f e) ≡ true → Opaque f e
+      by-walk k =
+          let r = any-find opaqueAt (walked f e) k in
+          some-opaque (walked-sound f e (r .1)) (or-cases (wipes (kind f (r .0))) (opaqueCall f (r .0)) (r .2))

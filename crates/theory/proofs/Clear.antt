@@ -1,17 +1,17 @@
 -- A body that is not opaque is clear: nothing on its walk wipes, and every body that it calls is clear. That this is well founded follows from the
 -- number of bodies that calls lead to, which falls with each call off a cycle. Clear and opaque exclude each other. Assumes nothing.
-use Prim.Native.Nat.{ℕ, zero, suc, _+_, _<_, _≤_}
-use mathlib.Core.Bool.{Bool, true, false, cond, _||_}
-use mathlib.Core.Path.{_≡_, refl, sym, _∙_, ap, subst}
+use Prim.Native.Nat.{ℕ, zero, suc, _<_, _≤_}
+use mathlib.Core.Bool.{Bool, true, false, cond}
+use mathlib.Core.Path.{_≡_, refl}
 use native.Mathlib.Omega.{arith}
 use Rattle.flow.specs.Flow.{Flow, size}
-use Rattle.theory.specs.Lists.{In, any, has, sumBelow}
+use Rattle.theory.specs.Lists.{In, has, sumBelow}
 use Rattle.theory.specs.Reach.{Reach}
-use Rattle.theory.specs.Body.{kind, callees, Walks, Calls, called, wipes, Calls⁺, Opaque, OpaqueCall, bodies, onCycle, opaque, opaqueCall}
+use Rattle.theory.specs.Body.{kind, callees, Walks, Calls, wipes, Calls⁺, Opaque, OpaqueCall, bodies, opaque, opaqueCall}
 use Rattle.theory.specs.WellFormed.{WellFormed}
-use Rattle.theory.proofs.Lists.{clash, not-so, any-none, In-has, has-In, sumBelow-lt}
+use Rattle.theory.proofs.Lists.{clash, not-so, In-has, has-In, sumBelow-lt}
 use Rattle.theory.proofs.Reach.{reach-first}
-use Rattle.theory.proofs.Body.{bodies-sound, bodies-complete, called-sound, called-complete, calls-then, calls-below, callees-below, opaque-sound, opaque-complete, opaqueCall-sound, opaqueCall-complete}
+use Rattle.theory.proofs.Body.{bodies-sound, bodies-complete, called-complete, calls-then, calls-below, callees-below, opaque-sound, opaque-complete, opaqueCall-sound, opaqueCall-complete}
 
 pub data Clear (f : Flow) : ℕ → Type 0 where
   clear : {e : ℕ} → ((i : ℕ) → Walks f e i → wipes (kind f i) ≡ false) → ((b : ℕ) → Calls f e b → Clear f b) → Clear f e

@@ -2,20 +2,19 @@
 -- 3 × arrays less the states it holds once visited; what waits, with the sum of edges × what is owed, falls at each visit. Assumes nothing.
 use Prim.Native.Nat.{ℕ, zero, suc, _+_, _-_, _*_, _≤_, _<_}
 use mathlib.Core.Bool.{Bool, true, false, cond, not, _||_}
-use mathlib.Core.List.{List, [], _∷_, cons≢nil}
-use mathlib.Core.Logic.{_⊎_, inl, inr}
+use mathlib.Core.List.{List, [], _∷_}
 use mathlib.Core.Path.{_≡_, refl, sym, ap, ap₂, subst, _∙_}
 use native.Mathlib.Nat.{mul-le-mul-left, mul-add, zero-add, suc-add, add-comm, le-refl}
 use native.Mathlib.Omega.{arith}
-use borrow.Author.Tests.{eqb-true, eqb-false, eq-eqb, not-true}
+use borrow.Author.Tests.{eqb-false, eq-eqb, not-true}
 use lib.Dec.{eqb}
 use lib.ListN.{length}
-use Rattle.theory.specs.Lists.{In, sumBelow}
-use Rattle.theory.specs.Queue.{Arc, Graph, Solver, pulled, changed, enqueue, visit, visitFront, visitTimes, initial, arcCount, visitBound, solved}
-use Rattle.theory.proofs.Lists.{clash, sumBelow-same, sumBelow-less, sumBelow-le, sumBelow-lt}
+use Rattle.theory.specs.Lists.{sumBelow}
+use Rattle.theory.specs.Queue.{Graph, Solver, pulled, changed, visit, visitFront, visitTimes, initial, arcCount, visitBound, solved}
+use Rattle.theory.proofs.Lists.{sumBelow-same, sumBelow-less, sumBelow-le, sumBelow-lt}
 use Rattle.theory.proofs.Below.{allBelow-fails, sumBelow-const, sumBelow-scale}
-use Rattle.theory.proofs.MaskLaws.{Within, Proper, statesHeld, states-pos, states-le, states-mono, states-rise}
-use Rattle.theory.proofs.Enqueue.{enqueue-length}
+use Rattle.theory.proofs.MaskLaws.{Proper, statesHeld, states-pos, states-le, states-mono, states-rise}
+use Rattle.theory.proofs.Enqueue.{enqueue-length, distinct-length}
 use Rattle.theory.proofs.Invariant.{WellFormedGraph, Invariant, initial-keeps, visit-keeps, grew, queue, front-below, visited-at, visited-other, masks-at, masks-other, pulled-proper, waiting-next, was-visited, masks-same}
 
 -- the states that a number holds, over all arrays
@@ -241,3 +240,37 @@ stopped k g wf e =
 pub no-visits : (g : Graph) → g .nodes ≡ 0 → solved g ≡ initial g
 unfolding solved initial
 no-visits g e = stops (visitBound g) g (initial g) (subst (λ b. cond b [] (g .entry ∷ []) ≡ []) (sym (eq-eqb (g .nodes) 0 e)) refl)
+
+-- What the rule comes to, for a solver that goes visit by visit
+
+-- a state that the rule comes to after so many visits
+pub record RuleState (g : Graph) (st : Solver) : Type 0 where
+  pub times : ℕ
+  pub comes : visitTimes times g (initial g) ≡ st
+
+pub rule-starts : (g : Graph) → RuleState g (initial g)
+unfolding visitTimes
+rule-starts g = record { times = 0; comes = refl }
+
+pub rule-visits : {g : Graph} {st : Solver} {d : ℕ} {w : List ℕ} → RuleState g st → st .waiting ≡ d ∷ w → RuleState g (visit g st d w)
+unfolding visitTimes visitFront
+rule-visits {g} {st} {d} {w} r e = record {
+  times = r .times + 1;
+  comes = times-add (r .times) 1 g (initial g)
+      ∙ (ap (λ (x : Solver). visitFront g x (x .waiting)) (r .comes)
+      ∙ ap (λ (l : List ℕ). visitFront g st l) e);
+}
+
+pub rule-keeps : {g : Graph} {st : Solver} → WellFormedGraph g → RuleState g st → Invariant g st
+rule-keeps {g} wf r = subst (λ (x : Solver). Invariant g x) (r .comes) (times-keep (r .times) g wf (initial g) (initial-keeps g wf))
+
+pub rule-bound : {g : Graph} {st : Solver} → WellFormedGraph g → RuleState g st → st .visits + potential g st ≤ visitBound g
+rule-bound {g} wf r = subst (λ (x : Solver). x .visits + potential g x ≤ visitBound g) (r .comes) (within-bound (r .times) g wf)
+
+-- where nothing waits it is what the rule leaves
+pub rule-ends : {g : Graph} {st : Solver} → WellFormedGraph g → RuleState g st → st .waiting ≡ [] → st ≡ solved g
+rule-ends {g} wf r e = sym (r .comes) ∙ stopped (r .times) g wf (ap (λ (x : Solver). x .waiting) (r .comes) ∙ e)
+
+-- the numbers that wait are no more than the graph has
+pub waiting-length : {g : Graph} {st : Solver} → Invariant g st → length (st .waiting) ≤ g .nodes
+waiting-length {g} {st} inv = distinct-length (g .nodes) (st .waiting) (inv .waiting-once) (inv .waiting-below)

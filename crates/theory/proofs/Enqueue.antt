@@ -1,15 +1,17 @@
 -- What joins the back of the queue: the numbers that waited stay, the targets of the edges are added, and no number stands there twice.
 -- By induction on the list of edges. Assumes nothing.
-use Prim.Native.Nat.{ℕ, zero, suc, _+_, _≤_}
+use Prim.Native.Nat.{ℕ, _+_, _*_, _≤_, _<_, zero-le}
 use mathlib.Core.Bool.{Bool, true, false, cond}
 use mathlib.Core.List.{List, [], _∷_, _++_, List·Memᴰ·head, List·Memᴰ·tail, List·Memᴰ·not-nil, List·Memᴰ·append-cases, List·Memᴰ·eq-of-singleton, Memᴰ·append-left, Memᴰ·append-right, Memᴰ·cast}
 use mathlib.Core.Logic.{_⊎_, inl, inr, ⊎-elim}
-use mathlib.Core.Path.{_≡_, refl, sym, ap, subst, _∙_}
+use mathlib.Core.Path.{_≡_, refl, sym, ap}
 use native.Mathlib.Omega.{arith}
+use borrow.Author.Tests.{eq-eqb, ne-eqb}
 use lib.ListN.{length, length-append}
-use Rattle.theory.specs.Lists.{In, has}
+use Rattle.theory.specs.Lists.{In, has, sumBelow}
 use Rattle.theory.specs.Queue.{Arc, enqueue}
-use Rattle.theory.proofs.Lists.{member-cases, has-In, has-not}
+use Rattle.theory.proofs.Lists.{member-cases, not-so, has-In, has-not, sumBelow-less, sumBelow-le}
+use Rattle.theory.proofs.Below.{sumBelow-const}
 
 -- no number stands in the list twice
 pub data Distinct : List ℕ → Type 0 where
@@ -93,3 +95,38 @@ pub enqueue-distinct : (es : List Arc) (w : List ℕ) → Distinct w → Distinc
 unfolding enqueue
 enqueue-distinct [] w d = d
 enqueue-distinct (e ∷ es) w d = enqueue-distinct es (join w (e .to)) (join-distinct w (e .to) d)
+
+-- numbers below n that stand in a list once are at most n
+
+abbrev mark : List ℕ → ℕ → ℕ
+mark l i = cond (has i l) 1 0
+
+mark-one : (l : List ℕ) (i : ℕ) → mark l i ≤ 1
+mark-one l i = go (has i l)
+  where
+    go : (b : Bool) → cond b 1 0 ≤ 1
+    go true = omega arith
+    go false = omega arith
+
+mark-self : (x : ℕ) (l : List ℕ) → (In x l → ⊥) → mark (x ∷ l) x ≡ mark l x + 1
+unfolding has
+mark-self x l f = rw (eq-eqb x x refl, not-so (has x l) (λ e. f (has-In x l e)))
+
+mark-other : (x : ℕ) (l : List ℕ) (i : ℕ) → (i ≡ x → ⊥) → mark (x ∷ l) i ≡ mark l i
+unfolding has
+mark-other x l i n = rw (ne-eqb i x n)
+
+distinct-count : (n : ℕ) (l : List ℕ) → Distinct l → ((x : ℕ) → In x l → x < n) → length l ≤ sumBelow n (mark l)
+distinct-count n [] d h = zero-le
+distinct-count n (x ∷ l) (more f d) h =
+    let k : length l ≤ sumBelow n (mark l) = distinct-count n l d (λ y m. h y (List·Memᴰ·tail m)) in
+    let e : sumBelow n (mark (x ∷ l)) ≡ sumBelow n (mark l) + 1 =
+    sumBelow-less n (mark (x ∷ l)) (mark l) x 1 (h x (List·Memᴰ·head refl)) (mark-other x l) (mark-self x l f) in
+    omega arith
+
+pub distinct-length : (n : ℕ) (l : List ℕ) → Distinct l → ((x : ℕ) → In x l → x < n) → length l ≤ n
+distinct-length n l d h =
+    let counted : length l ≤ sumBelow n (mark l) = distinct-count n l d h in
+    let each : sumBelow n (mark l) ≤ sumBelow n (λ i. 1) = sumBelow-le n (mark l) (λ i. 1) (λ i k. mark-one l i) in
+    let all : sumBelow n (λ i. 1) ≡ n * 1 = sumBelow-const n 1 in
+    omega arith

@@ -2,14 +2,14 @@
 -- invariant; that every brought state is held goes by induction on the walk, since each number on it is settled. Assumes nothing.
 use Prim.Native.Nat.{ℕ, _<_}
 use mathlib.Core.Bool.{Bool, true, false}
-use mathlib.Core.List.{List, [], _∷_, List·Memᴰ·not-nil}
+use mathlib.Core.List.{[], List·Memᴰ·not-nil}
 use mathlib.Core.Path.{_≡_, refl, sym, subst}
 use lib.Dec.{lit<}
 use Rattle.masks.specs.State.{State, holds}
 use Rattle.theory.specs.Lists.{In}
 use Rattle.theory.specs.Queue.{Arc, Graph, Solver, pulled, solved}
 use Rattle.theory.specs.Walks.{Turns, Brings, empty, along}
-use Rattle.theory.proofs.MaskLaws.{Within, Proper, some-held, all-carries}
+use Rattle.theory.proofs.MaskLaws.{Within, some-held, all-carries}
 use Rattle.theory.proofs.Pulls.{boundary, arc, Pulls-holds}
 use Rattle.theory.proofs.Invariant.{WellFormedGraph, Invariant, Due, entry, after, Settled, waits, done}
 use Rattle.theory.proofs.Ends.{solved-keeps, solved-ends}

@@ -1,19 +1,19 @@
 -- The queue rule's invariant: one record over a solver's state, whose fields say what waits, what was visited and what its masks hold.
 -- It holds at the start and each visit keeps it, a lemma a field. Assumes nothing.
-use Prim.Native.Nat.{ℕ, zero, suc, _+_, _≤_, _<_}
+use Prim.Native.Nat.{ℕ, _<_}
 use mathlib.Core.Bool.{Bool, true, false, cond, not, _||_}
 use mathlib.Core.List.{List, [], _∷_, List·Memᴰ·head, List·Memᴰ·tail, List·Memᴰ·not-nil, List·Memᴰ·eq-of-singleton}
-use mathlib.Core.Logic.{_⊎_, inl, inr, ⊎-elim}
+use mathlib.Core.Logic.{⊎-elim}
 use mathlib.Core.Path.{_≡_, refl, sym, ap, subst, _∙_}
 use native.Mathlib.Decide.{ℕ-discrete}
 use native.Mathlib.Omega.{arith}
-use borrow.Author.Tests.{eqb-true, eqb-false, not-true, not-false}
+use borrow.Author.Tests.{eqb-true, eqb-false, not-false}
 use lib.Dec.{eqb}
 use Rattle.masks.specs.State.{State, holds}
-use Rattle.theory.specs.Lists.{In, has, allBelow, upd}
-use Rattle.theory.specs.Queue.{Arc, Graph, Solver, stepAll, pulled, changed, enqueue, visit, visitFront, initial}
-use Rattle.theory.specs.Walks.{Turns, Brings, empty, along}
-use Rattle.theory.proofs.Lists.{clash, or-cases, member-cases, has-In, has-not}
+use Rattle.theory.specs.Lists.{In, has}
+use Rattle.theory.specs.Queue.{Arc, Graph, Solver, stepAll, pulled, changed, enqueue, visit, initial}
+use Rattle.theory.specs.Walks.{Brings, empty, along}
+use Rattle.theory.proofs.Lists.{clash, member-cases, has-In, has-not}
 use Rattle.theory.proofs.MaskLaws.{Within, Proper, zero-holds, held-pos, some-held, all-proper, all-comes, all-mono}
 use Rattle.theory.proofs.Pulls.{upd-same, upd-other, Pulls, boundary, arc, Pulls-holds, holds-Pulls, pulled-lt}
 use Rattle.theory.proofs.Below.{allBelow-at}

@@ -3,6 +3,7 @@ pub mod Reach
 pub mod Body
 pub mod Clear
 pub mod Live
+pub mod Names
 pub mod Cases
 pub mod MaskLaws
 pub mod Pulls
@@ -11,6 +12,7 @@ pub mod Enqueue
 pub mod Invariant
 pub mod Ends
 pub mod Exact
+pub mod Push
 pub mod Edges
 pub mod Acts
 pub mod Runs

@@ -2,19 +2,19 @@
 -- equations hold of them, and they are the least that satisfy these; a self loop with no read shows that the equations alone have another solution. Assumes nothing.
 use Prim.Native.Nat.{ℕ, zero, suc, _<_}
 use mathlib.Core.Bool.{Bool, true, false, cond, not, _&&_, _||_}
-use mathlib.Core.List.{List, [], _∷_, List·Memᴰ·not-nil}
-use mathlib.Core.Logic.{_⊎_, inl, inr, ⊎-elim}
-use mathlib.Core.Path.{_≡_, refl, sym, _∙_, ap, subst}
+use mathlib.Core.List.{[], _∷_, List·Memᴰ·not-nil}
+use mathlib.Core.Logic.{_⊎_, inl, inr}
+use mathlib.Core.Path.{_≡_, refl, _∙_, ap}
 use native.Mathlib.Nat.{zero-div}
 use native.Mathlib.Omega.{arith}
 use borrow.Author.Tests.{not-true}
-use Rattle.flow.specs.Flow.{Flow, Kind, Statement, size}
+use Rattle.flow.specs.Flow.{Flow, Kind, size}
 use Rattle.theory.specs.Lists.{In, any, has, sumBelow}
 use Rattle.theory.specs.Reach.{Reach, closure, closureFuel, reached}
 use Rattle.theory.specs.Body.{successors}
 use Rattle.theory.specs.WellFormed.{WellFormed}
 use Rattle.theory.specs.Live.{reads, writes, LiveIn, LiveOut, unwritten, liveIn, liveOut, Equations}
-use Rattle.theory.proofs.Lists.{clash, or-cases, or-left, or-right, and-both, and-true, same-test, any-In, any-find}
+use Rattle.theory.proofs.Lists.{or-cases, or-left, or-right, and-both, and-true, same-test, any-In, any-find}
 use Rattle.theory.proofs.Reach.{reach-first, reached-sound, reached-complete}
 
 -- a walk goes on from a statement that does not write the name

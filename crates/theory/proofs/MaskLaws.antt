@@ -1,7 +1,7 @@
 -- Laws of masks that the queue rule's proof rests on: what a union holds, what a chain of effects keeps, and how many states a mask holds.
 -- The chain's laws follow from the step's by induction; the others are tests that antt computes at the masks 0 to 7. Assumes nothing.
-use Prim.Native.Nat.{ℕ, zero, suc, _+_, _*_, _/_, _%_, _^_, _≤_, _<_, max}
-use mathlib.Core.Bool.{Bool, true, false, cond, not, _&&_, _||_}
+use Prim.Native.Nat.{ℕ, zero, suc, _+_, _/_, _%_, _^_, _≤_, _<_, max}
+use mathlib.Core.Bool.{Bool, true, false, cond, _||_}
 use mathlib.Core.List.{List, [], _∷_}
 use mathlib.Core.Logic.{_⊎_, inl, inr, _≢_}
 use mathlib.Core.Path.{_≡_, refl, sym, ap, subst, _∙_}
@@ -9,12 +9,12 @@ use native.Mathlib.Nat.{mod-lt, zero-lt-suc}
 use native.Mathlib.Omega.{arith}
 use borrow.Author.Tests.{ne-eqb}
 use lib.Bits.{bitOr, or-shr, or-step}
-use lib.Dec.{T, eqb, ltb, leb, ltb→lt, lt→ltb, leb→le, not-T, eqb→eq, lit<}
+use lib.Dec.{T, eqb, ltb, leb, lt→ltb, leb→le}
 use Rattle.masks.specs.declared.Effect.{Effect}
 use Rattle.masks.specs.Step.{stepOf}
-use Rattle.masks.specs.State.{State, none, auto, dimmed, stateBit, holds, turns}
+use Rattle.masks.specs.State.{State, none, auto, dimmed, stateBit, holds}
 use Rattle.masks.proofs.Laws.{step-lt, step-pos, step-carries, step-comes, holds-ext}
-use Rattle.masks.proofs.Finite.{implies, implied, alike, alike→eq, everyBelow, at-below, everyState, at-state, all-states}
+use Rattle.masks.proofs.Finite.{implies, implied, alike, alike→eq, everyBelow, at-below, everyState, all-states}
 use Rattle.theory.specs.Queue.{stepAll}
 use Rattle.theory.specs.Walks.{Turns, same, then}
 use Rattle.theory.proofs.Lists.{clash, or-cases, or-left, or-right, same-test}

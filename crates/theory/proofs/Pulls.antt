@@ -3,7 +3,7 @@
 use Prim.Native.Nat.{ℕ, zero, suc, _<_}
 use mathlib.Core.Bool.{Bool, true, false, cond}
 use mathlib.Core.List.{List, [], _∷_, List·Memᴰ·head, List·Memᴰ·tail}
-use mathlib.Core.Logic.{_⊎_, inl, inr, ⊎-elim}
+use mathlib.Core.Logic.{⊎-elim}
 use mathlib.Core.Path.{_≡_, refl, sym, ap, subst, _∙_}
 use native.Mathlib.Omega.{arith}
 use borrow.Author.Tests.{eqb-true, eqb-false, eq-eqb, ne-eqb}
@@ -12,7 +12,6 @@ use lib.Dec.{eqb, lit<}
 use Rattle.masks.specs.State.{State, holds}
 use Rattle.theory.specs.Lists.{In, upd}
 use Rattle.theory.specs.Queue.{Arc, Graph, Solver, stepAll, brings, unionBelow, pulled}
-use Rattle.theory.proofs.Lists.{clash}
 use Rattle.theory.proofs.MaskLaws.{Proper, or-held, or-holds-left, or-holds-right, zero-holds, all-proper}
 
 -- a function with one value changed

@@ -1,16 +1,15 @@
 -- The closure `reached` lists exactly what a walk reaches, where the next numbers stay below n. Sound: what is seen or to do is reachable. Complete: what is
 -- seen is closed up to what is to do, and the fuel lasts, since each number's next list is pushed once. Assumes nothing.
 use Prim.Native.Nat.{ℕ, zero, suc, _+_, _<_}
-use mathlib.Core.Bool.{Bool, true, false, cond, _||_}
+use mathlib.Core.Bool.{Bool, true, false, cond}
 use mathlib.Core.List.{List, [], _∷_, _++_, List·Memᴰ·head, List·Memᴰ·tail, List·Memᴰ·not-nil, List·Memᴰ·append-cases, List·Memᴰ·eq-of-singleton, Memᴰ·cast, Memᴰ·append-left, Memᴰ·append-right}
 use mathlib.Core.Logic.{_⊎_, inl, inr, ⊎-elim}
-use mathlib.Core.Path.{_≡_, refl, sym, _∙_, ap, subst}
+use mathlib.Core.Path.{_≡_, refl, sym, subst}
 use native.Mathlib.Omega.{arith}
-use lib.Dec.{eqb}
 use lib.ListN.{length, length-append}
 use borrow.Author.Tests.{eq-eqb, ne-eqb}
 use Rattle.theory.specs.Lists.{In, has, sumBelow}
-use Rattle.theory.specs.Reach.{Reach, Reach⁺, closure, closureFuel, reached}
+use Rattle.theory.specs.Reach.{Reach, closure, closureFuel, reached}
 use Rattle.theory.proofs.Lists.{has-In, member-cases, sumBelow-less}
 
 -- Walks

@@ -1,20 +1,18 @@
 -- Terms 1, 2 and 3 for a flow: the queue rule over its doubled graph ends within the bound, a statement's mask holds a state exactly when a walk brings
 -- it to one of the two copies, and what a run finds is in it. The doubled graph is well formed, and the theorems over any graph apply. Assumes nothing.
 use Prim.Native.Nat.{ℕ, _+_, _≤_, _<_}
-use mathlib.Core.Bool.{Bool, true, false}
-use mathlib.Core.List.{List, [], _∷_}
-use mathlib.Core.Logic.{_⊎_, inl, inr, ⊎-elim}
-use mathlib.Core.Path.{_≡_, refl, sym, ap, ap₂, subst, _∙_}
+use mathlib.Core.Bool.{true}
+use mathlib.Core.List.{[]}
+use mathlib.Core.Logic.{⊎-elim}
+use mathlib.Core.Path.{_≡_, sym, ap, ap₂, subst}
 use native.Mathlib.Omega.{arith}
 use lib.Bits.{bitOr, or-lt}
 use lib.Dec.{lit<}
 use Rattle.masks.specs.State.{State, holds}
 use Rattle.flow.specs.Flow.{Flow, size}
-use Rattle.theory.specs.Lists.{In}
 use Rattle.theory.specs.WellFormed.{WellFormed}
-use Rattle.theory.specs.Queue.{Arc, Graph, Solver, solved, initial, visitBound}
-use Rattle.theory.specs.Walks.{Brings}
-use Rattle.theory.specs.Doubled.{Base, Node, Edge, at, number, node, edges, edgeEffects, boundary, arcsOf, doubled}
+use Rattle.theory.specs.Queue.{Arc, Solver, solved, initial, visitBound}
+use Rattle.theory.specs.Doubled.{Base, Edge, at, number, node, edges, edgeEffects, boundary, arcsOf, doubled}
 use Rattle.theory.specs.Masks.{nodeMask, maskOf, visitsOf, BringsTo, copy}
 use Rattle.theory.specs.Runs.{Config, Run, Listed}
 use Rattle.theory.proofs.Lists.{In-map}
