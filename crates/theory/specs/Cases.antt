@@ -112,6 +112,26 @@ enteredContinuation = record {
   lines = line 20 1 ∷ line 30 2 ∷ [];
 }
 
+-- the loop brings AUTO to statement 1 at its second visit only, and statement 2 must hear of it
+abbrev pub secondVisit : Flow
+secondVisit = record {
+  arrays = 1;
+  names = 0;
+  entry = 0;
+  statements = stmt 10 Kind.other (1 ∷ []) [] 0 0 ∷ stmt 20 Kind.other (2 ∷ []) [] 0 0 ∷ stmt 30 Kind.other (1 ∷ []) (0 ∷ []) 0 0 ∷ [];
+  lines = [];
+}
+
+-- no walk comes to statement 2, so its edge brings nothing; statement 1 is listed twice and waits once
+abbrev pub unvisited : Flow
+unvisited = record {
+  arrays = 1;
+  names = 0;
+  entry = 0;
+  statements = stmt 10 Kind.other (1 ∷ 1 ∷ []) [] 0 0 ∷ stmt 20 Kind.other [] [] 0 0 ∷ stmt 30 (Kind.dim (item 0 1 ∷ [])) (1 ∷ []) [] 0 0 ∷ [];
+  lines = [];
+}
+
 abbrev pub masksOf : Flow → List ℕ
 masksOf f = concatMap (λ i. map (maskOf f i) (upTo (f .arrays))) (upTo (size f))
 
@@ -139,4 +159,6 @@ cases =
     ∷ record { flow = dimFlag0; masks = 1 ∷ 2 ∷ 1 ∷ 2 ∷ []; visits = 4 }
     ∷ record { flow = sharedReturn; masks = 1 ∷ 1 ∷ 2 ∷ 1 ∷ 3 ∷ []; visits = 6 }
     ∷ record { flow = enteredContinuation; masks = 1 ∷ 1 ∷ 3 ∷ 2 ∷ 3 ∷ []; visits = 5 }
+    ∷ record { flow = secondVisit; masks = 1 ∷ 3 ∷ 3 ∷ []; visits = 6 }
+    ∷ record { flow = unvisited; masks = 1 ∷ 1 ∷ 0 ∷ []; visits = 2 }
     ∷ []
