@@ -7,7 +7,7 @@ use mathlib.Core.Path.{_≡_, refl}
 use lib.Dec.{lit<}
 use native.Mathlib.Omega.{arith}
 use Rattle.masks.specs.State.{State}
-use Rattle.flow.specs.Flow.{Kind, findLine}
+use Rattle.flow.specs.Flow.{Kind, firstOf}
 use Rattle.theory.specs.Lists.{In, any, has, concatMap, optionList}
 use Rattle.theory.specs.Body.{kind, successors, entered}
 use Rattle.theory.specs.Doubled.{kindEffects, statementEffects}
@@ -16,7 +16,7 @@ use Rattle.theory.specs.Cases.{p5, p5On, p8}
 
 -- GOSUB 30, its reference, RETURN to statement 1
 pub p5-run : (s : ℕ → State) × Run p5 (config 1 s []) × (s 0 ≡ State.auto)
-unfolding entered concatMap optionList findLine act becomeAll statementEffects kindEffects has any
+unfolding entered concatMap optionList firstOf act becomeAll statementEffects kindEffects has any
 p5-run = (
   _,
   Run.move
@@ -30,7 +30,7 @@ clash h = omega arith
 
 -- P5 keeps the premise, so term 3 speaks of this run
 pub p5-listed : Listed p5
-unfolding entered concatMap optionList findLine
+unfolding entered concatMap optionList firstOf
 p5-listed = record { enters = entering; after = passing }
   where
     entering : (i e : ℕ) → In e (entered p5 i) → In e (successors p5 i)
@@ -54,7 +54,7 @@ skip-run = (_, Run.move (Run.start (lit< tt)) (Move.skip refl), refl)
 
 -- CLR in the subroutine empties the stack
 pub p8-run : (s : ℕ → State) × Run p8 (config 3 s [])
-unfolding entered concatMap optionList findLine
+unfolding entered concatMap optionList firstOf
 p8-run = (_, Run.move (Run.move (Run.start (lit< tt)) (Move.gosub refl (List·Memᴰ·head refl))) (Move.clear refl (List·Memᴰ·head refl)))
 
 -- and RETURN then ends the run
