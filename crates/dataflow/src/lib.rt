@@ -1,0 +1,3 @@
+// `array_states` and live names: the answer to a flow file.
+pub mod answer;
+pub mod arrays;
