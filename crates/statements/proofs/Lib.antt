@@ -1,3 +1,4 @@
 pub mod WorkArea
 pub mod Keeps
 pub mod ByNumber
+pub mod MembersWord
