@@ -2,3 +2,4 @@ pub mod WorkArea
 pub mod Keeps
 pub mod ByNumber
 pub mod MembersWord
+pub mod WellFormed
