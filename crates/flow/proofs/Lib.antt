@@ -1,2 +1,4 @@
 pub mod Verdicts
 pub mod Numbers
+pub mod Answers
+pub mod Tests

@@ -55,3 +55,4 @@ pub enum Checked {
 }
 
 mod bytes;
+pub mod check;
