@@ -1,15 +1,15 @@
 -- The answers for a part of a file from its checks, one by one: a part is refused at its first unfit check and passed where none is.
 -- By the laws of verdicts.
-use Prim.Native.Nat.{ℕ}
+use Prim.Native.Nat.{ℕ, _+_, _<_}
 use native.Mathlib.Omega.{arith}
 use mathlib.Core.List.{List, _++_}
 use mathlib.Core.Path.{_≡_, refl, sym, ap, _∙_}
 use Rattle.flow.specs.declared.Refusal.{Refusal}
 use Rattle.flow.specs.declared.Passed.{Passed}
 use Rattle.flow.specs.declared.Passed.the-variants.{To, Unfit}
-use Rattle.flow.specs.Format.{Check, Verdict, fit, unfit, verdict}
+use Rattle.flow.specs.Format.{Check, Verdict, fit, unfit, verdict, each}
 use Rattle.flow.specs.Answers.{passedOf}
-use Rattle.flow.proofs.Verdicts.{AllHold, all-fit, StopsAt, refusalAt, stops-at, fit-append, unfit-append}
+use Rattle.flow.proofs.Verdicts.{AllHold, all-fit, StopsAt, refusalAt, stops-at, fit-append, unfit-append, unfit-at, fit-more}
 
 -- from a verdict that is known
 
@@ -42,6 +42,20 @@ onward cs ds e h = ap (λ v. passedOf v e) (sym (fit-append cs ds h))
 
 pub refused-first : (cs ds : List Check) (e : ℕ) {r : Refusal} → verdict cs ≡ unfit r → Unfit r ≡ passedOf (verdict (cs ++ ds)) e
 refused-first cs ds e h = refused-by (cs ++ ds) e (unfit-append cs ds h)
+
+-- element by element, after a part that is fit: elements before the first unfit one are fit
+
+pub refused-element : (cs : List Check) (k n j : ℕ) (f : ℕ → List Check) (e : ℕ) → verdict cs ≡ fit → k < n → verdict (each k f) ≡ fit
+    → StopsAt j (f k) → Unfit (refusalAt j (f k)) ≡ passedOf (verdict (cs ++ each n f)) e
+refused-element cs k n j f e h l i u =
+    refused-by (cs ++ each n f) e (fit-append cs (each n f) h ∙ unfit-at k n f l i (stops-at j (f k) u))
+
+pub passed-elements : (cs : List Check) (n : ℕ) (f : ℕ → List Check) (q e : ℕ) → q ≡ e → verdict cs ≡ fit → verdict (each n f) ≡ fit
+    → To q ≡ passedOf (verdict (cs ++ each n f)) e
+passed-elements cs n f q e there h i = ap To there ∙ passed-by (cs ++ each n f) e (fit-append cs (each n f) h ∙ i)
+
+pub one-more : (k : ℕ) (f : ℕ → List Check) → verdict (each k f) ≡ fit → AllHold (f k) → verdict (each (k + 1) f) ≡ fit
+one-more k f h i = fit-more k f h (all-fit (f k) i)
 
 -- what an answer says of the verdict
 

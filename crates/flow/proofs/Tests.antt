@@ -5,8 +5,10 @@ use native.Mathlib.Omega.{arith}
 use native.Mathlib.Decide.{decLe}
 use mathlib.Core.Bool.{Bool, true, false, _||_}
 use mathlib.Core.Logic.{_⊎_, inl, inr}
-use mathlib.Core.Path.{_≡_, refl}
-use lib.Dec.{ltb, eqb}
+use native.Mathlib.Nat.{add-sub-cancel}
+use native.Mathlib.Numerals.{add-one}
+use mathlib.Core.Path.{_≡_, refl, sym}
+use lib.Dec.{leb, ltb, eqb, leb·zero}
 use borrow.Author.Tests.{le-leb, lt-leb, lt-ltb, le-ltb, eq-eqb, ne-eqb, eqb-false}
 
 -- A rule of `omega` has one premise: this number is 0 where a is b or m is below n, and only there.
@@ -36,3 +38,13 @@ lt-or-le a b = go (decLe b a)
     go : Dec (b ≤ a) → (a < b) ⊎ (b ≤ a)
     go (yes h) = inr h
     go (no h) = inl (omega arith)
+
+-- Rising numbers f 0, f 1, ..: `least` is the smallest number that may stand at k.
+pub record Rises (f : ℕ → ℕ) (k least : ℕ) : Type 0 where
+  pub follows : (x : ℕ) → (eqb k 0 || ltb (f (k - 1)) x) ≡ leb least x
+
+pub rises-first : (f : ℕ → ℕ) → Rises f 0 0
+rises-first f = record { follows = λ x. sym (leb·zero x) }
+
+pub rises-next : (f : ℕ → ℕ) (k v : ℕ) → v ≡ f k → Rises f (k + 1) (v + 1)
+rises-next f k v h = record { follows = λ x. rw (ne-eqb (k + 1) 0 (λ z. omega arith), add-sub-cancel k 1, add-one, h) }
