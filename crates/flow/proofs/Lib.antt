@@ -2,3 +2,10 @@ pub mod Verdicts
 pub mod Numbers
 pub mod Answers
 pub mod Tests
+pub mod Rising
+pub mod Records
+pub mod Files
+pub mod Tabulated
+pub mod Statements
+pub mod Noting
+pub mod LineSearch

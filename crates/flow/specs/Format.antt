@@ -363,10 +363,10 @@ abbrev pub readFlow : List ℕ → Reading
 readFlow s = readingOf (verdict (fileChecks s)) (flowOf s)
 
 -- The areas, judged last: masks of n × arrays bytes, live-in and live-out of n words, work of 64 × n words
-unfoldable pub areaChecks : Flow → ℕ → ℕ → ℕ → ℕ → List Check
-areaChecks f masks liveIn liveOut work =
-    check (leb (size f * (f .arrays)) masks) Areas
-    ∷ check (leb (size f) liveIn) Areas
-    ∷ check (leb (size f) liveOut) Areas
-    ∷ check (leb (workWords (size f)) work) Areas
-    ∷ []
+
+abbrev pub areaCheck : ℕ → ℕ → Check
+areaCheck need have = check (leb need have) Areas
+
+unfoldable pub areaChecks : ℕ → ℕ → ℕ → ℕ → ℕ → ℕ → List Check
+areaChecks n arrays masks liveIn liveOut work =
+    areaCheck (n * arrays) masks ∷ areaCheck n liveIn ∷ areaCheck n liveOut ∷ areaCheck (workWords n) work ∷ []

@@ -3,3 +3,4 @@ pub mod Flow
 pub mod Refusals
 pub mod Format
 pub mod Answers
+pub mod Fields

@@ -54,5 +54,33 @@ pub enum Checked {
     Unfit(Refusal),
 }
 
+// An item of a DIM: its array, and its flag, 1 with dimensions, 0 without.
+pub struct Item {
+    pub array: usize,
+    pub flag: usize,
+}
+
+// Where a call goes on after its RETURN, if anywhere.
+pub enum Continuation {
+    To(StmtId),
+    None,
+}
+
+// The statement that a line enters, if there is one.
+pub enum Entered {
+    At(StmtId),
+    Nothing,
+}
+
+// Whether what was judged is fit.
+pub enum Verdict {
+    Fit,
+    Unfit(Refusal),
+}
+
+pub mod areas;
 mod bytes;
 pub mod check;
+pub mod fields;
+pub mod lines;
+pub mod offsets;
