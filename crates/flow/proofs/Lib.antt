@@ -1,5 +1,7 @@
 pub mod Verdicts
 pub mod Numbers
+pub mod Answers
+pub mod Tests
 pub mod Rising
 pub mod KindNumber
 pub mod Records

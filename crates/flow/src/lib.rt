@@ -80,6 +80,7 @@ pub enum Verdict {
 
 pub mod areas;
 mod bytes;
+pub mod check;
 pub mod fields;
 pub mod lines;
 pub mod offsets;
