@@ -11,7 +11,7 @@ use borrow.Author.Tests.{leb-true, ltb-true, eqb-true, eq-eqb}
 use Rattle.flow.specs.Limits.{maxKind, noContinuation}
 use Rattle.flow.specs.Format.{verdict, fit, each, present, startChecks, successorChecks, referenceCountChecks, referenceChecks, nameChecks, itemChecks, lineChecks, continuationChecks, dimChecks, gosubChecks, onGosubChecks, dataChecks, successorCount, successorAt, referenceCount, referenceAt, dataPlace, dataCount, elementsEnd, kindAt, continuationAt, continuationOf, continuationFits, writtenAt, readAt, itemAt, statementsOf, arraysOf, namesOf, u16At, byData}
 use Rattle.flow.specs.Fields.{FitRecord, itemCount, continuationIn}
-use Rattle.flow.proofs.Rising.{Rising, rising, risesAt, or-true}
+use Rattle.flow.proofs.Rising.{Rising, rising, risesAt, or-second}
 use Rattle.flow.proofs.Verdicts.{all-hold, fit-left, fit-right, fit-at}
 use Rattle.flow.proofs.Records.{parts, continuation-none}
 use Rattle.flow.proofs.KindNumber.{Number, number, dim, gosub, onGosub, other}
@@ -38,7 +38,7 @@ in-range {s} {p} h =
       reference = λ k l. reference-in k (fit-at (referenceCount s p) (referenceChecks s p) (v .references) k l);
       rising = rising (referenceAt s p) (referenceCount s p)
           (λ k l. rises-at k (fit-at (referenceCount s p) (referenceChecks s p) (v .references) k l));
-      return = λ e. eqb-true _ _ (or-true (not (eqb (kindAt s p) 1)) _ (rw (eq-eqb (kindAt s p) 1 e) refl) (count .1 .0));
+      return = λ e. eqb-true _ _ (or-second (not (eqb (kindAt s p) 1)) _ (rw (eq-eqb (kindAt s p) 1 e) refl) (count .1 .0));
       written = ltb-true _ _ (names .1 .0);
       read = ltb-true _ _ (names .1 .1 .1 .0);
     }
