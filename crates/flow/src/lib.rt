@@ -72,12 +72,6 @@ pub enum Entered {
     Nothing,
 }
 
-// Whether what was judged is fit.
-pub enum Verdict {
-    Fit,
-    Unfit(Refusal),
-}
-
 pub mod areas;
 mod bytes;
 pub mod check;
