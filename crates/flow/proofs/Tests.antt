@@ -20,6 +20,7 @@ or-false a b m n h = rw (ne-eqb a b differ, le-ltb m n most)
   where
     differ : a ≡ b → ⊥
     differ e = omega arith
+
     most : n ≤ m
     most = omega arith
 

@@ -8,9 +8,13 @@ ghost use Rattle.flow.specs.Format as format;
 ghost use Rattle.flow.specs.Format.{verdict, each, headerChecks, startChecks, referenceCountChecks, referenceChecks, nameChecks, dimChecks, gosubChecks, onGosubChecks, continuationChecks, dataChecks, restChecks, statementChecks, lineRecordChecks, endChecks, fileChecks, successorsPlace, referencesPlace, referenceCount, namesPlace, dataPlace, elementsEnd, recordEnd, linesPlace, lineCount, endPlace};
 ghost use Rattle.flow.specs.Answers.{Reached, passedOf, checkedOf, headerOf, verdictNumber, verdictPlace};
 ghost use Rattle.flow.specs.Refusals.{numberOf, placeOf};
-
-use crate::bytes::{u16_at, u64_at, u8_at};
-use crate::{Checked, Header, Passed, Refusal};
+use crate::Checked;
+use crate::Header;
+use crate::Passed;
+use crate::Refusal;
+use crate::bytes::u8_at;
+use crate::bytes::u16_at;
+use crate::bytes::u64_at;
 
 // Whether `F` and the letter stand at p, within the file.
 fn marked(file: &[u8], p: usize, letter: usize) -> bool

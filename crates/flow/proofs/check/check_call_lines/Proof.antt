@@ -102,7 +102,7 @@ check-continuation-requires c κs = search needs
 
 -- src/check.rt:206:1
 returns-3 : tie.Need-returns-3
-returns-3 c = 
+returns-3 c =
     let start = (c .before .before .before .before .before) in let s = now (start .args .file) in let p = start .args .p in
     c .check-continuation .ensures
     ∙ ap (λ at. passedOf (verdict (continuationChecks s p at)) (at + 2)) (ended (c .before .before))

@@ -73,7 +73,7 @@ returns-3 c = c .check-call-lines .ensures ∙ is-on-gosub (now ((c .before .bef
 
 -- src/check.rt:226:1
 returns-4 : tie.Need-returns-4
-returns-4 c = 
+returns-4 c =
     let kind = (c .before) .u8-at .ensures in
     let none = c .match .rest in
     ap To ((c .before .before .before) .pre .there)

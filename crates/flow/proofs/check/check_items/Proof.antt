@@ -18,7 +18,6 @@ use Rattle.flow.proofs.Tests.{tests}
 use Rattle.flow.proofs.Verdicts.{StopsAt, refusalAt, all-fit, stops-at, fit-none}
 use Rattle.flow.proofs.Answers.{refused-first, refused-element, passed-elements, one-more}
 
-
 -- the items before k are fit
 record Passing (s : List ℕ) (p count k : ℕ) : Type 0 where
   bound : k ≤ count
@@ -155,9 +154,9 @@ loop-less c = search needs
 loop-again : tie.Need-loop-again Inv-loop μ-loop
 unfolding itemChecks
 loop-again c = record {
-      bound = omega arith;
-      fits = one-more ((c .before .before .before .before .before .before .before) .loop .k) (items (c .before .before .before .before .before .before .before .before .before .before .before .before)) ((c .before .before .before .before .before .before .before) .loop .inv .fits) (omega (arith, tests, array (c .before .before .before .before), flag (c .before)))
-    }
+  bound = omega arith;
+  fits = one-more ((c .before .before .before .before .before .before .before) .loop .k) (items (c .before .before .before .before .before .before .before .before .before .before .before .before)) ((c .before .before .before .before .before .before .before) .loop .inv .fits) (omega (arith, tests, array (c .before .before .before .before), flag (c .before)));
+}
 
 -- src/check.rt:175:16
 add-t8 : tie.Need-add-t8 Inv-loop μ-loop
@@ -174,7 +173,7 @@ add-t19 c = omega (arith, (c .before .before .before .before .before) .shared-sl
 -- src/check.rt:149:1
 returns-6 : tie.Need-returns-6 Inv-loop μ-loop
 unfolding dimChecks
-returns-6 c = 
+returns-6 c =
     let start = (c .before .before .before .before .before .before) in
     let count = counted (c .before .before .before) in
     let all : (c .before) .loop .k ≡ dataCount (file start) (start .args .p) = omega (arith, count) in

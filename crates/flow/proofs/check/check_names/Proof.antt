@@ -91,11 +91,14 @@ names-fit-requires-2 c κs = search needs
 -- src/check.rt:144:9
 returns-4 : tie.Need-returns-4
 unfolding nameChecks
-returns-4 c = 
-    refused 3 (checks (c .before .before .before .before .before .before .before .before .before .before)) _
-    (omega (arith, tests),
-        (sym (written (c .before .before .before .before .before)) ∙ not-false _ ((c .before .before .before .before) .if2 .left),
-            (omega (arith, tests), sym (read (c .before)) ∙ not-true _ (c .if4 .taken))))
+returns-4 c =
+    refused 3 (checks (c .before .before .before .before .before .before .before .before .before .before)) _ (
+      omega (arith, tests),
+      (
+        sym (written (c .before .before .before .before .before)) ∙ not-false _ ((c .before .before .before .before) .if2 .left),
+        (omega (arith, tests), sym (read (c .before)) ∙ not-true _ (c .if4 .taken)),
+      ),
+    )
 
 -- src/check.rt:146:16
 add-t6 : tie.Need-add-t6
@@ -104,11 +107,14 @@ add-t6 c = search needs
 -- src/check.rt:129:1
 returns-5 : tie.Need-returns-5
 unfolding nameChecks
-returns-5 c = 
-    passed-to (checks (c .before .before .before .before .before .before .before .before .before .before)) _ _ (ap (λ at. at + 16) ((c .before .before .before .before .before .before .before .before .before .before) .pre .there))
-    (omega (arith, tests),
-        (sym (written (c .before .before .before .before .before)) ∙ not-false _ ((c .before .before .before .before) .if2 .left),
-            (omega (arith, tests), (sym (read (c .before)) ∙ not-false _ (c .if4 .left), tt))))
+returns-5 c =
+    passed-to (checks (c .before .before .before .before .before .before .before .before .before .before)) _ _ (ap (λ at. at + 16) ((c .before .before .before .before .before .before .before .before .before .before) .pre .there)) (
+      omega (arith, tests),
+      (
+        sym (written (c .before .before .before .before .before)) ∙ not-false _ ((c .before .before .before .before) .if2 .left),
+        (omega (arith, tests), (sym (read (c .before)) ∙ not-false _ (c .if4 .left), tt)),
+      ),
+    )
 
 pub check-names-spec : {M : Type 1} → statement M
 check-names-spec =

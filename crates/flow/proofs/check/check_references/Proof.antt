@@ -23,9 +23,6 @@ use lib.ListN.{length}
 use mathlib.Core.Bool.{not, or-true as or-true′}
 use Rattle.flow.specs.declared.Refusal.the-variants.{ReturnReference}
 
-
-
-
 -- the references before k are fit, and the next must be `least` or more
 record Passing (s : List ℕ) (p count least k : ℕ) : Type 0 where
   bound : k ≤ count
@@ -194,7 +191,7 @@ loop-again c = let start = (c .before .before .before .before .before .before .b
     record {
       bound = omega arith;
       fits = one-more k (referenceChecks (file start) (start .args .p)) ((c .before .before .before .before .before) .loop .inv .fits) (omega (arith, tests, element (c .before .before)), (omega (arith, tests, element (c .before .before)), (follow .follows here ∙ le-leb _ _ high, tt)));
-      rises = rises-next (referenceAt (file start) (start .args .p)) k _ (element (c .before .before))
+      rises = rises-next (referenceAt (file start) (start .args .p)) k _ (element (c .before .before));
     }
 
 -- src/check.rt:122:16

@@ -9,7 +9,6 @@ use Rattle.flow.proofs.bytes.u8_at.Reads as u8-at-reads
 use mathlib.Core.Path.{sym, _∙_, ap}
 use borrow.Author.Tests.{le-leb, lt-leb, eq-eqb, ne-eqb}
 
-
 -- src/check.rt:20:21
 add-if1 : tie.Need-add-if1
 add-if1 c = search needs
@@ -39,7 +38,7 @@ returns-2 c =
 
 -- src/check.rt:16:1
 returns-3 : tie.Need-returns-3
-returns-3 c = 
+returns-3 c =
     simp
     (le-leb _ _ (c .before .before .if1 .left), ne-eqb _ _ (λ h. c .if2 .left (c .before .u8-at .ensures ∙ h)))
 

@@ -11,7 +11,6 @@ use borrow.Author.Tests.{lt-ltb}
 use lib.Pow.{pow-mono, pow-pos}
 use Rattle.flow.proofs.Numbers.{div-is-zero}
 
-
 -- src/check.rt:124:9
 returns : tie.Need-returns
 returns c = sym (lt-ltb _ _ (lt-of-lt-of-le (c .before .fits .w .fits) (pow-mono (c .if1 .taken))))

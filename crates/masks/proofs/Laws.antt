@@ -1,0 +1,96 @@
+-- The laws of `stepOf` on the masks 0 to 7: it keeps them, preserves union, is monotone and idempotent, and is the union of its steps on single states.
+-- Each is a test that antt computes at every effect and every mask. Assumes nothing.
+use mathlib.Core.Path.{_≡_, sym, ap, subst, _∙_}
+use mathlib.Core.Logic.{_⊎_, inl, inr}
+use mathlib.Core.Bool.{Bool, _&&_, _||_}
+use Prim.Native.Nat.{ℕ, _<_}
+use lib.Dec.{T, eqb, eqb→eq, ltb, ltb→lt, lt→ltb}
+use lib.Bits.{bitOr}
+use Rattle.masks.specs.declared.Effect.{Effect}
+use Rattle.masks.specs.Step.{stepOf}
+use Rattle.masks.specs.State.{State, none, auto, dimmed, stateMask, same, holds, turns, brought}
+use Rattle.masks.proofs.Finite.{and-left, and-right, or-cases, all-states, implies, implied, alike, alike→eq, eq→alike, everyBelow, at-below, everyState, at-state, at-mask}
+
+-- a mask of states stays one
+pub step-lt : (e : Effect) (m : ℕ) → m < 8 → stepOf e m < 8
+step-lt e m h = ltb→lt (stepOf e m) 8 (at-mask (λ e m. ltb (stepOf e m) 8) tt e m h)
+
+-- a mask that holds a state holds one after the step
+pub step-pos : (e : Effect) (m : ℕ) → m < 8 → 0 < m → 0 < stepOf e m
+step-pos e m h p =
+    ltb→lt 0 (stepOf e m)
+    (implied (ltb 0 m) (ltb 0 (stepOf e m)) (at-mask (λ e m. implies (ltb 0 m) (ltb 0 (stepOf e m))) tt e m h) (lt→ltb 0 m p))
+
+-- union-preserving, for every effect and the empty mask too
+pub step-or : (e : Effect) (a b : ℕ) → a < 8 → b < 8 → stepOf e (bitOr a b) ≡ bitOr (stepOf e a) (stepOf e b)
+step-or e a b ha hb =
+    eqb→eq (stepOf e (bitOr a b)) (bitOr (stepOf e a) (stepOf e b))
+    (at-below 8 (λ b. eqb (stepOf e (bitOr a b)) (bitOr (stepOf e a) (stepOf e b)))
+    (at-mask (λ e a. everyBelow 8 (λ b. eqb (stepOf e (bitOr a b)) (bitOr (stepOf e a) (stepOf e b)))) tt e a ha) b hb)
+
+-- a is within b when their union is b
+pub step-mono : (e : Effect) (a b : ℕ) → a < 8 → b < 8 → bitOr a b ≡ b → bitOr (stepOf e a) (stepOf e b) ≡ stepOf e b
+step-mono e a b ha hb h = sym (step-or e a b ha hb) ∙ ap (stepOf e) h
+
+pub step-idem : (e : Effect) (m : ℕ) → m < 8 → stepOf e (stepOf e m) ≡ stepOf e m
+step-idem e m h = eqb→eq (stepOf e (stepOf e m)) (stepOf e m) (at-mask (λ e m. eqb (stepOf e (stepOf e m)) (stepOf e m)) tt e m h)
+
+-- a stepped mask that was not empty holds exactly what its states turn into
+pub step-holds : (e : Effect) (m : ℕ) (t : State) → m < 8 → 0 < m → holds (stepOf e m) t ≡ brought e m t
+step-holds e m t h p =
+    alike→eq (holds (stepOf e m) t) (brought e m t)
+    (at-state (λ t. alike (holds (stepOf e m) t) (brought e m t))
+    (implied (ltb 0 m) (everyState (λ t. alike (holds (stepOf e m) t) (brought e m t)))
+    (at-mask (λ e m. implies (ltb 0 m) (everyState (λ t. alike (holds (stepOf e m) t) (brought e m t)))) tt e m h) (lt→ltb 0 m p)) t)
+
+-- what a state of the mask turns into is held after the step
+pub step-carries : (e : Effect) (m : ℕ) (s t : State) → m < 8 → T (holds m s) → T (turns e s t) → T (holds (stepOf e m) t)
+step-carries e m s t h a b =
+    implied (turns e s t) (holds (stepOf e m) t)
+    (implied (holds m s) (implies (turns e s t) (holds (stepOf e m) t))
+    (at-state (λ t. implies (holds m s) (implies (turns e s t) (holds (stepOf e m) t)))
+    (at-state (λ s. everyState (λ t. implies (holds m s) (implies (turns e s t) (holds (stepOf e m) t))))
+    (at-mask (λ e m. everyState (λ s. everyState (λ t. implies (holds m s) (implies (turns e s t) (holds (stepOf e m) t))))) tt e m h)
+    s) t) a) b
+
+-- and what is held after the step of a mask that was not empty comes from a state of it
+pub step-comes : (e : Effect) (m : ℕ) (t : State) → m < 8 → 0 < m → T (holds (stepOf e m) t) → (s : State) × T (holds m s) × T (turns e s t)
+step-comes e m t h p held = first (or-cases (from none) (from auto || from dimmed) (subst T (step-holds e m t h p) held))
+  where
+    from : State → Bool
+    from s = holds m s && turns e s t
+
+    found : (s : State) → T (from s) → (s : State) × T (holds m s) × T (turns e s t)
+    found s x = (s, and-left (holds m s) (turns e s t) x, and-right (holds m s) (turns e s t) x)
+
+    last : T (from auto) ⊎ T (from dimmed) → (s : State) × T (holds m s) × T (turns e s t)
+    last (inl x) = found auto x
+    last (inr x) = found dimmed x
+
+    first : T (from none) ⊎ T (from auto || from dimmed) → (s : State) × T (holds m s) × T (turns e s t)
+    first (inl x) = found none x
+    first (inr x) = last (or-cases (from auto) (from dimmed) x)
+
+-- a union holds what either mask holds
+pub or-holds : (a b : ℕ) (s : State) → a < 8 → b < 8 → holds (bitOr a b) s ≡ (holds a s || holds b s)
+or-holds a b s ha hb =
+    alike→eq (holds (bitOr a b) s) (holds a s || holds b s)
+    (at-state (λ s. alike (holds (bitOr a b) s) (holds a s || holds b s))
+    (at-below 8 (λ b. everyState (λ s. alike (holds (bitOr a b) s) (holds a s || holds b s)))
+    (at-below 8 (λ a. everyBelow 8 (λ b. everyState (λ s. alike (holds (bitOr a b) s) (holds a s || holds b s)))) tt a ha) b hb) s)
+
+-- a mask is its states
+pub holds-ext : (a b : ℕ) → a < 8 → b < 8 → ((s : State) → holds a s ≡ holds b s) → a ≡ b
+holds-ext a b ha hb e =
+    eqb→eq a b
+    (implied (everyState (λ s. alike (holds a s) (holds b s))) (eqb a b)
+    (at-below 8 (λ b. implies (everyState (λ s. alike (holds a s) (holds b s))) (eqb a b))
+    (at-below 8 (λ a. everyBelow 8 (λ b. implies (everyState (λ s. alike (holds a s) (holds b s))) (eqb a b))) tt a ha) b hb)
+    (all-states (λ s. alike (holds a s) (holds b s)) (λ s. eq→alike (holds a s) (holds b s) (e s))))
+
+-- the mask of one state holds that state alone
+pub mask-holds : (s t : State) → holds (stateMask s) t ≡ same s t
+mask-holds s t =
+    alike→eq (holds (stateMask s) t) (same s t)
+    (at-state (λ t. alike (holds (stateMask s) t) (same s t))
+    (at-state (λ s. everyState (λ t. alike (holds (stateMask s) t) (same s t))) tt s) t)

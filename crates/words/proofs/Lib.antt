@@ -1,0 +1,9 @@
+pub mod Bit
+pub mod Tally
+pub mod Row
+pub mod Inserted
+pub mod Rewritten
+pub mod Unioned
+pub mod Cleared
+pub mod NextMember
+pub mod Bytes

@@ -1,0 +1,126 @@
+// Bit sets kept in rows of 64-bit words of a lent slice. A row starts at word `base`; number i is
+// bit i % 64 of word base + i / 64. Rows of bytes, eight to a word, are read and written here too.
+ghost use mathlib.Core.Path.{_≡_};
+ghost use Prim.Native.Nat.{_+_, _-_, _*_, _/_, _^_, _≤_, _<_, min};
+ghost use lib.Dec.{eqb};
+ghost use lib.ListN.{length};
+ghost use Rattle.words.specs.Row.{has, members, nextMember};
+ghost use Rattle.words.specs.Change.{Joined, Inserted, Unioned, cleared, without};
+ghost use Rattle.words.specs.Byte.{byteAt, byteSet};
+
+pub fn contains(ws: &[u64], base: usize, i: usize) -> bool
+    requires { ⌜ base + i / 64 < length (now ws) ⌝ }
+    ensures { λ r. ⌜ r ≡ eqb (has (now (ws .entry)) base i) 1 ⌝ }
+{
+    (ws[base + i / 64] >> (i % 64)) % 2 == 1
+}
+
+// Joins `bits` to the word at `at`, and says whether the word grew.
+pub fn union_word(ws: &mut [u64], at: usize, bits: u64) -> bool
+    requires { ⌜ at < length (now ws) ⌝ }
+    ensures { λ r. ⌜ Joined (now (ws .entry)) (now (ws .exit)) at bits r ⌝ }
+{
+    let old = ws[at];
+    let joined = old | bits;
+    ws[at] = joined;
+    joined != old
+}
+
+// Says whether i is new.
+pub fn insert(ws: &mut [u64], base: usize, i: usize) -> bool
+    requires { ⌜ base + i / 64 < length (now ws) ⌝ }
+    ensures { λ r. ⌜ Inserted (now (ws .entry)) (now (ws .exit)) base i r ⌝ }
+{
+    union_word(ws, base + i / 64, 1u64 << (i % 64))
+}
+
+// Joins the row at `from` to the row at `to`, lowest word first, and says whether that row grew.
+pub fn union(ws: &mut [u64], to: usize, from: usize, width: usize) -> bool
+    requires { ⌜ (to + width ≤ length (now ws)) × (from + width ≤ length (now ws)) ⌝ }
+    ensures { λ r. ⌜ Unioned (now (ws .entry)) (now (ws .exit)) to from width r ⌝ }
+{
+    let mut grew = false;
+    let mut k = 0;
+    while k < width {
+        let bits = ws[from + k];
+        let more = union_word(ws, to + k, bits);
+        grew = grew | more;
+        k += 1;
+    }
+    grew
+}
+
+// The bits of `a` that are not in `b`.
+pub fn difference(a: u64, b: u64) -> u64
+    ensures { λ r. ⌜ r ≡ without a b ⌝ }
+{
+    a & !b
+}
+
+pub fn clear(ws: &mut [u64], base: usize, width: usize)
+    requires { ⌜ base + width ≤ length (now ws) ⌝ }
+    ensures { λ _. ⌜ now (ws .exit) ≡ cleared (now (ws .entry)) base width ⌝ }
+{
+    let mut k = 0;
+    while k < width {
+        ws[base + k] = 0;
+        k += 1;
+    }
+}
+
+// The second bound says that every number of the row is a usize, and so is their count.
+pub fn count(ws: &[u64], base: usize, width: usize) -> usize
+    requires { ⌜ (base + width ≤ length (now ws)) × (64 * width < 2 ^ 64) ⌝ }
+    ensures { λ r. ⌜ r ≡ members (now (ws .entry)) base width ⌝ }
+{
+    let mut n: usize = 0;
+    let mut k = 0;
+    while k < width {
+        n += u64::count_ones(ws[base + k]) as usize;
+        k += 1;
+    }
+    n
+}
+
+// i and `step` more, but not past `bound`.
+fn forward(i: usize, step: usize, bound: usize) -> usize
+    requires { ⌜ i ≤ bound ⌝ }
+    ensures { λ r. ⌜ r ≡ min (i + step) bound ⌝ }
+{
+    if bound - i <= step { bound } else { i + step }
+}
+
+// The first member at or after `from` and below `bound`; `bound` if there is none.
+pub fn next(ws: &[u64], base: usize, from: usize, bound: usize) -> usize
+    requires { ⌜ base + (bound + 63) / 64 ≤ length (now ws) ⌝ }
+    ensures { λ r. ⌜ r ≡ nextMember (now (ws .entry)) base from bound ⌝ }
+{
+    let mut i = from;
+    while i < bound {
+        let rest = ws[base + i / 64] >> (i % 64);
+        if rest != 0 {
+            return forward(i, u64::trailing_zeros(rest) as usize, bound);
+        }
+        i = forward(i, 64 - i % 64, bound);
+    }
+    i
+}
+
+// Byte k of a row of bytes: eight bytes to a word, the lowest first.
+pub fn byte(ws: &[u64], base: usize, k: usize) -> u8
+    requires { ⌜ base + k / 8 < length (now ws) ⌝ }
+    ensures { λ r. ⌜ r ≡ byteAt (now (ws .entry)) base k ⌝ }
+{
+    ((ws[base + k / 8] >> (8 * (k % 8))) % 256) as u8
+}
+
+pub fn set_byte(ws: &mut [u64], base: usize, k: usize, v: u8)
+    requires { ⌜ base + k / 8 < length (now ws) ⌝ }
+    ensures { λ _. ⌜ now (ws .exit) ≡ byteSet (now (ws .entry)) base k v ⌝ }
+{
+    let at = base + k / 8;
+    let place = 8 * (k % 8);
+    let word = ws[at];
+    let old = (word >> place) % 256;
+    ws[at] = word - (old << place) + ((v as u64) << place);
+}
