@@ -13,3 +13,5 @@ pub mod Sets
 pub mod Noting
 pub mod LineSearch
 pub mod Ranged
+
+pub mod RecordVerdict
