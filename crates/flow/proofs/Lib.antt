@@ -14,3 +14,5 @@ pub mod Noting
 pub mod LineSearch
 pub mod Ranged
 pub mod AreaVerdict
+
+pub mod RecordVerdict

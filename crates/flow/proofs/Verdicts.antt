@@ -1,6 +1,6 @@
 -- Laws of verdicts: a list of checks is fit where each check holds, and its verdict is that of its first part unless that is fit.
 -- By induction on the list, and for `each` on the number of elements.
-use Prim.Native.Nat.{ℕ, zero, suc, _+_, _≤_, _<_}
+use Prim.Native.Nat.{ℕ, zero, suc, _+_, _*_, _≤_, _<_}
 use native.Mathlib.Omega.{arith}
 use native.Mathlib.Numerals.{add-one}
 use native.Mathlib.Nat.{eq-or-lt-of-le}
@@ -116,3 +116,10 @@ fit-at (suc n) f h i l =
   where
     le-pred : i < suc n → i ≤ n
     le-pred h = omega arith
+
+-- elements of w bytes from b on end within n bytes, if each that is fit ends there
+pub elements-within : (k : ℕ) (f : ℕ → List Check) (n b w : ℕ) → b ≤ n → ((i : ℕ) → verdict (f i) ≡ fit → b + w * i + w ≤ n) → verdict (each k f) ≡ fit
+    → b + w * k ≤ n
+unfolding each
+elements-within zero f n b w l each-ends h = omega arith
+elements-within (suc k) f n b w l each-ends h = omega (arith, each-ends k (fit-right (each k f) (f k) h))

@@ -263,7 +263,7 @@ fn check_statements(file: &[u8]) -> Passed
     let n = u16_at(file, 2);
     let mut p = 8;
     let mut i = 0;
-    let mut unfit = Refusal::Record(8);
+    let mut refusal = Refusal::Record(8);
     'records: while i < n {
         let successors = match check_start(file, p) {
             Passed::To(q) => q,
@@ -274,11 +274,11 @@ fn check_statements(file: &[u8]) -> Passed
         while k < count {
             let q = successors + 2 * k;
             if file.len() < q + 2 {
-                unfit = Refusal::Record(p);
+                refusal = Refusal::Record(p);
                 break 'records;
             }
             if u16_at(file, q) >= n {
-                unfit = Refusal::Target(p);
+                refusal = Refusal::Target(p);
                 break 'records;
             }
             k += 1;
@@ -290,7 +290,7 @@ fn check_statements(file: &[u8]) -> Passed
         i += 1;
     }
     if i < n {
-        return Passed::Unfit(unfit);
+        return Passed::Unfit(refusal);
     }
     Passed::To(p)
 }
