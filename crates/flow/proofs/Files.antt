@@ -11,7 +11,7 @@ use borrow.Author.Tests.{leb-true, ltb-true, ne-eqb}
 use Rattle.flow.specs.Limits.{maxFile, maxStatements, maxArrays, maxNames}
 use Rattle.flow.specs.Format.{verdict, fit, each, headerChecks, statementChecks, lineRecordChecks, endChecks, fileChecks, recordChecks, recordPlace, statementsOf, arraysOf, namesOf, entryOf, lineCount, linePlace, lineNumber, lineFirst}
 use Rattle.flow.specs.Fields.{FitFile, FitRecord}
-use Rattle.flow.proofs.Rising.{Rising, rising, risesAt, or-true}
+use Rattle.flow.proofs.Rising.{Rising, rising, risesAt, or-second}
 use Rattle.flow.proofs.Verdicts.{all-hold, fit-left, fit-right, fit-at}
 
 -- the header is within the limits
@@ -34,7 +34,7 @@ limited {s} h =
       arrays = omega (arith, leb-true);
       names = omega (arith, leb-true);
       entry = λ l. ltb-true _ _
-          (or-true (eqb (statementsOf s) 0) _ (ne-eqb (statementsOf s) 0 (λ e. omega arith)) (header .1 .1 .1 .1 .1 .1 .1 .1 .1 .0));
+          (or-second (eqb (statementsOf s) 0) _ (ne-eqb (statementsOf s) 0 (λ e. omega arith)) (header .1 .1 .1 .1 .1 .1 .1 .1 .1 .0));
     }
 
 after-header : {s : List ℕ} → FitFile s → verdict (statementChecks s ++ (each (lineCount s) (lineRecordChecks s) ++ endChecks s)) ≡ fit

@@ -92,6 +92,24 @@ module _ (f : ℕ → Line) (l : ℕ) where
           let none-before = first-none n (λ j b. h j (omega arith)) in
           one n none none-before ∙ rw (← q) (rw (eq-eqb (f k .number) l e) refl)
 
+  -- the statement found is that of a record
+  pub found-in : (n e : ℕ) → firstOf (tabulate n f) l ≡ some e → (k : ℕ) × (k < n) × (f k .first ≡ e)
+  unfolding tabulate firstOf
+  found-in zero e h = let z : _≡_ {A = ℕ} 0 1 = cc in absurd (omega arith)
+  found-in (suc n) e h = go (firstOf (tabulate n f) l) refl (λ q. found-in n e q)
+    where
+      last : (b : Bool) → cond b (some (f n .first)) none ≡ some e → (k : ℕ) × (k < suc n) × (f k .first ≡ e)
+      last true q = (n, omega arith, cc)
+      last false q = let z : _≡_ {A = ℕ} 0 1 = cc in absurd (omega arith)
+
+      go : (o : Option ℕ) → firstOf (tabulate n f) l ≡ o → (firstOf (tabulate n f) l ≡ some e → (k : ℕ) × (k < n) × (f k .first ≡ e))
+          → (k : ℕ) × (k < suc n) × (f k .first ≡ e)
+      go none q found = last (eqb (f n .number) l) (sym (one n none q) ∙ h)
+      go (some t) q found =
+          let r = found (q ∙ (sym (one n (some t) q) ∙ h)) in
+          let below = r .1 in
+          (r .0, omega arith, r .2)
+
 -- the record at a line's rank is the first with the line, or no record has the line
 
 module _ {s : List ℕ} {l r : ℕ} (rank : LineRank s l r) where

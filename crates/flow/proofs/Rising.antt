@@ -17,14 +17,14 @@ risesAt f k = eqb k 0 || ltb (f (k - 1)) (f k)
 abbrev pub Rising : (ℕ → ℕ) → ℕ → Type 0
 Rising f n = (j k : ℕ) → j < k → k < n → f j < f k
 
-pub or-true : (a b : Bool) → a ≡ false → (a || b) ≡ true → b ≡ true
-or-true true b e h = let z : _≡_ {A = ℕ} 0 1 = cc in absurd (omega arith)
-or-true false b e h = h
+pub or-second : (a b : Bool) → a ≡ false → (a || b) ≡ true → b ≡ true
+or-second true b e h = let z : _≡_ {A = ℕ} 0 1 = cc in absurd (omega arith)
+or-second false b e h = h
 
 above : (f : ℕ → ℕ) (k : ℕ) → risesAt f (suc k) ≡ true → f k < f (suc k)
 above f k h =
     let before : suc k - 1 ≡ k = omega arith in
-    let test = or-true (eqb (suc k) 0) _ (ne-eqb (suc k) 0 (λ e. omega arith)) h in
+    let test = or-second (eqb (suc k) 0) _ (ne-eqb (suc k) 0 (λ e. omega arith)) h in
     rw before at (ltb-true (f (suc k - 1)) (f (suc k)) test)
 
 pub rising : (f : ℕ → ℕ) (n : ℕ) → ((k : ℕ) → k < n → risesAt f k ≡ true) → Rising f n

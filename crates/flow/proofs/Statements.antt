@@ -5,24 +5,26 @@ use mathlib.Core.Bool.{Bool, true, false, cond}
 use mathlib.Core.List.{List, [], _∷_}
 use mathlib.Core.Option.{none}
 use mathlib.Core.Path.{_≡_, refl, sym, ap, fun-ext}
-use lib.Dec.{eqb}
+use lib.Dec.{eqb, ltb}
+use lib.ListN.{getD, List·getD-eq-default}
 use native.Mathlib.Nat.{add-zero}
 use native.Mathlib.Omega.{arith}
-use borrow.Author.Tests.{eqb-true, eqb-false, ne-eqb}
+use borrow.Author.Tests.{ne-eqb, ltb-true, ltb-false}
 use Rattle.flow.specs.Flow as F
 use Rattle.flow.specs.Flow.{Statement, noStatement, size, statement, items, callLines, continuation}
 use Rattle.flow.specs.Format.{tabulate, flowOf, statementAt, kindOf, plainKind, byData, statementsOf, recordPlace, lineAt, kindAt, successorCount, successorAt, referenceCount, referenceAt, writtenAt, readAt, dataPlace, dataCount, elementPlace, elementsEnd, itemAt, continuationAt, u16At}
 use Rattle.flow.specs.Fields.{itemCount, callLineCount, callLineAt, continuationIn}
+use Rattle.flow.proofs.KindNumber.{Number, number, dim, gosub, onGosub, other}
 use Rattle.flow.proofs.Tabulated.{length-tabulate, getD-tabulate}
 
 -- the kind by its number
 pub kind-is : (s : List ℕ) (p k : ℕ) → kindAt s p ≡ k
     → kindOf s p
     ≡ byData k
-      (F.Kind.dim (tabulate (dataCount s p) (itemAt s p)))
-      (F.Kind.gosub (u16At s (dataPlace s p)) (continuationAt s (dataPlace s p + 2)))
-      (F.Kind.onGosub (tabulate (dataCount s p) (λ j. u16At s (elementPlace s p j))) (continuationAt s (elementsEnd s p)))
-      (plainKind k)
+    (F.Kind.dim (tabulate (dataCount s p) (itemAt s p)))
+    (F.Kind.gosub (u16At s (dataPlace s p)) (continuationAt s (dataPlace s p + 2)))
+    (F.Kind.onGosub (tabulate (dataCount s p) (λ j. u16At s (elementPlace s p j))) (continuationAt s (elementsEnd s p)))
+    (plainKind k)
 unfolding kindOf
 kind-is s p k e = rw (← e)
 
@@ -37,22 +39,6 @@ plain true c n = record { no-items = refl; no-lines = refl; goes-nowhere = refl 
 plain false true n = record { no-items = refl; no-lines = refl; goes-nowhere = refl }
 plain false false true = record { no-items = refl; no-lines = refl; goes-nowhere = refl }
 plain false false false = record { no-items = refl; no-lines = refl; goes-nowhere = refl }
-
--- a kind's number is one of those with data, or none of them
-data Number (k : ℕ) : Type 0 where
-  dim : k ≡ 4 → Number k
-  gosub : k ≡ 5 → Number k
-  onGosub : k ≡ 6 → Number k
-  other : (k ≡ 4 → ⊥) → (k ≡ 5 → ⊥) → (k ≡ 6 → ⊥) → Number k
-
-number : (k : ℕ) → Number k
-number k = go (eqb k 4) (eqb k 5) (eqb k 6) refl refl refl
-  where
-    go : (d g o : Bool) → eqb k 4 ≡ d → eqb k 5 ≡ g → eqb k 6 ≡ o → Number k
-    go true g o e _ _ = dim (eqb-true k 4 e)
-    go false true o _ e _ = gosub (eqb-true k 5 e)
-    go false false true _ _ e = onGosub (eqb-true k 6 e)
-    go false false false d g o = other (eqb-false k 4 d) (eqb-false k 5 g) (eqb-false k 6 o)
 
 module _ (s : List ℕ) (p : ℕ) where
   items-are : Number (kindAt s p) → items (kindOf s p) ≡ tabulate (itemCount s p) (itemAt s p)
@@ -102,7 +88,7 @@ pub record Says (s : List ℕ) (p : ℕ) (t : Statement) : Type 0 where
   pub lines : callLines (t .kind) ≡ tabulate (callLineCount s p) (callLineAt s p)
   pub continuation : continuation (t .kind) ≡ continuationIn s p
 
-says-at : (s : List ℕ) (p : ℕ) → Says s p (statementAt s p)
+pub says-at : (s : List ℕ) (p : ℕ) → Says s p (statementAt s p)
 unfolding statementAt
 says-at s p = record {
   line = refl;
@@ -125,3 +111,21 @@ pub says : (s : List ℕ) (i : ℕ) → i < statementsOf s → Says s (recordPla
 unfolding flowOf
 says s i l =
     rw (getD-tabulate (λ j. statementAt s (recordPlace s j)) (statementsOf s) i noStatement l) (says-at s (recordPlace s i))
+
+-- what holds of no statement and of what each record says holds of every statement of the flow
+pub every : (s : List ℕ) (P : Statement → Type 0) → P noStatement → ((i : ℕ) → i < statementsOf s → P (statementAt s (recordPlace s i)))
+    → (i : ℕ) → P (statement (flowOf s) i)
+unfolding flowOf
+every s P nothing each i = go (ltb i (statementsOf s)) refl
+  where
+    at : ℕ → Statement
+    at j = statementAt s (recordPlace s j)
+
+    go : (b : Bool) → ltb i (statementsOf s) ≡ b → P (getD (tabulate (statementsOf s) at) i noStatement)
+    go true e =
+        let below = ltb-true i (statementsOf s) e in
+        rw (getD-tabulate at (statementsOf s) i noStatement below) (each i below)
+    go false e =
+        let long = length-tabulate at (statementsOf s) in
+        let past = ltb-false i (statementsOf s) e in
+        rw (List·getD-eq-default (tabulate (statementsOf s) at) noStatement {n = i} (omega arith)) nothing

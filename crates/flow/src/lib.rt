@@ -72,14 +72,9 @@ pub enum Entered {
     Nothing,
 }
 
-// Whether what was judged is fit.
-pub enum Verdict {
-    Fit,
-    Unfit(Refusal),
-}
-
 pub mod areas;
 mod bytes;
+pub mod check;
 pub mod fields;
 pub mod lines;
 pub mod offsets;

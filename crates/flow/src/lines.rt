@@ -3,10 +3,8 @@ ghost use mathlib.Core.Path.{_≡_};
 ghost use Prim.Native.Nat.{_≤_, _<_};
 ghost use Rattle.flow.specs.Format.{linesPlace, lineCount, flowOf};
 ghost use Rattle.flow.specs.Flow.{enters};
-ghost use Rattle.flow.specs.Answers.{headerOf};
 ghost use Rattle.flow.specs.Fields.{FitFile, LineRank, enteredAt};
 use crate::Entered;
-use crate::Header;
 use crate::StmtId;
 use crate::bytes::u16_at;
 
@@ -28,12 +26,11 @@ fn line_rank(file: &[u8], at: usize, n: usize, line: usize) -> usize
     lo
 }
 
-pub fn line_entry(file: &[u8], h: Header, line: usize) -> Entered
-    requires { ⌜ FitFile (now file) × (h ≡ headerOf (now file)) ⌝ }
+// The file's lines stand at `at`, and there are n of them.
+pub fn line_entry(file: &[u8], at: usize, n: usize, line: usize) -> Entered
+    requires { ⌜ FitFile (now file) × ((at ≡ linesPlace (now file)) × (n ≡ lineCount (now file))) ⌝ }
     ensures { λ r. ⌜ r ≡ enteredAt (enters (flowOf (now (file .entry))) line) ⌝ }
 {
-    let at = h.lines_at;
-    let n = h.lines;
     let k = line_rank(file, at, n, line);
     if k < n {
         if u16_at(file, at + 6 * k + 2) == line {

@@ -18,7 +18,7 @@ kind-requires c κs = search needs
 returns : tie.Need-returns
 returns c = let s = now (c .before .before .before .args .file) in
     let p = c .before .before .before .args .p in
-    ap continuationTo (sym (continuation-none s p (omega arith)))
+    ap continuationTo (sym (continuation-none s p (λ e. omega arith) (λ e. omega arith)))
 
 record-end-requires : tie.Need-record-end-requires
 record-end-requires c κs = search needs
