@@ -15,3 +15,4 @@ pub mod LineSearch
 pub mod Ranged
 
 pub mod RecordVerdict
+pub mod FileVerdict
