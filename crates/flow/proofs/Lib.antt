@@ -13,6 +13,6 @@ pub mod Sets
 pub mod Noting
 pub mod LineSearch
 pub mod Ranged
-
 pub mod RecordVerdict
 pub mod FileVerdict
+pub mod Reading

@@ -25,7 +25,6 @@ use Rattle.flow.specs.Answers.{checkedOf, headerOf}
 use Rattle.flow.proofs.Answers.{Through, verdict-passed, verdict-refused}
 use Rattle.flow.proofs.FileVerdict.{lines, header-within, statements-within, lines-within, in-header, in-statements, in-lines, after-lines}
 
-
 module _ (c : tie.After-enum-told) where
   abbrev bytes : List ℕ
   bytes = now (c .before .before .before .before .args .file)
@@ -104,7 +103,7 @@ returns-2 c = refuse (now ((c .before .before .before .before .before .before .b
 
 -- src/check.rt:351:21
 check-lines-requires : tie.Need-check-lines-requires
-check-lines-requires c κs = 
+check-lines-requires c κs =
     let s = s₁ (c .before) in
     (header-within s (header (c .before .before .before .before) .is-fit), rw (statements (c .before) .place) (to-lines (c .before)), statements (c .before) .place)
 
@@ -118,7 +117,7 @@ enum-known-r-3 c = search needs
 
 -- src/check.rt:353:29
 returns-3 : tie.Need-returns-3
-returns-3 c = 
+returns-3 c =
     let s = now ((c .before .before .before .before .before .before .before .before .before .before .before .before) .args .file) in
     refuse s (in-lines s (header (c .before .before .before .before .before .before .before .before) .is-fit) (statements (c .before .before .before .before .before) .is-fit) (verdict-refused _ _ (sym ((c .before) .r3 .given .1) ∙ (c .before .before .before) .check-lines .ensures)))
 
@@ -159,20 +158,20 @@ sub-t20 c = omega (arith, statements (c .before .before .before .before .before 
 
 -- src/check.rt:341:1
 returns-5 : tie.Need-returns-5
-returns-5 c = 
+returns-5 c =
     let s = s₃ (c .before .before .before .before) in
     let from = statements (c .before .before .before .before .before .before .before .before .before .before .before .before) .place in
     let to = lined (c .before .before .before .before .before .before .before .before) .place in
     let counted : ((c .before .before .before .before .before .before .before .before) .q2 .given .0 .0 - (c .before .before .before .before .before .before .before .before .before .before .before .before) .q .given .0 .0) / 6 ≡ lineCount s = omega (arith, from, to) in
     let same : _≡_ {A = Header} _ (headerOf s) =
-        λ i. record {
-          statements = (c .before .before .before) .u16-at .ensures i;
-          arrays = (c .before .before) .u8-at .ensures i;
-          names = (c .before) .u8-at2 .ensures i;
-          entry = c .u16-at2 .ensures i;
-          «lines_at» = from i;
-          lines = counted i
-        } in
+    λ i. record {
+      statements = (c .before .before .before) .u16-at .ensures i;
+      arrays = (c .before .before) .u8-at .ensures i;
+      names = (c .before) .u8-at2 .ensures i;
+      entry = c .u16-at2 .ensures i;
+      «lines_at» = from i;
+      lines = counted i;
+    } in
     ap Fit same ∙ accept s (ended (c .before .before .before .before))
 
 pub check-file-spec : {M : Type 1} → statement M
