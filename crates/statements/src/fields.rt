@@ -134,9 +134,12 @@ pub fn entered(file: &[u8], h: flow::Header, work: &[u64], i: usize, k: usize) -
     ensures { λ r. ⌜ r ≡ enteredAt (enters (flowOf (now (file .entry))) (getD (callLines (kind (flowOf (now (file .entry))) i)) k 0)) ⌝ }
 {
     let n = h.statements;
+    let lines_at = h.lines_at;
+    let lines = h.lines;
     flow::lines::line_entry(
         file,
-        h,
+        lines_at,
+        lines,
         flow::fields::call_line(file, offset(file, work, n, i), k),
     )
 }
