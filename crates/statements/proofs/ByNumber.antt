@@ -14,7 +14,7 @@ use Rattle.flow.specs.Flow.{Kind, Item, statement, items}
 use Rattle.flow.specs.Format.{flowOf, tabulate, recordPlace, statementsOf, kindAt, kindOf, byData, plainKind, successorCount, successorAt, referenceCount, referenceAt, writtenAt, readAt, itemAt}
 use Rattle.flow.specs.Fields.{FitRecord, itemCount, callLineCount, callLineAt, continuationIn}
 use Rattle.flow.proofs.Files.{record-fit}
-use Rattle.flow.proofs.Records.{in-range}
+use Rattle.flow.proofs.Values.{in-range}
 use Rattle.flow.proofs.Statements.{Says, says}
 use Rattle.flow.proofs.Tabulated.{length-tabulate, getD-tabulate}
 use Rattle.theory.specs.Body.{kind, successors, references, callLines, continuationOf, isReturn, counts, wipes}
