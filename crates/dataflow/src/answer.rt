@@ -1,41 +1,91 @@
-// The call that answers a flow file.
+// The call that answers a flow file: the file is judged, then the areas; only then is anything written.
+ghost use Prim.Native.Nat.{_<_};
+ghost use mathlib.Core.Path.{_≡_};
+ghost use Rattle.flow.specs.Format.{flowOf};
+ghost use Rattle.dataflow.specs.Promise.{Promise, Door};
+ghost use Rattle.dataflow.specs.Phases.{Blank, Solved};
+use crate::Answer;
+use crate::arrays;
 use statements::layout;
 
-pub enum Answer {
-    // With the count of visits.
-    Accepted(u64),
-    Refused(flow::Refusal),
-}
-
-// Everything the answer needs, for a file and areas that were found fit; the work area is zero before and after.
-fn solve_flow(file: &[u8], h: flow::Header, masks: &mut [u8], live_in: &mut [u64], live_out: &mut [u64], work: &mut [u64]) -> u64 {
+// What the phases find of a file and areas that are fit. The work area is zero before.
+fn solve_flow(
+    file: &[u8],
+    h: flow::Header,
+    masks: &mut [u8],
+    live_in: &mut [u64],
+    live_out: &mut [u64],
+    work: &mut [u64],
+) -> u64
+    requires { ⌜ Blank (now file) h (now masks) (now «live_in») (now «live_out») (now work) ⌝ }
+    ensures { λ r. ⌜ Solved (flowOf (now (file .entry))) (now (masks .entry)) (now (masks .exit)) (now («live_in» .entry)) (now («live_in» .exit)) (now («live_out» .entry)) (now («live_out» .exit)) r ⌝ }
+{
     let n = h.statements;
+    let arrays = h.arrays;
     flow::offsets::note_offsets(file, work, 0, n);
     calls::summary::summarize_calls(file, h, work);
     calls::returns::note_returns(file, h, work);
-    let visits = crate::arrays::array_states(file, h, work);
-    crate::arrays::write_masks(masks, work, n, h.arrays);
-    words::clear(work, layout::row(n, 0), layout::visited(n) - layout::row(n, 0));
+    let visits = arrays::array_states(file, h, work);
+    arrays::write_masks(masks, work, n, arrays);
+    let matrix = layout::row(n, 0);
+    words::clear(work, matrix, layout::visited(n) - matrix);
     live::live_names(file, work, live_in, live_out, n);
     visits
 }
 
-pub fn states(file: &[u8], masks: &mut [u8], live_in: &mut [u64], live_out: &mut [u64], work: &mut [u64]) -> Answer {
+pub fn states(
+    file: &[u8],
+    masks: &mut [u8],
+    live_in: &mut [u64],
+    live_out: &mut [u64],
+    work: &mut [u64],
+) -> Answer
+    ensures { λ r. ⌜ Promise (now (file .entry)) (now (masks .entry)) (now (masks .exit)) (now («live_in» .entry)) (now («live_in» .exit)) (now («live_out» .entry)) (now («live_out» .exit)) (now (work .entry)) (now (work .exit)) r ⌝ }
+{
     let h = match flow::check::check_file(file) {
-        flow::Checked::Fit(h) => h,
+        flow::Checked::Fit(found) => found,
         flow::Checked::Unfit(r) => {
             return Answer::Refused(r);
         }
     };
-    if let flow::Verdict::Unfit(r) = flow::areas::check_areas(h, masks.len(), live_in.len(), live_out.len(), work.len()) {
-        return Answer::Refused(r);
+    let n = h.statements;
+    let arrays = h.arrays;
+    if !flow::areas::areas_fit(n, arrays, masks.len(), live_in.len(), live_out.len(), work.len()) {
+        return Answer::Refused(flow::Refusal::Areas);
     }
     let size = work.len();
     words::clear(work, 0, size);
-    if h.statements == 0 {
+    if n == 0 {
         return Answer::Accepted(0);
     }
     let visits = solve_flow(file, h, masks, live_in, live_out, work);
     words::clear(work, 0, size);
     Answer::Accepted(visits)
+}
+
+// The door for other languages: 0, place 0 and the count of visits where the flow is accepted; else the refusal's number, its place and 0.
+#[no_mangle]
+pub extern "C" fn yarnuskel_states(
+    file: &[u8],
+    masks: &mut [u8],
+    live_in: &mut [u64],
+    live_out: &mut [u64],
+    work: &mut [u64],
+    place: &mut u64,
+    visits: &mut u64,
+) -> u64
+    ensures { λ r. ⌜ Door (now (file .entry)) (now (masks .entry)) (now (masks .exit)) (now («live_in» .entry)) (now («live_in» .exit)) (now («live_out» .entry)) (now («live_out» .exit)) (now (work .entry)) (now (work .exit)) (now (place .exit)) (now (visits .exit)) r ⌝ }
+{
+    match states(file, masks, live_in, live_out, work) {
+        Answer::Accepted(count) => {
+            *place = 0;
+            *visits = count;
+            0
+        }
+        Answer::Refused(r) => {
+            *place = flow::check::place(r);
+            *visits = 0;
+            flow::check::number(r)
+        }
+    }
 }

@@ -1,3 +1,10 @@
-// `array_states` and live names: the answer to a flow file.
+// `array_states` and live names: the answer to a flow file, and its door for other languages.
 pub mod answer;
 pub mod arrays;
+
+// The answer to a flow file and the areas lent with it.
+pub enum Answer {
+    // With the count of visits.
+    Accepted(u64),
+    Refused(flow::Refusal),
+}
