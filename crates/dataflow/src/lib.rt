@@ -1,6 +1,6 @@
 // `array_states` and live names: the answer to a flow file, and its door for other languages.
-pub mod answer;
 pub mod arrays;
+pub mod door;
 
 // The answer to a flow file and the areas lent with it.
 pub enum Answer {
