@@ -16,3 +16,5 @@ pub mod Ranged
 pub mod AreaVerdict
 
 pub mod RecordVerdict
+pub mod FileVerdict
+pub mod Reading
