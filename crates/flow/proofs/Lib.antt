@@ -16,3 +16,4 @@ pub mod Ranged
 pub mod RecordVerdict
 pub mod FileVerdict
 pub mod Reading
+pub mod Cases
