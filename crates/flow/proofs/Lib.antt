@@ -6,3 +6,4 @@ pub mod Records
 pub mod RecordVerdict
 pub mod FileVerdict
 pub mod Reading
+pub mod Cases
