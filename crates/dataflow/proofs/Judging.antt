@@ -21,9 +21,9 @@ use Rattle.flow.specs.Format.{Verdict, fit, unfit, verdict, fileChecks, areaChe
 use Rattle.flow.specs.Fields.{FitFile, isFit}
 use Rattle.flow.specs.Answers.{headerOf, checkedOf}
 use Rattle.flow.proofs.Verdicts.{fit-append, unfit-append}
-use Rattle.fields.proofs.AreaVerdict.{longEnough, area-verdict, areas-fit}
+use Rattle.records.proofs.AreaVerdict.{longEnough, area-verdict, areas-fit}
 use Rattle.flow.proofs.Reading.{fit-answer, unfit-answer, accepts}
-use Rattle.fields.proofs.Statements.{size-is}
+use Rattle.records.proofs.Statements.{size-is}
 use Rattle.theory.specs.Masks.{visitsOf}
 use Rattle.theory.specs.Live.{liveInWord, liveOutWord}
 use Rattle.theory.proofs.Terms.{term-1-empty}

@@ -22,7 +22,7 @@ fn solve_flow(
 {
     let n = h.statements;
     let arrays = h.arrays;
-    fields::offsets::note_offsets(file, work, 0, n);
+    records::offsets::note_offsets(file, work, 0, n);
     calls::summary::summarize_calls(file, h, work);
     calls::returns::note_returns(file, h, work);
     let visits = arrays::array_states(file, h, work);
@@ -50,7 +50,7 @@ pub fn states(
     };
     let n = h.statements;
     let arrays = h.arrays;
-    if !fields::areas::areas_fit(n, arrays, masks.len(), live_in.len(), live_out.len(), work.len()) {
+    if !records::areas::areas_fit(n, arrays, masks.len(), live_in.len(), live_out.len(), work.len()) {
         return Answer::Refused(flow::Refusal::Areas);
     }
     let size = work.len();

@@ -14,7 +14,7 @@ use Rattle.flow.specs.Limits.{workWords, maxStatements, maxArrays}
 use Rattle.flow.specs.Format.{verdict, areaChecks, statementsOf, arraysOf}
 use Rattle.flow.specs.Fields.{FitFile, isFit}
 use Rattle.flow.specs.Answers.{headerOf}
-use Rattle.fields.proofs.Files.{limited}
+use Rattle.records.proofs.Files.{limited}
 use Rattle.dataflow.proofs.Judging as judging
 use Rattle.dataflow.proofs.door.states.Statement.{statement}
 use Rattle.dataflow.proofs.door.states.Tie as tie
