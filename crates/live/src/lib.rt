@@ -1,5 +1,5 @@
 // Live names, backward over the listed graph: what is live at a statement's start is pushed to its predecessors.
-use solve::Ring;
+use solve::Queue;
 use solve::ring;
 use statements::fields;
 use statements::layout;
@@ -16,7 +16,14 @@ fn note_predecessors(file: &[u8], work: &mut [u64], n: usize, i: usize) {
 }
 
 // What is live at j's start is live after each predecessor; one whose set grew waits.
-fn push_live(work: &mut [u64], live_out: &mut [u64], n: usize, r: Ring, j: usize, live: u64) -> Ring {
+fn push_live(
+    work: &mut [u64],
+    live_out: &mut [u64],
+    n: usize,
+    r: Queue,
+    j: usize,
+    live: u64,
+) -> Queue {
     let row = layout::row(n, j);
     let mut queue = r;
     let mut i = words::next(work, row, 0, n);
@@ -29,7 +36,14 @@ fn push_live(work: &mut [u64], live_out: &mut [u64], n: usize, r: Ring, j: usize
     queue
 }
 
-fn visit(file: &[u8], work: &mut [u64], live_in: &mut [u64], live_out: &mut [u64], n: usize, r: Ring) -> Ring {
+fn visit(
+    file: &[u8],
+    work: &mut [u64],
+    live_in: &mut [u64],
+    live_out: &mut [u64],
+    n: usize,
+    r: Queue,
+) -> Queue {
     let j = ring::take(work, n, r);
     let queue = ring::rest(n, r);
     let reads = fields::read(file, work, n, j);
@@ -40,8 +54,14 @@ fn visit(file: &[u8], work: &mut [u64], live_in: &mut [u64], live_out: &mut [u64
 }
 
 // The last statement waits first: most walks go forward, so their sets are complete before they are asked for.
-fn begin(file: &[u8], work: &mut [u64], live_in: &mut [u64], live_out: &mut [u64], n: usize) -> Ring {
-    let mut queue = Ring { head: 0, len: 0 };
+fn begin(
+    file: &[u8],
+    work: &mut [u64],
+    live_in: &mut [u64],
+    live_out: &mut [u64],
+    n: usize,
+) -> Queue {
+    let mut queue = Queue { head: 0, len: 0 };
     let mut i = n;
     while 0 < i {
         i -= 1;
@@ -53,7 +73,13 @@ fn begin(file: &[u8], work: &mut [u64], live_in: &mut [u64], live_out: &mut [u64
     queue
 }
 
-pub fn live_names(file: &[u8], work: &mut [u64], live_in: &mut [u64], live_out: &mut [u64], n: usize) {
+pub fn live_names(
+    file: &[u8],
+    work: &mut [u64],
+    live_in: &mut [u64],
+    live_out: &mut [u64],
+    n: usize,
+) {
     let mut queue = begin(file, work, live_in, live_out, n);
     while 0 < queue.len {
         queue = visit(file, work, live_in, live_out, n, queue);
