@@ -5,3 +5,5 @@ pub mod Pushing
 pub mod Bits
 pub mod Solving
 pub mod Solved
+pub mod Visits
+pub mod Beginning
