@@ -1,10 +1,9 @@
 -- The statements from the last down to i are noted in the rows of their successors, wait, and have empty sets; the columns below i are still empty.
 -- One more statement at a time. Where all are done the solver's invariant holds, since every statement waits and no name is in a set.
-use Prim.Native.Nat.{ℕ, zero, suc, _+_, _*_, _/_, _%_, _-_, _<_, _≤_, zero-le}
-use mathlib.Core.Bool.{Bool, true, false}
-use mathlib.Core.List.{List, [], _∷_, List·Memᴰ·not-nil}
-use mathlib.Core.Logic.{_⊎_, inl, inr, ⊎-elim, _≢_}
-use mathlib.Core.Path.{_≡_, refl, sym, _∙_, ap, subst}
+use Prim.Native.Nat.{ℕ, zero, _+_, _/_, _%_, _-_, _<_, _≤_, zero-le}
+use mathlib.Core.List.{List, [], List·Memᴰ·not-nil}
+use mathlib.Core.Logic.{inl, ⊎-elim}
+use mathlib.Core.Path.{_≡_, sym, _∙_, ap, subst}
 use native.Mathlib.Decide.{ℕ-discrete}
 use native.Mathlib.Nat.{le-refl}
 use native.Mathlib.Omega.{arith}
@@ -18,7 +17,7 @@ use Rattle.theory.specs.Lists.{In}
 use Rattle.theory.specs.Body.{successors}
 use Rattle.theory.specs.Live.{bitOf}
 use Rattle.theory.proofs.Enqueue.{join, join-keeps, join-adds, join-cases}
-use Rattle.statements.specs.Layout.{rowAt, matrixAt, queueAt, waitingAt, visitedAt}
+use Rattle.statements.specs.Layout.{rowAt, matrixAt, visitedAt}
 use Rattle.statements.specs.Ready.{Keeps}
 use Rattle.statements.proofs.WorkArea.{row-from, row-fits, member-word}
 use Rattle.statements.proofs.Keeps.{keeps-refl, keeps-trans, keeps-widen, keeps-set}
@@ -26,7 +25,6 @@ use Rattle.solve.specs.declared.Queue.{Queue}
 use Rattle.solve.specs.Waiting.{Waits, Enqueued}
 use Rattle.solve.proofs.Waiting.{waits-none, waits-kept, rest-keeps}
 use Rattle.live.specs.Predecessors.{Column, Noted}
-use Rattle.live.specs.Solving.{Solving}
 use Rattle.live.specs.LiveNames.{Blank, Begun}
 use Rattle.live.proofs.Pushing.{rest-row}
 
@@ -130,12 +128,16 @@ no-bit {A} {w} x e d = absurd (let none : bit w x ≡ 0 = ap (λ z. bit z x) e �
 pub beginning-all : {f : Flow} {n : ℕ} {ws₀ ws ins₀ ins outs₀ outs : List ℕ} {q : Queue} {i : ℕ} → Beginning f n ws₀ ws ins₀ ins outs₀ outs q i → i ≤ 0 → Begun f n ws₀ ws ins₀ ins outs₀ outs q
 beginning-all {f} {n} {ws₀} {ws} {ins₀} {ins} {outs₀} {outs} {q} {i} b l = record {
   predecessors = λ k m. b .noted k (omega arith) m;
-  held = (b .queue .list, b .queue .waits, record {
-    small = b .queue .small;
-    sound-in = λ k x m e. no-bit x (b .ins-clear .zeros k (omega arith) m) e;
-    sound-out = λ k x m e. no-bit x (b .outs-clear .zeros k (omega arith) m) e;
-    settled = λ k m. inl (b .queue .all k (omega arith) m);
-  });
+  held = (
+    b .queue .list,
+    b .queue .waits,
+    record {
+      small = b .queue .small;
+      sound-in = λ k x m e. no-bit x (b .ins-clear .zeros k (omega arith) m) e;
+      sound-out = λ k x m e. no-bit x (b .outs-clear .zeros k (omega arith) m) e;
+      settled = λ k m. inl (b .queue .all k (omega arith) m);
+    },
+  );
   kept = b .kept;
   in-area = b .ins-clear .area;
   out-area = b .outs-clear .area;

@@ -1,9 +1,9 @@
 -- Sets of names bit by bit: a union has what either has, live-in has the names read and those live after and not written, and a word whose bits end at k is below 2 ^ k.
 -- By the laws of bits. Assumes nothing.
 use Prim.Native.Nat.{ℕ, _-_, _/_, _%_, _^_, _<_, min}
-use mathlib.Core.Bool.{Bool, true, false}
+use mathlib.Core.Bool.{true, false}
 use mathlib.Core.Logic.{_⊎_, inl, inr}
-use mathlib.Core.Path.{_≡_, refl, sym, _∙_, ap, subst}
+use mathlib.Core.Path.{_≡_, sym, _∙_, subst}
 use native.Mathlib.Decide.{decLt, ℕ-discrete}
 use native.Mathlib.Nat.{mod-lt}
 use native.Mathlib.Omega.{arith}

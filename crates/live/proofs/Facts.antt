@@ -2,19 +2,17 @@
 -- By the checks that a fit file passed.
 use Prim.Native.Nat.{ℕ, zero, suc, _+_, _/_, _^_, _<_, _≤_}
 use mathlib.Core.List.{List, [], _∷_, List·Memᴰ·head, List·Memᴰ·tail}
-use mathlib.Core.Path.{_≡_, refl, sym, ap, subst}
+use mathlib.Core.Path.{_≡_, refl}
 use native.Mathlib.Nat.{lt-of-lt-of-le}
 use native.Mathlib.Omega.{arith}
 use lib.ListN.{length, getD}
 use lib.Pow.{pow-mono}
-use Rattle.flow.specs.Limits.{maxStatements, workWords}
 use Rattle.flow.specs.Flow.{statement, size}
-use Rattle.flow.specs.Format.{flowOf, statementsOf, namesOf}
+use Rattle.flow.specs.Format.{flowOf}
 use Rattle.flow.proofs.Files.{limited}
 use Rattle.flow.proofs.Statements.{size-is}
 use Rattle.theory.specs.Lists.{In}
 use Rattle.theory.specs.Body.{successors}
-use Rattle.theory.specs.WellFormed.{WellFormed}
 use Rattle.statements.specs.Layout.{rowWords, rowAt, queueAt, visitedAt, areaEnd}
 use Rattle.statements.specs.Ready.{Ready}
 use Rattle.statements.proofs.WorkArea.{row-fits, area-fits}

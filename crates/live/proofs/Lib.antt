@@ -7,3 +7,4 @@ pub mod Solving
 pub mod Solved
 pub mod Visits
 pub mod Beginning
+pub mod Finishing

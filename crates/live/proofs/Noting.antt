@@ -1,9 +1,9 @@
 -- Noting a statement's predecessors one successor at a time: after k of them, its column holds the first k, and the other columns are as they were.
 -- A number inserted into a row is there, and nothing else changes. Assumes nothing.
-use Prim.Native.Nat.{ℕ, suc, _+_, _/_, _<_, _≤_}
-use mathlib.Core.Bool.{Bool, true, false, cond}
-use mathlib.Core.List.{List, [], _∷_, _++_, List·Memᴰ·head, List·Memᴰ·append-cases, List·Memᴰ·eq-of-singleton, Memᴰ·append-left, Memᴰ·append-right}
-use mathlib.Core.Logic.{_≢_, ⊎-elim}
+use Prim.Native.Nat.{ℕ, _+_, _/_, _<_, _≤_}
+use mathlib.Core.Bool.{Bool}
+use mathlib.Core.List.{List, [], _∷_, _++_}
+use mathlib.Core.Logic.{_≢_}
 use mathlib.Core.Path.{_≡_, refl, sym, _∙_, ap, subst}
 use native.Mathlib.Decide.{ℕ-discrete}
 use native.Mathlib.Numerals.{add-one}
@@ -12,13 +12,13 @@ use lib.ListN.{length, take, getD}
 use lib.Seq.{take-suc, take-all}
 use Rattle.words.specs.Row.{has}
 use Rattle.words.specs.Change.{Inserted, inserted}
-use Rattle.words.proofs.Inserted.{length-inserted, insert-same, insert-other, insert-else}
+use Rattle.words.proofs.Inserted.{insert-same, insert-other}
 use Rattle.flow.specs.Flow.{Flow}
 use Rattle.theory.specs.Lists as lists
 use Rattle.theory.specs.Body.{successors}
 use Rattle.theory.specs.Live.{bitOf}
-use Rattle.theory.proofs.Lists.{same-test, In-has, has-In}
-use Rattle.statements.specs.Layout.{rowAt, rowWords, matrixAt, queueAt}
+use Rattle.theory.proofs.Lists.{has-last, has-before}
+use Rattle.statements.specs.Layout.{rowAt, matrixAt, queueAt}
 use Rattle.statements.specs.Ready.{Keeps}
 use Rattle.statements.proofs.WorkArea.{member-word, row-fits, row-from, insert-row}
 use Rattle.statements.proofs.Keeps.{keeps-refl, keeps-trans, keeps-inserted}
@@ -32,16 +32,6 @@ pub record Noting (l ws₀ ws : List ℕ) (n i k : ℕ) : Type 0 where
 
 pub noting-none : {l ws : List ℕ} {n i : ℕ} → Column ws n i [] → Noting l ws ws n i 0
 noting-none h = record { low = omega arith; column = h; others = λ j m a b d. refl; kept = keeps-refl }
-
--- one more element of the list
-has-last : (l : List ℕ) (x : ℕ) → lists.has x (l ++ (x ∷ [])) ≡ true
-has-last l x = In-has (Memᴰ·append-right l (List·Memᴰ·head refl))
-
-has-before : (l : List ℕ) {x y : ℕ} → y ≢ x → lists.has y (l ++ (x ∷ [])) ≡ lists.has y l
-has-before l {x} {y} d =
-    same-test (lists.has y (l ++ (x ∷ []))) (lists.has y l)
-    (λ t. In-has (⊎-elim (λ m. m) (λ m. absurd (d (List·Memᴰ·eq-of-singleton m))) (List·Memᴰ·append-cases l (has-In y (l ++ (x ∷ [])) t))))
-    (λ t. In-has (Memᴰ·append-left (x ∷ []) (has-In y l t)))
 
 module _ {l ws₀ ws vs : List ℕ} {n i k base : ℕ} {r : Bool} (s : Noting l ws₀ ws n i k) (short : k < length l) (small : i < n) (target : getD l k 0 < n)
     (fits : queueAt n ≤ length ws) (place : base ≡ rowAt n (getD l k 0)) (change : Inserted ws vs base i r) where

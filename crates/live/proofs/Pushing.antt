@@ -1,7 +1,6 @@
 -- A set goes to the members of a row one by one: after those below i, their words have it, and the words from i on are as they were.
 -- The next member is the next one to handle, since the numbers between are no members. Assumes nothing.
-use Prim.Native.Nat.{ℕ, _+_, _/_, _<_, _≤_}
-use mathlib.Core.Bool.{Bool, true, false, cond}
+use Prim.Native.Nat.{ℕ, _+_, _<_, _≤_}
 use mathlib.Core.List.{List}
 use mathlib.Core.Logic.{_≢_}
 use mathlib.Core.Path.{_≡_, refl, sym, _∙_, ap, subst}
@@ -11,10 +10,9 @@ use borrow.Author.Tests.{eq-eqb, ne-eqb}
 use lib.Bits.{bitOr}
 use lib.ListN.{length, getD}
 use Rattle.words.specs.Row.{has, nextMember, First}
-use Rattle.words.specs.Change.{joined}
 use Rattle.words.proofs.NextMember.{first}
 use Rattle.words.proofs.Inserted.{length-joined, joined-word, joined-other}
-use Rattle.statements.specs.Layout.{rowAt, rowWords, queueAt}
+use Rattle.statements.specs.Layout.{rowAt}
 use Rattle.statements.proofs.WorkArea.{member-word, row-fits}
 use Rattle.statements.proofs.Keeps.{keeps-has}
 use Rattle.solve.specs.declared.Queue.{Queue}

@@ -1,27 +1,24 @@
 -- Where nothing waits, the live sets are those of the definitions: every live name is in its set, by induction on the walk that reads it, and every name in a set is live.
 -- So each word is the word of its live names, since a live name is read somewhere and hence below the number of names.
-use Prim.Native.Nat.{ℕ, _^_, _<_, _≤_}
-use mathlib.Core.Bool.{Bool, true, false}
+use Prim.Native.Nat.{ℕ, _^_, _<_}
 use mathlib.Core.List.{List, [], List·Memᴰ·not-nil}
-use mathlib.Core.Logic.{_⊎_, inl, inr, ⊎-elim}
-use mathlib.Core.Path.{_≡_, refl, sym, _∙_, ap, subst}
+use mathlib.Core.Logic.{⊎-elim}
+use mathlib.Core.Path.{_≡_, sym, subst}
 use native.Mathlib.Nat.{lt-of-lt-of-le}
 use native.Mathlib.Omega.{arith}
-use lib.ListN.{length, getD}
+use lib.ListN.{getD}
 use lib.Pow.{pow-mono}
 use Rattle.words.specs.Row.{bit}
-use Rattle.flow.specs.Flow.{Flow, statement, size}
+use Rattle.flow.specs.Flow.{statement, size}
 use Rattle.flow.specs.Format.{flowOf, namesOf}
 use Rattle.flow.proofs.Files.{limited}
-use Rattle.theory.specs.Lists.{In}
-use Rattle.theory.specs.Body.{successors}
 use Rattle.theory.specs.Live.{member, LiveIn, LiveOut, liveIn, liveOut, liveInWord, liveOutWord}
 use Rattle.theory.proofs.Lists.{same-test}
 use Rattle.theory.proofs.Live.{liveIn-sound, liveIn-complete, liveOut-sound, liveOut-complete}
 use Rattle.theory.proofs.Names.{wordOf-unique}
 use Rattle.statements.specs.Ready.{Ready}
 use Rattle.statements.proofs.WellFormed.{well-formed, statement-in, names-is}
-use Rattle.live.specs.Solving.{transfer, Settled, Solving}
+use Rattle.live.specs.Solving.{Settled, Solving}
 use Rattle.live.proofs.Facts.{flow-size, successor-in, written-word}
 use Rattle.live.proofs.Bits.{member-bit, bit-member, transfer-reads, transfer-keeps, bit-below, word-below}
 

@@ -1,13 +1,12 @@
 -- One statement handled keeps the solver's invariant: its live-in is sound by its live-out, its predecessors' live-out by its live-in, and whatever does not wait
 -- afterwards satisfies its equation and has handed its live-in on. Assumes nothing.
-use Prim.Native.Nat.{ℕ, _+_, _^_, _<_, _≤_}
-use mathlib.Core.Bool.{Bool, true, false, cond}
-use mathlib.Core.List.{List, [], _∷_, List·Memᴰ·tail, List·Memᴰ·cases-cons}
+use Prim.Native.Nat.{ℕ, _^_, _<_, _≤_}
+use mathlib.Core.Bool.{Bool, true, false}
+use mathlib.Core.List.{List, _∷_, List·Memᴰ·tail, List·Memᴰ·cases-cons}
 use mathlib.Core.Logic.{_⊎_, inl, inr, ⊎-elim, _≢_}
 use mathlib.Core.Path.{_≡_, refl, sym, _∙_, ap, subst}
 use native.Mathlib.Decide.{ℕ-discrete}
 use native.Mathlib.Omega.{arith}
-use lib.Bits.{bitOr}
 use lib.ListN.{length, getD, set}
 use lib.Seq.{getD-set-same, getD-set-other}
 use Rattle.words.specs.Row.{bit, has}

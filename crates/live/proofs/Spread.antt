@@ -3,14 +3,13 @@
 use Prim.Native.Nat.{ℕ, _+_, _*_, _-_, _/_, _%_, _^_, _<_, _≤_}
 use mathlib.Core.Bool.{Bool, true, false, not}
 use mathlib.Core.List.{List}
-use mathlib.Core.Logic.{_⊎_, inl, inr, ⊎-elim, _≢_}
+use mathlib.Core.Logic.{_⊎_, inl, inr, ⊎-elim}
 use mathlib.Core.Path.{_≡_, refl, sym, _∙_, ap, subst}
 use native.Mathlib.Decide.{ℕ-discrete}
 use native.Mathlib.Nat.{le-refl, le-of-eq, zero-add}
 use native.Mathlib.Omega.{arith}
 use borrow.Author.Tests.{eqb-true, eqb-false, not-true, not-false}
 use lib.Bits.{bitOr}
-use lib.Dec.{eqb}
 use lib.ListN.{length, getD, set}
 use lib.Seq.{set-getD}
 use Rattle.words.specs.Row.{Words, bit, has, members}
@@ -22,7 +21,7 @@ use Rattle.words.proofs.Inserted.{joined-word, joined-other, words-joined}
 use Rattle.theory.specs.Lists.{In}
 use Rattle.theory.proofs.Enqueue.{join, join-keeps, join-adds, join-cases, join-length}
 use Rattle.solve.specs.declared.Queue.{Queue}
-use Rattle.solve.specs.Waiting.{Waits, Enqueued}
+use Rattle.solve.specs.Waiting.{Enqueued}
 use Rattle.solve.proofs.Waiting.{rest-refl, rest-trans}
 use Rattle.live.specs.Spread.{missing, Follows, Spread, PushedTo}
 
@@ -94,12 +93,16 @@ pub pushed-waits : {ws vs before after : List ℕ} {n i live : ℕ} {q p : Queue
 pushed-waits {ws} {vs} {before} {after} {n} {i} {live} {q} {p} j e words fits l room s = record {
   word = j .slice;
   spread = record {
-    waits = λ w h. (join w i, s .waits w h, record {
-      stays = λ k m. join-keeps w i m;
-      comes = λ k m. ⊎-elim (λ x. inl x) (λ x. inr (rw x l)) (join-cases w i m);
-      grows = λ k b. grown w k (ℕ-discrete k i);
-      falls = omega (arith, join-length w i, grew-falls j words fits l room e);
-    });
+    waits = λ w h. (
+      join w i,
+      s .waits w h,
+      record {
+        stays = λ k m. join-keeps w i m;
+        comes = λ k m. ⊎-elim (λ x. inl x) (λ x. inr (rw x l)) (join-cases w i m);
+        grows = λ k b. grown w k (ℕ-discrete k i);
+        falls = omega (arith, join-length w i, grew-falls j words fits l room e);
+      },
+    );
     kept = s .kept;
   };
 }

@@ -1,25 +1,22 @@
 -- One visit from its parts: the front is a statement, taking it and pushing its live-in keep the invariant, and what may still be done falls by the one that was taken.
 -- Assumes nothing.
-use Prim.Native.Nat.{ℕ, suc, _+_, _*_, _^_, _<_, _≤_, zero-le}
+use Prim.Native.Nat.{ℕ, _<_, _≤_, zero-le}
 use mathlib.Core.List.{List, [], _∷_, List·Memᴰ·head}
-use mathlib.Core.Path.{_≡_, refl, sym, _∙_, ap, subst}
+use mathlib.Core.Path.{_≡_, refl, sym, _∙_, subst}
 use native.Mathlib.Omega.{arith}
-use lib.Bits.{bitOr}
 use lib.ListN.{length, getD, set}
-use Rattle.words.specs.Change.{without}
 use Rattle.flow.specs.Flow.{Flow, statement}
 use Rattle.flow.specs.Format.{flowOf}
-use Rattle.statements.specs.Layout.{queueAt, matrixAt, visitedAt}
-use Rattle.statements.specs.Ready.{Ready, Keeps}
+use Rattle.statements.specs.Ready.{Ready}
 use Rattle.statements.proofs.WorkArea.{row-from}
 use Rattle.statements.proofs.Keeps.{keeps-set, ready-keeps}
 use Rattle.solve.specs.declared.Queue.{Queue}
 use Rattle.solve.specs.Waiting.{Waits, Taken, KeepsRest, restOf}
 use Rattle.solve.proofs.Waiting.{rest-trans, rest-keeps}
 use Rattle.live.specs.Predecessors.{Predecessors}
-use Rattle.live.specs.Spread.{missing, PushedLive}
+use Rattle.live.specs.Spread.{PushedLive}
 use Rattle.live.specs.Solving.{transfer, Solving, Held, Visited}
-use Rattle.live.proofs.Facts.{area-in, written-word}
+use Rattle.live.proofs.Facts.{written-word}
 use Rattle.live.proofs.Pushing.{rest-row}
 use Rattle.live.proofs.Solving.{handled}
 use Rattle.live.proofs.Solved.{out-word}
@@ -68,9 +65,9 @@ module _ {s ws vs us ins outs outs′ : List ℕ} {n j live : ℕ} {q p o : Queu
       let after = u .spread .waits (c .rest) (subst (λ z. Waits vs n z (c .rest)) (sym e) (t .waits (c .first) (c .rest) (c .waits))) in
       record {
         held = (
-        after .0,
-        after .1,
-        handled small room (rest-predecessors (flowOf s) (t .kept) rows) taken value (out-word r taken j small) (written-word r j) u (after .2)
+          after .0,
+          after .1,
+          handled small room (rest-predecessors (flowOf s) (t .kept) rows) taken value (out-word r taken j small) (written-word r j) u (after .2),
         );
         falls = let a = c .waits .count in let b = after .1 .count in let d = after .2 .falls in omega arith;
         kept = rest-trans (t .kept) (u .spread .kept);

@@ -5,7 +5,6 @@ use mathlib.Core.List.{List}
 use mathlib.Core.Path.{_≡_}
 use lib.ListN.{length, getD}
 use Rattle.flow.specs.Flow.{Flow}
-use Rattle.flow.specs.Format.{flowOf}
 use Rattle.theory.specs.Live.{liveInWord, liveOutWord}
 use Rattle.statements.specs.Layout.{matrixAt, visitedAt}
 use Rattle.statements.specs.Ready.{Ready, Keeps}

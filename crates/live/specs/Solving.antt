@@ -1,11 +1,11 @@
 -- What holds of the live sets while statements wait: every name in a set is live, and a statement that does not wait satisfies document 01's equation and has
 -- handed its live-in on to its predecessors.
-use Prim.Native.Nat.{ℕ, _+_, _<_, _≤_}
+use Prim.Native.Nat.{ℕ, _+_, _<_}
 use mathlib.Core.List.{List}
 use mathlib.Core.Logic.{_⊎_}
 use mathlib.Core.Path.{_≡_}
 use lib.Bits.{bitOr}
-use lib.ListN.{length, getD}
+use lib.ListN.{getD}
 use Rattle.words.specs.Row.{bit}
 use Rattle.words.specs.Change.{without}
 use Rattle.flow.specs.Flow.{Flow, statement}

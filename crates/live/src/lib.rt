@@ -1,8 +1,7 @@
 // Live names, backward over the listed graph: what is live at a statement's start is pushed to its predecessors.
-ghost use mathlib.Core.Path.{_≡_};
 ghost use mathlib.Core.List.{List, []};
-ghost use Prim.Native.Nat.{ℕ, _+_, _*_, _<_, _≤_};
-ghost use lib.ListN.{length, getD};
+ghost use Prim.Native.Nat.{ℕ, _<_, _≤_};
+ghost use lib.ListN.{length};
 ghost use Rattle.flow.specs.Format.{flowOf};
 ghost use Rattle.statements.specs.Layout.{visitedAt};
 ghost use Rattle.statements.specs.Ready.{Ready};
@@ -31,7 +30,14 @@ fn note_predecessors(file: &[u8], work: &mut [u64], n: usize, i: usize)
 }
 
 // A set joined to the live-out of i; if that grew, i waits.
-fn push_to(work: &mut [u64], live_out: &mut [u64], n: usize, queue: Queue, i: usize, live: u64) -> Queue
+fn push_to(
+    work: &mut [u64],
+    live_out: &mut [u64],
+    n: usize,
+    queue: Queue,
+    i: usize,
+    live: u64,
+) -> Queue
     requires { ⌜ (n ≤ 2048) × (visitedAt n ≤ length (now work)) × (n ≤ length (now «live_out»)) × (i < n) × ((w : List ℕ) × Waits (now work) n queue w) ⌝ }
     ensures { λ r. ⌜ PushedTo (now (work .entry)) (now (work .exit)) (now («live_out» .entry)) (now («live_out» .exit)) n queue r i live ⌝ }
 {
@@ -42,7 +48,14 @@ fn push_to(work: &mut [u64], live_out: &mut [u64], n: usize, queue: Queue, i: us
 }
 
 // What is live at j's start is live after each predecessor.
-fn push_live(work: &mut [u64], live_out: &mut [u64], n: usize, start: Queue, j: usize, live: u64) -> Queue
+fn push_live(
+    work: &mut [u64],
+    live_out: &mut [u64],
+    n: usize,
+    start: Queue,
+    j: usize,
+    live: u64,
+) -> Queue
     requires { ⌜ (n ≤ 2048) × (visitedAt n ≤ length (now work)) × (n ≤ length (now «live_out»)) × (j < n) × ((w : List ℕ) × Waits (now work) n start w) ⌝ }
     ensures { λ r. ⌜ PushedLive (now (work .entry)) (now (work .exit)) (now («live_out» .entry)) (now («live_out» .exit)) n start r j live ⌝ }
 {
@@ -57,7 +70,14 @@ fn push_live(work: &mut [u64], live_out: &mut [u64], n: usize, start: Queue, j: 
 }
 
 // The front is taken: its live-in follows from its live-out, and goes to its predecessors.
-fn visit(file: &[u8], work: &mut [u64], live_in: &mut [u64], live_out: &mut [u64], n: usize, r: Queue) -> Queue
+fn visit(
+    file: &[u8],
+    work: &mut [u64],
+    live_in: &mut [u64],
+    live_out: &mut [u64],
+    n: usize,
+    r: Queue,
+) -> Queue
     requires { ⌜ Ready (now file) (now work) n × (n ≤ length (now «live_in»)) × (n ≤ length (now «live_out»)) × Predecessors (flowOf (now file)) (now work) n × Held (flowOf (now file)) n (now work) (now «live_in») (now «live_out») r × (0 < r .len) ⌝ }
     ensures { λ q. ⌜ Visited (flowOf (now (file .entry))) n (now (work .entry)) (now (work .exit)) (now («live_in» .entry)) (now («live_in» .exit)) (now («live_out» .entry)) (now («live_out» .exit)) r q ⌝ }
 {
@@ -71,7 +91,13 @@ fn visit(file: &[u8], work: &mut [u64], live_in: &mut [u64], live_out: &mut [u64
 }
 
 // The last statement waits first: most walks go forward, so their sets are complete before they are asked for.
-fn begin(file: &[u8], work: &mut [u64], live_in: &mut [u64], live_out: &mut [u64], n: usize) -> Queue
+fn begin(
+    file: &[u8],
+    work: &mut [u64],
+    live_in: &mut [u64],
+    live_out: &mut [u64],
+    n: usize,
+) -> Queue
     requires { ⌜ Blank (now file) (now work) (now «live_in») (now «live_out») n ⌝ }
     ensures { λ q. ⌜ Begun (flowOf (now (file .entry))) n (now (work .entry)) (now (work .exit)) (now («live_in» .entry)) (now («live_in» .exit)) (now («live_out» .entry)) (now («live_out» .exit)) q ⌝ }
 {
@@ -88,7 +114,13 @@ fn begin(file: &[u8], work: &mut [u64], live_in: &mut [u64], live_out: &mut [u64
 }
 
 // Word i of live_in and of live_out is the set of names that are live before and after statement i.
-pub fn live_names(file: &[u8], work: &mut [u64], live_in: &mut [u64], live_out: &mut [u64], n: usize)
+pub fn live_names(
+    file: &[u8],
+    work: &mut [u64],
+    live_in: &mut [u64],
+    live_out: &mut [u64],
+    n: usize,
+)
     requires { ⌜ Blank (now file) (now work) (now «live_in») (now «live_out») n ⌝ }
     ensures { λ _. ⌜ LiveNames (flowOf (now (file .entry))) n (now (work .entry)) (now (work .exit)) (now («live_in» .entry)) (now («live_in» .exit)) (now («live_out» .entry)) (now («live_out» .exit)) ⌝ }
 {

@@ -1,18 +1,18 @@
 -- The laws of the queue: which numbers wait when one joins the back or the front is taken, with the words that are stored; and what writes elsewhere keep of it.
 -- The ring has room for one more, since the numbers that wait are below 2 n and none stands there twice. Assumes nothing.
-use Prim.Native.Nat.{ℕ, zero, suc, _+_, _*_, _-_, _≤_, _<_}
+use Prim.Native.Nat.{ℕ, suc, _+_, _*_, _≤_, _<_}
 use mathlib.Core.Bool.{Bool, true, false, cond}
-use mathlib.Core.List.{List, [], _∷_, _++_, List·Memᴰ·head, List·Memᴰ·tail, List·Memᴰ·not-nil, List·Memᴰ·append-cases, List·Memᴰ·eq-of-singleton, Memᴰ·append-left, Memᴰ·append-right, Memᴰ·cast}
-use mathlib.Core.Logic.{_⊎_, inl, inr, ⊎-elim, _≢_}
+use mathlib.Core.List.{List, [], _∷_, _++_, List·Memᴰ·head, List·Memᴰ·tail, List·Memᴰ·not-nil}
+use mathlib.Core.Logic.{⊎-elim, _≢_}
 use mathlib.Core.Path.{_≡_, refl, sym, _∙_, ap, subst}
 use native.Mathlib.Decide.{decLt, ℕ-discrete}
 use native.Mathlib.Nat.{add-zero}
 use native.Mathlib.Omega.{arith}
-use borrow.Author.Tests.{eq-eqb, ne-eqb}
+use borrow.Author.Tests.{ne-eqb}
 use lib.ListN.{length, getD, set, length-set, length-append, List·getD-append}
 use lib.Seq.{getD-set-same, getD-set-other, getD-append-add}
 use Rattle.theory.specs.Lists.{In, has}
-use Rattle.theory.proofs.Lists.{clash, not-so, same-test, In-has, has-In}
+use Rattle.theory.proofs.Lists.{not-so, has-In, has-last, has-before}
 use Rattle.theory.proofs.Enqueue.{Distinct, join, join-distinct, join-cases, distinct-length}
 use Rattle.statements.specs.Layout.{queueAt, enteredAt, waitingAt, visitedAt}
 use Rattle.statements.specs.Ready.{Keeps}
@@ -113,22 +113,7 @@ module _ {n d : ℕ} {ws : List ℕ} {queue : Queue} {w : List ℕ} (h : Waits w
       let more : length (join w d) ≡ length w + 1 = ap length (join-new d w e) ∙ length-append w (d ∷ []) in
       omega (arith, h .count)
 
-has-back : (w : List ℕ) (d : ℕ) → has d (w ++ (d ∷ [])) ≡ true
-has-back w d = In-has (Memᴰ·append-right w (List·Memᴰ·head refl))
-
-has-front : (w : List ℕ) {d e : ℕ} → e ≢ d → has e (w ++ (d ∷ [])) ≡ has e w
-has-front w {d} {e} n =
-    same-test (has e (w ++ (d ∷ []))) (has e w)
-    (λ t. In-has (⊎-elim (λ m. m) (λ m. absurd (n (List·Memᴰ·eq-of-singleton m))) (List·Memᴰ·append-cases w (has-In e (w ++ (d ∷ [])) t))))
-    (λ t. In-has (Memᴰ·append-left (d ∷ []) (has-In e w t)))
-
 module _ {n d : ℕ} {ws : List ℕ} {queue : Queue} {w : List ℕ} (h : Waits ws n queue w) (l : d < 2 * n) (fits : visitedAt n ≤ length ws) (new : has d w ≡ false) where
-  flag-at : ℕ
-  flag-at = waitingAt n + d
-
-  slot-at : ℕ
-  slot-at = queueAt n + wrapped (2 * n) (queue .head + queue .len)
-
   after : List ℕ
   after = set (set ws (waitingAt n + d) 1) (queueAt n + wrapped (2 * n) (queue .head + queue .len)) d
 
@@ -160,11 +145,11 @@ module _ {n d : ℕ} {ws : List ℕ} {queue : Queue} {w : List ℕ} (h : Waits w
   back-flag e m (yes q) =
       ap (λ z. getD (set ws (waitingAt n + d) 1) (waitingAt n + z) 0) q
       ∙ getD-set-same ws (waitingAt n + d) 1 0 (omega arith)
-      ∙ sym (ap (λ z. cond (has z (w ++ (d ∷ []))) 1 0) q ∙ ap (λ b. cond b 1 0) (has-back w d))
+      ∙ sym (ap (λ z. cond (has z (w ++ (d ∷ []))) 1 0) q ∙ ap (λ b. cond b 1 0) (has-last w d))
   back-flag e m (no q) =
       getD-set-other ws (waitingAt n + d) (waitingAt n + e) 1 0 (λ r. q (omega arith))
       ∙ h .flag e m
-      ∙ sym (ap (λ b. cond b 1 0) (has-front w q))
+      ∙ sym (ap (λ b. cond b 1 0) (has-before w q))
 
   pub joined-back : Waits (set (set ws (waitingAt n + d) 1) (queueAt n + wrapped (2 * n) (queue .head + queue .len)) d) n (record { head = queue .head; len = queue .len + 1 }) (join w d)
   unfolding after

@@ -1,19 +1,12 @@
 -- `live::begin` meets its contract. The invariant: the statements from i on are noted, wait and have empty sets.
 -- Assumes nothing.
-use Prim.Native.Nat.{_-_}
-use mathlib.Core.Path.{_∙_}
 use native.Mathlib.Omega.{arith}
-use lib.ListN.{length-set}
 use Rattle.flow.specs.Format.{flowOf}
 use Rattle.statements.proofs.Keeps.{ready-keeps}
 use Rattle.live.proofs.Facts.{count-fits, area-in}
 use Rattle.live.proofs.Beginning.{Beginning, beginning-none, beginning-more, beginning-all, noted-waits}
 use Rattle.live.proofs.begin.Statement.{statement}
 use Rattle.live.proofs.begin.Tie as tie
-use Rattle.live.proofs.begin.Reads as reads
-use Rattle.live.proofs.begin.Lts as lts
-use Rattle.live.proofs.note_predecessors.Reads as note-predecessors-reads
-use Rattle.solve.proofs.ring.enqueue.Reads as enqueue-reads
 
 abbrev Inv-loop : tie.InvT-loop
 Inv-loop file work₀ live-in₀ live-out₀ n queue₀ i₀ work live-in live-out queue i = Beginning (flowOf file) n work₀ work live-in₀ live-in live-out₀ live-out queue i
@@ -49,12 +42,11 @@ enqueue-requires : tie.Need-enqueue-requires Inv-loop μ-loop
 enqueue-requires c κs =
     let start = c .before .before .before .before .before .before .before .before .before .before .before in
     let inv = c .before .before .before .before .before .before .loop .inv in
-    let noted = c .before .before .before .note-predecessors .ensures in
-    (
-    count-fits (start .pre .ready),
-    omega (arith, area-in (start .pre .ready) (start .pre .some), inv .kept .size, noted .kept .size),
-    omega (arith, inv .low),
-    (inv .queue .list, noted-waits noted (inv .queue .waits))
+    let noted = c .before .before .before .note-predecessors .ensures in (
+      count-fits (start .pre .ready),
+      omega (arith, area-in (start .pre .ready) (start .pre .some), inv .kept .size, noted .kept .size),
+      omega (arith, inv .low),
+      (inv .queue .list, noted-waits noted (inv .queue .waits)),
     )
 
 loop-less : tie.Need-loop-less Inv-loop μ-loop

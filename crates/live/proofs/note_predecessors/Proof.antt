@@ -2,24 +2,16 @@
 -- Assumes nothing.
 use Prim.Native.Nat.{_-_}
 use native.Mathlib.Omega.{arith}
-use borrow.Author.Needs.{needs}
 use mathlib.Core.Path.{ap, _∙_}
-use lib.ListN.{getD}
 use Rattle.flow.specs.Format.{flowOf}
 use Rattle.theory.specs.Body.{successors}
 use Rattle.statements.specs.Layout.{rowAt}
 use Rattle.statements.proofs.Keeps.{ready-keeps}
-use Rattle.statements.proofs.WorkArea.{row-fits, row-from, member-word}
+use Rattle.statements.proofs.WorkArea.{row-fits, member-word}
 use Rattle.live.proofs.Facts.{count-fits, area-in, target-in}
 use Rattle.live.proofs.Noting.{Noting, noting-none, noting-more, noting-all}
 use Rattle.live.proofs.note_predecessors.Statement.{statement}
 use Rattle.live.proofs.note_predecessors.Tie as tie
-use Rattle.live.proofs.note_predecessors.Reads as reads
-use Rattle.live.proofs.note_predecessors.Lts as lts
-use Rattle.statements.proofs.fields.successor.Reads as successor-reads
-use Rattle.statements.proofs.fields.successor_count.Reads as successor-count-reads
-use Rattle.statements.proofs.layout.row.Reads as row-reads
-use Rattle.words.proofs.insert.Reads as insert-reads
 
 abbrev Inv-loop : tie.InvT-loop
 Inv-loop file work₀ n i count k₀ work k = Noting (successors (flowOf file) i) work₀ work n i k

@@ -2,16 +2,10 @@
 -- Assumes nothing.
 use Prim.Native.Nat.{_-_}
 use native.Mathlib.Omega.{arith}
-use borrow.Author.Needs.{needs}
 use Rattle.live.proofs.Facts.{row-room}
 use Rattle.live.proofs.Pushing.{Pushing, pushing-none, next-later, pushing-more, pushing-all}
 use Rattle.live.proofs.push_live.Statement.{statement}
 use Rattle.live.proofs.push_live.Tie as tie
-use Rattle.live.proofs.push_live.Reads as reads
-use Rattle.live.proofs.push_live.Lts as lts
-use Rattle.live.proofs.push_to.Reads as push-to-reads
-use Rattle.statements.proofs.layout.row.Reads as row-reads
-use Rattle.words.proofs.next.Reads as next-reads
 
 abbrev Inv-loop : tie.InvT-loop
 Inv-loop work₀ live-out₀ n j live row queue₀ i₀ work live-out queue i = Pushing work₀ work live-out₀ live-out n queue₀ queue j live i

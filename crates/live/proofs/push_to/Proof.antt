@@ -4,10 +4,6 @@ use Rattle.live.proofs.Spread.{pushed-waits, pushed-same}
 use borrow.Author.Needs.{needs}
 use Rattle.live.proofs.push_to.Statement.{statement}
 use Rattle.live.proofs.push_to.Tie as tie
-use Rattle.live.proofs.push_to.Reads as reads
-use Rattle.live.proofs.push_to.Lts as lts
-use Rattle.solve.proofs.ring.enqueue.Reads as enqueue-reads
-use Rattle.words.proofs.union_word.Reads as union-word-reads
 
 union-word-requires : tie.Need-union-word-requires
 union-word-requires c κs = search needs

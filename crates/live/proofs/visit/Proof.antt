@@ -1,6 +1,5 @@
 -- `live::visit` meets its contract: the front is a statement, its live-in is the transfer of its live-out, and pushing that keeps the invariant.
 -- Assumes nothing.
-use Prim.Native.Nat.{_<_}
 use mathlib.Core.Path.{_∙_, ap, ap₂}
 use native.Mathlib.Omega.{arith}
 use lib.Bits.{bitOr}
@@ -10,14 +9,6 @@ use Rattle.live.proofs.Visits.{rest-ready, taken-small, taken-held, vis
 use borrow.Author.Needs.{needs}
 use Rattle.live.proofs.visit.Statement.{statement}
 use Rattle.live.proofs.visit.Tie as tie
-use Rattle.live.proofs.visit.Reads as reads
-use Rattle.live.proofs.visit.Lts as lts
-use Rattle.live.proofs.push_live.Reads as push-live-reads
-use Rattle.solve.proofs.ring.rest.Reads as rest-reads
-use Rattle.solve.proofs.ring.take.Reads as take-reads
-use Rattle.statements.proofs.fields.read.Reads as read-reads
-use Rattle.statements.proofs.fields.written.Reads as written-reads
-use Rattle.words.proofs.difference.Reads as difference-reads
 
 take-requires : tie.Need-take-requires
 take-requires c κs =
@@ -61,13 +52,12 @@ push-live-requires : tie.Need-push-live-requires
 push-live-requires c κs =
     let start = c .before .before .before .before .before .before .before .before .before .before .before .before .before .before .before .before .before in
     let take = c .before .before .before .before .before .before .before .before .before .before .before .take in
-    let size = take .ensures .kept .size in
-    (
-    count-fits (start .pre .0),
-    omega (arith, area-in (start .pre .0) (omega (arith, start .pre .4 .1 .front))),
-    start .pre .2,
-    taken-small (start .pre .4) (start .pre .5) (take .ensures),
-    taken-held (start .pre .4) (start .pre .5) (take .ensures) (c .before .before .before .before .before .before .before .before .rest .result) (c .before .before .before .before .before .before .before .before .rest .ensures)
+    let size = take .ensures .kept .size in (
+      count-fits (start .pre .0),
+      omega (arith, area-in (start .pre .0) (omega (arith, start .pre .4 .1 .front))),
+      start .pre .2,
+      taken-small (start .pre .4) (start .pre .5) (take .ensures),
+      taken-held (start .pre .4) (start .pre .5) (take .ensures) (c .before .before .before .before .before .before .before .before .rest .result) (c .before .before .before .before .before .before .before .before .rest .ensures),
     )
 
 same-length : tie.Need-same-length

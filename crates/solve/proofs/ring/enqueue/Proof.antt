@@ -7,7 +7,6 @@ use native.Mathlib.Omega.{arith}
 use lib.ListN.{getD, length-set}
 use borrow.Author.Needs.{needs}
 use Rattle.statements.specs.Layout.{waitingAt}
-use Rattle.solve.specs.Waiting.{wrapped}
 use Rattle.solve.proofs.Wrapped.{wrapped-lt}
 use Rattle.solve.proofs.Waiting.{room, waits-false, enqueued, enqueued-waiting}
 use Rattle.solve.proofs.ring.enqueue.Statement.{statement}

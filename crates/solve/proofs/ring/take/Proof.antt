@@ -1,7 +1,7 @@
 -- `solve::ring::take` meets its contract: the front's word is a number below 2 n, and the one store says that it waits no more.
 -- Assumes nothing.
 use Prim.Native.Nat.{_+_, _*_, _<_}
-use mathlib.Core.Path.{_∙_, ap, subst, sym}
+use mathlib.Core.Path.{subst, sym}
 use native.Mathlib.Omega.{arith}
 use lib.ListN.{getD}
 use borrow.Author.Needs.{needs}
