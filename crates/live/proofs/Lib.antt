@@ -8,3 +8,4 @@ pub mod Solved
 pub mod Visits
 pub mod Beginning
 pub mod Finishing
+pub mod Blank
