@@ -9,8 +9,11 @@ use Rattle.flow.specs.Flow.{Flow, size}
 use Rattle.flow.specs.Limits.{workWords}
 use Rattle.flow.specs.Fields.{FitFile}
 use Rattle.flow.specs.Answers.{headerOf}
-use Rattle.theory.specs.Masks.{maskOf, visitsOf}
+use Rattle.words.specs.Byte.{byteAt}
+use Rattle.theory.specs.Masks.{nodeMask, maskOf, visitsOf}
 use Rattle.theory.specs.Live.{liveInWord, liveOutWord}
+use Rattle.statements.specs.Layout.{maskRowAt, queueAt, areaEnd}
+use Rattle.statements.specs.Ready.{Keeps}
 use Rattle.dataflow.specs.Promise.{Written}
 
 pub record Blank (s : List ℕ) (h : Header) (masks liveIn liveOut work : List ℕ) : Type 0 where
@@ -30,3 +33,9 @@ pub record Solved (f : Flow) (masks masks′ liveIn liveIn′ liveOut liveOut′
   pub live-in : Written (size f) (liveInWord f) liveIn liveIn′
   pub live-out : Written (size f) (liveOutWord f) liveOut liveOut′
   pub count : visits ≡ visitsOf f
+
+-- the forward solver has ended: its visits, and the masks of each doubled number in its row
+pub record Arrayed (f : Flow) (n : ℕ) (ws vs : List ℕ) (visits : ℕ) : Type 0 where
+  pub visited : visits ≡ visitsOf f
+  pub rows : (d a : ℕ) → d < 2 * n → a < f .arrays → byteAt vs (maskRowAt n d) a ≡ nodeMask f d a
+  pub kept : Keeps (queueAt n) (areaEnd n) ws vs

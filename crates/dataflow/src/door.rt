@@ -6,6 +6,7 @@ ghost use Rattle.dataflow.specs.Promise.{Promise, Door};
 ghost use Rattle.dataflow.specs.Phases.{Blank, Solved};
 use crate::Answer;
 use crate::arrays;
+use crate::write;
 use statements::layout;
 
 // What the phases find of a file and areas that are fit. The work area is zero before.
@@ -21,12 +22,12 @@ fn solve_flow(
     ensures { λ r. ⌜ Solved (flowOf (now (file .entry))) (now (masks .entry)) (now (masks .exit)) (now («live_in» .entry)) (now («live_in» .exit)) (now («live_out» .entry)) (now («live_out» .exit)) r ⌝ }
 {
     let n = h.statements;
-    let arrays = h.arrays;
+    let count = h.arrays;
     records::offsets::note_offsets(file, work, 0, n);
     calls::summary::summarize_calls(file, h, work);
     calls::returns::note_returns(file, h, work);
     let visits = arrays::array_states(file, h, work);
-    arrays::write_masks(masks, work, n, arrays);
+    write::write_masks(masks, work, n, count);
     let matrix = layout::row(n, 0);
     words::clear(work, matrix, layout::visited(n) - matrix);
     live::live_names(file, work, live_in, live_out, n);
