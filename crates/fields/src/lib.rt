@@ -38,6 +38,7 @@ pub fn successor(file: &[u8], p: usize, k: usize) -> StmtId
     StmtId(u16_at(file, p + 6 + 2 * k))
 }
 
+// The place of the reference count.
 fn references_place(file: &[u8], p: usize) -> usize
     requires { ⌜ FitRecord (now file) p ⌝ }
     ensures { λ r. ⌜ r ≡ referencesPlace (now (file .entry)) p ⌝ }
@@ -59,6 +60,7 @@ pub fn reference(file: &[u8], p: usize, k: usize) -> usize
     u8_at(file, references_place(file, p) + 1 + k)
 }
 
+// Array a as a bit of word w: none where it belongs to another word.
 fn bit_in(w: usize, a: usize) -> u64
     ensures { λ r. ⌜ r ≡ bitIn w a ⌝ }
 {
@@ -81,6 +83,7 @@ pub fn references_word(file: &[u8], p: usize, w: usize) -> u64
     word
 }
 
+// The place of the names written; those read follow.
 fn names_place(file: &[u8], p: usize) -> usize
     requires { ⌜ FitRecord (now file) p ⌝ }
     ensures { λ r. ⌜ r ≡ namesPlace (now (file .entry)) p ⌝ }
@@ -103,6 +106,7 @@ pub fn read(file: &[u8], p: usize) -> u64
     u64_at(file, names_place(file, p) + 8)
 }
 
+// Where the kind's data begin.
 fn data_place(file: &[u8], p: usize) -> usize
     requires { ⌜ FitRecord (now file) p ⌝ }
     ensures { λ r. ⌜ r ≡ dataPlace (now (file .entry)) p ⌝ }
@@ -110,6 +114,7 @@ fn data_place(file: &[u8], p: usize) -> usize
     names_place(file, p) + 16
 }
 
+// The items of a DIM; other kinds have none.
 pub fn item_count(file: &[u8], p: usize) -> usize
     requires { ⌜ FitRecord (now file) p ⌝ }
     ensures { λ r. ⌜ r ≡ itemCount (now (file .entry)) p ⌝ }
@@ -132,6 +137,7 @@ pub fn item(file: &[u8], p: usize, k: usize) -> Item
     }
 }
 
+// The lines of a call, of which GOSUB has one; other kinds have none.
 pub fn line_count(file: &[u8], p: usize) -> usize
     requires { ⌜ FitRecord (now file) p ⌝ }
     ensures { λ r. ⌜ r ≡ callLineCount (now (file .entry)) p ⌝ }
