@@ -72,15 +72,5 @@ pub enum Entered {
     Nothing,
 }
 
-// Whether what was judged is fit.
-pub enum Verdict {
-    Fit,
-    Unfit(Refusal),
-}
-
-pub mod areas;
-mod bytes;
+pub mod bytes;
 pub mod check;
-pub mod fields;
-pub mod lines;
-pub mod offsets;
