@@ -5,6 +5,7 @@ ghost use Rattle.flow.specs.Format.{lineAt, kindAt, successorCount, successorAt
 ghost use Rattle.flow.specs.Fields.{FitRecord, recordPart, itemCount, callLineCount, callLineAt, continuationIn, continuationTo, bitIn, wordOf};
 use flow::Continuation;
 use flow::Item;
+use flow::NO_CONTINUATION;
 use flow::StmtId;
 use flow::bytes::u8_at;
 use flow::bytes::u16_at;
@@ -184,7 +185,7 @@ pub fn continuation(file: &[u8], p: usize) -> Continuation
         return Continuation::None;
     }
     let t = u16_at(file, record_end(file, p) - 2);
-    if t == 65535 {
+    if t == NO_CONTINUATION {
         Continuation::None
     } else {
         Continuation::To(StmtId(t))
