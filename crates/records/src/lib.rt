@@ -5,6 +5,7 @@ ghost use Rattle.flow.specs.Format.{lineAt, kindAt, successorCount, successorAt
 ghost use Rattle.flow.specs.Fields.{FitRecord, recordPart, itemCount, callLineCount, callLineAt, continuationIn, continuationTo, bitIn, wordOf};
 use flow::Continuation;
 use flow::Item;
+use flow::NO_CONTINUATION;
 use flow::StmtId;
 use flow::bytes::u8_at;
 use flow::bytes::u16_at;
@@ -38,6 +39,7 @@ pub fn successor(file: &[u8], p: usize, k: usize) -> StmtId
     StmtId(u16_at(file, p + 6 + 2 * k))
 }
 
+// The place of the reference count.
 fn references_place(file: &[u8], p: usize) -> usize
     requires { ⌜ FitRecord (now file) p ⌝ }
     ensures { λ r. ⌜ r ≡ referencesPlace (now (file .entry)) p ⌝ }
@@ -59,6 +61,7 @@ pub fn reference(file: &[u8], p: usize, k: usize) -> usize
     u8_at(file, references_place(file, p) + 1 + k)
 }
 
+// Array a as a bit of word w: none where it belongs to another word.
 fn bit_in(w: usize, a: usize) -> u64
     ensures { λ r. ⌜ r ≡ bitIn w a ⌝ }
 {
@@ -81,6 +84,7 @@ pub fn references_word(file: &[u8], p: usize, w: usize) -> u64
     word
 }
 
+// The place of the names written; those read follow.
 fn names_place(file: &[u8], p: usize) -> usize
     requires { ⌜ FitRecord (now file) p ⌝ }
     ensures { λ r. ⌜ r ≡ namesPlace (now (file .entry)) p ⌝ }
@@ -103,6 +107,7 @@ pub fn read(file: &[u8], p: usize) -> u64
     u64_at(file, names_place(file, p) + 8)
 }
 
+// Where the kind's data begin.
 fn data_place(file: &[u8], p: usize) -> usize
     requires { ⌜ FitRecord (now file) p ⌝ }
     ensures { λ r. ⌜ r ≡ dataPlace (now (file .entry)) p ⌝ }
@@ -110,6 +115,7 @@ fn data_place(file: &[u8], p: usize) -> usize
     names_place(file, p) + 16
 }
 
+// The items of a DIM; other kinds have none.
 pub fn item_count(file: &[u8], p: usize) -> usize
     requires { ⌜ FitRecord (now file) p ⌝ }
     ensures { λ r. ⌜ r ≡ itemCount (now (file .entry)) p ⌝ }
@@ -132,6 +138,7 @@ pub fn item(file: &[u8], p: usize, k: usize) -> Item
     }
 }
 
+// The lines of a call, of which GOSUB has one; other kinds have none.
 pub fn line_count(file: &[u8], p: usize) -> usize
     requires { ⌜ FitRecord (now file) p ⌝ }
     ensures { λ r. ⌜ r ≡ callLineCount (now (file .entry)) p ⌝ }
@@ -178,7 +185,7 @@ pub fn continuation(file: &[u8], p: usize) -> Continuation
         return Continuation::None;
     }
     let t = u16_at(file, record_end(file, p) - 2);
-    if t == 65535 {
+    if t == NO_CONTINUATION {
         Continuation::None
     } else {
         Continuation::To(StmtId(t))
