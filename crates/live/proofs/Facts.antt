@@ -9,8 +9,8 @@ use lib.ListN.{length, getD}
 use lib.Pow.{pow-mono}
 use Rattle.flow.specs.Flow.{statement, size}
 use Rattle.flow.specs.Format.{flowOf}
-use Rattle.flow.proofs.Files.{limited}
-use Rattle.flow.proofs.Statements.{size-is}
+use Rattle.records.proofs.Files.{limited}
+use Rattle.records.proofs.Statements.{size-is}
 use Rattle.theory.specs.Lists.{In}
 use Rattle.theory.specs.Body.{successors}
 use Rattle.statements.specs.Layout.{rowWords, rowAt, queueAt, visitedAt, areaEnd}

@@ -11,7 +11,7 @@ use lib.Pow.{pow-mono}
 use Rattle.words.specs.Row.{bit}
 use Rattle.flow.specs.Flow.{statement, size}
 use Rattle.flow.specs.Format.{flowOf, namesOf}
-use Rattle.flow.proofs.Files.{limited}
+use Rattle.records.proofs.Files.{limited}
 use Rattle.theory.specs.Live.{member, LiveIn, LiveOut, liveIn, liveOut, liveInWord, liveOutWord}
 use Rattle.theory.proofs.Lists.{same-test}
 use Rattle.theory.proofs.Live.{liveIn-sound, liveIn-complete, liveOut-sound, liveOut-complete}
