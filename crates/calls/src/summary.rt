@@ -8,14 +8,9 @@ ghost use Rattle.statements.specs.Layout.{callsAt, enteredAt};
 ghost use Rattle.statements.specs.Ready.{Ready, Keeps};
 ghost use Rattle.calls.specs.Held.{Fresh, Summarized};
 use crate::walk::walk;
+use crate::{CLEAR, OPAQUE, OPEN, UNENTERED};
 use statements::fields;
 use statements::layout;
-
-// The states of a body and of a call. An open body is being walked: whoever calls it then lies on a cycle of calls with it.
-pub const UNENTERED: u64 = 0;
-pub const OPEN: u64 = 1;
-pub const CLEAR: u64 = 2;
-pub const OPAQUE: u64 = 3;
 
 fn settled(opaque: bool) -> u64 {
     if opaque { OPAQUE } else { CLEAR }
