@@ -37,13 +37,17 @@ pub record WalkRow (f : Flow) (ws : List ℕ) (n e : ℕ) : Type 0 where
   pub sound : (i : ℕ) → i < n → has ws (rowAt n e) i ≡ 1 → Walks f e i
   pub complete : (i : ℕ) → Walks f e i → has ws (rowAt n e) i ≡ 1
 
--- the walk of e is in its row; the queue's words were used, and every other word is as it was
-pub record Walked (f : Flow) (ws vs : List ℕ) (n e : ℕ) : Type 0 where
-  pub row : WalkRow f vs n e
+-- of the words, only those of row e and of the queue may be others
+pub record OnlyRow (ws vs : List ℕ) (n e : ℕ) : Type 0 where
   pub size : length vs ≡ length ws
   pub below : (x : ℕ) → x < rowAt n e → getD vs x 0 ≡ getD ws x 0
   pub between : (x : ℕ) → rowAt n e + rowWords n ≤ x → x < queueAt n → getD vs x 0 ≡ getD ws x 0
   pub above : (x : ℕ) → enteredAt n ≤ x → getD vs x 0 ≡ getD ws x 0
+
+-- the walk of e is in its row; the queue's words were used, and every other word is as it was
+pub record Walked (f : Flow) (ws vs : List ℕ) (n e : ℕ) : Type 0 where
+  pub row : WalkRow f vs n e
+  pub only : OnlyRow ws vs n e
 
 -- no call and no body has a summary yet, and the matrix is empty
 pub record Fresh (ws : List ℕ) (n : ℕ) : Type 0 where
