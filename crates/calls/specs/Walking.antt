@@ -40,5 +40,6 @@ pub record Met (ws vs : List ℕ) (n e top height : ℕ) (l : List ℕ) : Type 0
   pub pushed : (k : ℕ) → top ≤ k → k < height → Entry vs n e k
   pub still : (j : ℕ) → j < n → has ws (rowAt n e) j ≡ 1 → has vs (rowAt n e) j ≡ 1
   pub new : (j : ℕ) → j < n → has vs (rowAt n e) j ≡ 1 → (has ws (rowAt n e) j ≡ 1) ⊎ (In j l × Stacked vs n height j)
+  pub low : (j : ℕ) → In j l → j < n
   pub all : (j : ℕ) → In j l → has vs (rowAt n e) j ≡ 1
   pub count : met vs n e + top ≡ met ws n e + height

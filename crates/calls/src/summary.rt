@@ -7,8 +7,11 @@ ghost use Rattle.flow.specs.Answers.{headerOf};
 ghost use Rattle.statements.specs.Layout.{callsAt, enteredAt};
 ghost use Rattle.statements.specs.Ready.{Ready, Keeps};
 ghost use Rattle.calls.specs.Held.{Fresh, Summarized};
+use crate::CLEAR;
+use crate::OPAQUE;
+use crate::OPEN;
+use crate::UNENTERED;
 use crate::walk::walk;
-use crate::{CLEAR, OPAQUE, OPEN, UNENTERED};
 use statements::fields;
 use statements::layout;
 

@@ -1,0 +1,63 @@
+-- A file that was found fit stands for a flow that is well formed and has n statements, at most 2,048.
+-- By what a fit file gives its readers, and what is asked of the work area before statements are read by number.
+use Prim.Native.Nat.{ℕ, zero, suc, _≤_, _<_}
+use mathlib.Core.List.{List, [], _∷_, List·Memᴰ·head, List·Memᴰ·tail}
+use mathlib.Core.Option.{Option, none, some}
+use mathlib.Core.Path.{_≡_, refl, sym, ap, _∙_, subst}
+use native.Mathlib.Omega.{arith}
+use lib.ListN.{length, getD}
+use Rattle.flow.specs.Limits.{maxStatements}
+use Rattle.flow.specs.Flow.{size}
+use Rattle.flow.specs.declared.StmtId.{StmtId}
+use Rattle.flow.specs.declared.Continuation as C
+use Rattle.flow.specs.declared.Entered as E
+use Rattle.flow.specs.Fields.{continuationTo, enteredAt}
+use Rattle.flow.specs.Format.{flowOf}
+use Rattle.flow.proofs.Files.{limited}
+use Rattle.flow.proofs.Statements.{size-is}
+use Rattle.theory.specs.Lists.{In}
+use Rattle.theory.specs.Body.{walkNext}
+use Rattle.theory.specs.WellFormed.{WellFormed}
+use Rattle.theory.proofs.Body.{walkNext-below}
+use Rattle.statements.specs.Ready.{Ready}
+use Rattle.statements.proofs.WellFormed.{well-formed}
+
+module _ {s ws : List ℕ} {n : ℕ} (r : Ready s ws n) where
+  pub ready-few : n ≤ maxStatements
+  ready-few = let q = r .count in omega (arith, limited (r .fit) .statements)
+
+  pub ready-size : size (flowOf s) ≡ n
+  ready-size = size-is s ∙ sym (r .count)
+
+  pub ready-formed : WellFormed (flowOf s)
+  ready-formed = well-formed (r .fit)
+
+  pub ready-below : {j : ℕ} → j < size (flowOf s) → j < n
+  ready-below {j} l = subst (λ m. j < m) ready-size l
+
+  pub ready-next : (i j : ℕ) → In j (walkNext (flowOf s) i) → j < n
+  ready-next i j m = ready-below (walkNext-below ready-formed i j m)
+
+-- What a continuation and an entered statement are told as
+
+pub continues-to : (o : Option ℕ) (k : StmtId) → continuationTo o ≡ C.the-variants.To k → o ≡ some (k .0)
+continues-to none k e = let z : _≡_ {A = ℕ} 0 1 = cc in absurd (omega arith)
+continues-to (some t) k e = let q : record { 0 = t } ≡ k = cc in ap (λ (x : StmtId). some (x .0)) q
+
+pub continues-nowhere : (o : Option ℕ) → continuationTo o ≡ C.the-variants.None → o ≡ none
+continues-nowhere none e = refl
+continues-nowhere (some t) e = let z : _≡_ {A = ℕ} 0 1 = cc in absurd (omega arith)
+
+pub enters-at : (o : Option ℕ) (k : StmtId) → enteredAt o ≡ E.the-variants.At k → o ≡ some (k .0)
+enters-at none k e = let z : _≡_ {A = ℕ} 0 1 = cc in absurd (omega arith)
+enters-at (some t) k e = let q : record { 0 = t } ≡ k = cc in ap (λ (x : StmtId). some (x .0)) q
+
+pub enters-nothing : (o : Option ℕ) → enteredAt o ≡ E.the-variants.Nothing → o ≡ none
+enters-nothing none e = refl
+enters-nothing (some t) e = let z : _≡_ {A = ℕ} 0 1 = cc in absurd (omega arith)
+
+-- the element at a place of a list is one of it
+pub getD-In : (l : List ℕ) (k : ℕ) → k < length l → In (getD l k 0) l
+getD-In [] k h = absurd (omega arith)
+getD-In (x ∷ l) zero h = List·Memᴰ·head refl
+getD-In (x ∷ l) (suc k) h = List·Memᴰ·tail (getD-In l k (omega arith))
