@@ -1,3 +1,4 @@
 pub mod Held
 pub mod Walking
+pub mod Summing
 pub mod Slots
