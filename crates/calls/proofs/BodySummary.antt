@@ -25,7 +25,7 @@ use Rattle.theory.proofs.Body.{walked-sound, touches-sound, touches-complete, t
 use Rattle.theory.proofs.Clear.{Clear, clear-opaque, callee-clear}
 use Rattle.statements.specs.Layout.{callsAt, callTouchedAt, bodiesAt, touchedAt, matrixAt, rowAt}
 use Rattle.statements.specs.Ready.{MembersWord}
-use Rattle.calls.specs.Held.{unentered, opened, clear, opaque, WalkRow, Walked}
+use Rattle.calls.specs.Held.{unentered, opened, clear, opaque, EmptyRow, WalkRow, Walked}
 use Rattle.calls.specs.Summing.{body, call, touchedBy, callTouchedBy, settled, Within, Holds, BodyState, CallState, Summing, OnwardBut, Onward, Leads, Referred, CallJoined, BodySummed, CallSummed}
 use Rattle.calls.proofs.Summing.{joined-more, joined-has, onward-refl, onward-trans, onward-but, onward-all, walk-low, onward-touched, summing-touched, body-set, body-other, onward-body, summing-body, body-open, onward-open, summing-open, rows-set, walk-kept}
 
@@ -49,6 +49,12 @@ open-row h (BodyState.is-unentered e r) = absurd (omega (arith, h, e))
 open-row h (BodyState.is-open e r) = r
 open-row h (BodyState.is-clear e o t r) = absurd (omega (arith, h, e))
 open-row h (BodyState.is-opaque e o r) = absurd (omega (arith, h, e))
+
+pub unentered-row : {f : Flow} {ws : List ℕ} {n b : ℕ} → body ws n b ≡ unentered → BodyState f ws n b → EmptyRow ws n b
+unentered-row h (BodyState.is-unentered e r) = r
+unentered-row h (BodyState.is-open e r) = absurd (omega (arith, h, e))
+unentered-row h (BodyState.is-clear e o t r) = absurd (omega (arith, h, e))
+unentered-row h (BodyState.is-opaque e o r) = absurd (omega (arith, h, e))
 
 -- what a call says that is not opaque by its state
 pub record NotHidden (f : Flow) (ws : List ℕ) (n c : ℕ) : Type 0 where
@@ -177,6 +183,9 @@ body-next {f} {ws₀} {ws} {n} {e} {from} {hidden} le l p {base} {i} q is = reco
     passed : (j : ℕ) → j < i → Walks f e j → hidden ≡ false → Dec (j < from) → Passed f ws n e j
     passed j h r z (yes k) = p .passed j k r z
     passed j h r z (no k) = absurd (let w : j < nextMember ws (rowAt n e) from n = rw is′ at h in omega (arith, is-first .none j (omega (arith, k)) w, row .complete j r))
+
+pub next-low : (ws : List ℕ) (base : ℕ) {from n i : ℕ} → from ≤ n → i ≡ nextMember ws base from n → from ≤ i
+next-low ws base {from} {n} l q = rw q (first ws base from n l .low)
 
 pub passed-none : {f : Flow} {ws : List ℕ} {n e : ℕ} → Summing f ws n → body ws n e ≡ opened → PassedBelow f ws ws n e false 0
 passed-none {ws = ws} {n} s h = record {

@@ -110,7 +110,7 @@ below-next {f} {ws₀} {ws} {vs} {n} {c} p l s = record {
 
 -- In the end
 
-none-some : {o : Option ℕ} {k : ℕ} → o ≡ none → o ≡ some k → ⊥
+pub none-some : {o : Option ℕ} {k : ℕ} → o ≡ none → o ≡ some k → ⊥
 none-some h q = let z : _≡_ {A = ℕ} 0 1 = cc in omega arith
 
 ordinary : {f : Flow} {ws : List ℕ} {n c : ℕ} → continuationOf (kind f c) ≡ none → CallState f ws n c → call ws n c ≡ unentered

@@ -77,9 +77,9 @@ fn sub_effect(file: &[u8], h: flow::Header, work: &mut [u64], e: usize)
     let mut i = words::next(work, row, 0, n);
     while i < n {
         join_references(file, work, n, e, i);
+        let wiped = fields::wipes(file, work, n, i);
         call_summary(file, h, work, i);
         let hidden = join_call(work, n, e, i);
-        let wiped = fields::wipes(file, work, n, i);
         opaque = opaque | wiped | hidden;
         i = words::next(work, row, i + 1, n);
     }
