@@ -1,6 +1,6 @@
 -- The summary of a body, statement by statement of its walk: what was passed by is clear and its arrays are noted, or the body is opaque.
 -- A body with nothing opaque on its walk is clear, since the bodies that its calls enter are; what it touches is then all noted.
-use Prim.Native.Nat.{ℕ, _+_, _<_, _≤_, zero-le}
+use Prim.Native.Nat.{ℕ, _+_, _<_, _≤_}
 use mathlib.Core.Bool.{Bool, true, false, cond, _||_}
 use mathlib.Core.List.{List, [], List·Memᴰ·not-nil}
 use mathlib.Core.Logic.{_≢_, ⊎-elim}
@@ -8,10 +8,9 @@ use mathlib.Core.Option.{Option, none, some}
 use mathlib.Core.Path.{_≡_, refl, sym, ap, _∙_, subst}
 use native.Mathlib.Decide.{decLt, ℕ-discrete}
 use native.Mathlib.Omega.{arith}
-use borrow.Author.Tests.{eqb-true, eqb-false, eq-eqb}
-use lib.ListN.{length, getD, set}
+use borrow.Author.Tests.{eqb-true, eqb-false}
+use lib.ListN.{length, set}
 use Rattle.words.specs.Row.{bit, nextMember}
-use Rattle.words.specs.Change.{joined}
 use Rattle.words.proofs.NextMember.{first}
 use Rattle.flow.specs.Flow.{Flow, Kind, size}
 use Rattle.theory.specs.Lists as lists
@@ -23,11 +22,11 @@ use Rattle.theory.specs.WellFormed.{WellFormed}
 use Rattle.theory.proofs.Lists.{clash, or-cases, any-find, In-has, has-In}
 use Rattle.theory.proofs.Body.{walked-sound, touches-sound, touches-complete, touches-equation, opaque-complete, opaqueCall-sound, callTouches-sound}
 use Rattle.theory.proofs.Clear.{Clear, clear-opaque, callee-clear}
-use Rattle.statements.specs.Layout.{callsAt, callTouchedAt, bodiesAt, touchedAt, matrixAt, rowAt}
+use Rattle.statements.specs.Layout.{bodiesAt, touchedAt, matrixAt, rowAt}
 use Rattle.statements.specs.Ready.{MembersWord}
-use Rattle.calls.specs.Held.{unentered, opened, clear, opaque, EmptyRow, WalkRow, Walked}
+use Rattle.calls.specs.Held.{unentered, opened, clear, opaque, EmptyRow, WalkRow}
 use Rattle.calls.specs.Summing.{body, call, touchedBy, callTouchedBy, settled, Within, Holds, BodyState, CallState, Summing, OnwardBut, Onward, Leads, Referred, CallJoined, BodySummed, CallSummed}
-use Rattle.calls.proofs.Summing.{joined-more, joined-has, onward-refl, onward-trans, onward-but, onward-all, walk-low, onward-touched, summing-touched, body-set, body-other, onward-body, summing-body, body-open, onward-open, summing-open, rows-set, walk-kept}
+use Rattle.calls.proofs.Summing.{joined-has, onward-refl, onward-trans, onward-but, onward-all, walk-low, onward-touched, summing-touched, body-set, body-other, onward-body, summing-body, rows-set, walk-kept}
 
 -- Members of a word
 

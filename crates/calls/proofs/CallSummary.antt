@@ -1,12 +1,11 @@
 -- The summary of a call, line by line: the bodies that the lines passed by enter were entered, and are clear with their arrays noted, or the call is opaque.
 -- An open body that the call enters lies on a cycle of calls, since calls lead from every open body to each body that the call enters.
 use Prim.Native.Nat.{ℕ, _+_, _<_, _≤_, zero-le}
-use mathlib.Core.Bool.{Bool, true, false, cond, not, _||_}
-use mathlib.Core.List.{List, [], _∷_, _++_, List·Memᴰ·head, List·Memᴰ·not-nil, List·Memᴰ·append-cases, List·Memᴰ·eq-of-singleton}
+use mathlib.Core.Bool.{Bool, true, false, not, _||_}
+use mathlib.Core.List.{List, [], List·Memᴰ·not-nil, List·Memᴰ·append-cases, List·Memᴰ·eq-of-singleton}
 use mathlib.Core.Logic.{_≢_, _⊎_, inl, inr, ⊎-elim}
-use mathlib.Core.Option.{Option, none, some}
+use mathlib.Core.Option.{none, some}
 use mathlib.Core.Path.{_≡_, refl, sym, ap, _∙_, subst}
-use native.Mathlib.Decide.{ℕ-discrete}
 use native.Mathlib.Numerals.{add-one}
 use native.Mathlib.Omega.{arith}
 use borrow.Author.Tests.{eqb-true, eqb-false, not-true, not-false}
@@ -14,19 +13,18 @@ use lib.Dec.{eqb}
 use lib.ListN.{length, getD, set, take}
 use lib.Seq.{take-suc, take-all}
 use Rattle.words.specs.Row.{bit}
-use Rattle.words.specs.Change.{joined}
 use Rattle.flow.specs.Flow.{Flow, size, enters}
-use Rattle.theory.specs.Lists.{In, any, concatMap, optionList}
+use Rattle.theory.specs.Lists.{In, concatMap, optionList}
 use Rattle.theory.specs.Body as theory
 use Rattle.theory.specs.Body.{kind, callLines, continuationOf, entered, ifSome, callees, Calls⁺, Opaque, OpaqueCall, CallTouches, touches, opaqueCall, callTouches}
 use Rattle.theory.specs.WellFormed.{WellFormed}
 use Rattle.theory.proofs.Lists.{clash, or-cases, any-find, none-any, concatMap-In, In-concatMap, In-optionList, optionList-In}
-use Rattle.theory.proofs.Body.{touches-sound, opaque-sound, opaque-complete, opaqueCall-complete, callTouches-complete}
+use Rattle.theory.proofs.Body.{touches-sound, opaque-sound, opaqueCall-complete, callTouches-complete}
 use Rattle.statements.specs.Layout.{callsAt, callTouchedAt, bodiesAt, matrixAt}
-use Rattle.calls.specs.Held.{unentered, opened, clear, opaque}
-use Rattle.calls.specs.Summing.{body, call, touchedBy, callTouchedBy, settled, Within, Holds, BodyState, Entered, CallState, Summing, Onward, Leads, BodyJoined, BodySummed, CallSummed}
+use Rattle.calls.specs.Held.{unentered, clear, opaque}
+use Rattle.calls.specs.Summing.{body, call, touchedBy, callTouchedBy, settled, Holds, BodyState, Entered, CallState, Summing, Onward, Leads, BodyJoined, BodySummed, CallSummed}
 use Rattle.calls.proofs.Checked.{getD-In}
-use Rattle.calls.proofs.Summing.{joined-has, joined-more, onward-refl, onward-trans, callee-low, onward-callTouched, summing-callTouched, call-set, call-other, onward-call, summing-call}
+use Rattle.calls.proofs.Summing.{joined-has, onward-refl, onward-trans, callee-low, onward-callTouched, summing-callTouched, call-set, call-other, onward-call, summing-call}
 use Rattle.calls.proofs.BodySummary.{settled-not, or-first, or-second}
 
 -- the bodies that lines enter

@@ -4,16 +4,16 @@ use Prim.Native.Nat.{ℕ, _+_, _/_, _<_, _≤_}
 use mathlib.Core.Bool.{Bool, true, false}
 use mathlib.Core.List.{List}
 use mathlib.Core.Logic.{_≢_}
-use mathlib.Core.Path.{_≡_, refl, sym, ap, _∙_, subst}
+use mathlib.Core.Path.{_≡_, sym, ap, _∙_, subst}
 use native.Mathlib.Decide.{decLt, ℕ-discrete}
 use native.Mathlib.Omega.{arith}
-use lib.ListN.{length, getD, set, length-set}
+use lib.ListN.{length, getD, set}
 use lib.Seq.{getD-set-same, getD-set-other}
 use Rattle.words.specs.Row.{bit, has}
 use Rattle.words.specs.Change.{joined}
 use Rattle.words.proofs.Bit.{bit-lt, bit-or}
 use Rattle.words.proofs.Row.{has-cong}
-use Rattle.words.proofs.Inserted.{length-joined, joined-word, joined-other}
+use Rattle.words.proofs.Inserted.{joined-word, joined-other}
 use Rattle.flow.specs.Flow.{Flow, size}
 use Rattle.theory.specs.Lists.{In}
 use Rattle.theory.specs.Body.{kind, isReturn, callees, touches, callTouches, Walks}
@@ -21,11 +21,11 @@ use Rattle.theory.specs.WellFormed.{WellFormed}
 use Rattle.theory.proofs.Lists.{clash}
 use Rattle.theory.proofs.Reach.{reach-below}
 use Rattle.theory.proofs.Body.{walkNext-below, callees-below}
-use Rattle.statements.specs.Layout.{callsAt, callTouchedAt, bodiesAt, touchedAt, matrixAt, rowAt, rowWords, queueAt, enteredAt}
+use Rattle.statements.specs.Layout.{callsAt, callTouchedAt, bodiesAt, touchedAt, matrixAt, rowAt, enteredAt}
 use Rattle.statements.specs.Ready.{Keeps}
 use Rattle.statements.proofs.WorkArea.{member-word, row-from, row-fits, rows-apart}
 use Rattle.statements.proofs.Keeps.{keeps-trans, keeps-refl, keeps-set, keeps-joined, keeps-widen}
-use Rattle.calls.specs.Held.{unentered, opened, EmptyRow, WalkRow, OnlyRow, Walked}
+use Rattle.calls.specs.Held.{unentered, opened, EmptyRow, WalkRow, Walked}
 use Rattle.calls.specs.Summing.{body, call, touchedBy, callTouchedBy, Within, BodyState, Entered, CallState, Summing, OnwardBut, Onward}
 use Rattle.calls.proofs.Walking.{only-keeps}
 

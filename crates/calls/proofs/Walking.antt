@@ -2,7 +2,7 @@
 -- By the invariant that every statement in the row is on the walk, and that the walk's next statements are in the row too unless it is still on the stack.
 use Prim.Native.Nat.{ℕ, suc, _+_, _*_, _-_, _/_, _<_, _≤_}
 use mathlib.Core.Bool.{Bool, true, false, cond}
-use mathlib.Core.List.{List, [], _∷_, _++_, List·Memᴰ·head, List·Memᴰ·tail, List·Memᴰ·not-nil, List·Memᴰ·append-cases, List·Memᴰ·eq-of-singleton, Memᴰ·cast, Memᴰ·append-left, Memᴰ·append-right}
+use mathlib.Core.List.{List, [], _∷_, _++_, List·Memᴰ·head, List·Memᴰ·not-nil, List·Memᴰ·append-cases, List·Memᴰ·eq-of-singleton, Memᴰ·append-left, Memᴰ·append-right}
 use mathlib.Core.Logic.{_≢_, _⊎_, inl, inr, ⊎-elim}
 use mathlib.Core.Option.{Option}
 use mathlib.Core.Path.{_≡_, refl, sym, ap, _∙_, subst, subst₂}
@@ -14,7 +14,7 @@ use borrow.Author.Tests.{eqb-true, eqb-false}
 use lib.Dec.{eqb}
 use lib.ListN.{length, getD, set, take, length-set}
 use lib.Seq.{take-suc, getD-set-same, getD-set-other}
-use Rattle.words.specs.Row.{has, tally}
+use Rattle.words.specs.Row.{has}
 use Rattle.words.specs.Change.{Inserted, inserted}
 use Rattle.words.proofs.Row.{has-lt, has-cong}
 use Rattle.words.proofs.Tally.{tally-cong, tally-suc, tally-le}
@@ -24,11 +24,11 @@ use Rattle.theory.specs.Lists.{In}
 use Rattle.theory.specs.Reach.{Reach}
 use Rattle.theory.specs.Body.{kind, successors, continuationOf, isReturn, orElse, walkNext, Walks}
 use Rattle.theory.proofs.Reach.{reach-below}
-use Rattle.statements.specs.Layout.{rowAt, rowWords, matrixAt, queueAt, enteredAt}
+use Rattle.statements.specs.Layout.{rowAt, matrixAt, queueAt, enteredAt}
 use Rattle.statements.specs.Ready.{Ready, Keeps}
 use Rattle.statements.proofs.Keeps.{ready-keeps}
 use Rattle.statements.proofs.WorkArea.{member-word, row-from, row-fits, row-below, area-fits}
-use Rattle.calls.specs.Held.{EmptyRow, WalkRow, OnlyRow, Walked}
+use Rattle.calls.specs.Held.{EmptyRow, OnlyRow, Walked}
 use Rattle.calls.specs.Walking.{met, Stack, Stacked, Entry, Met}
 
 -- Words outside the row and the queue

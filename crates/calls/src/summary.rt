@@ -1,19 +1,21 @@
 // Summaries: of a body, by its walk and its calls; of a call, by the bodies that it enters. A subroutine's summary needs its
 // calls, and a call's summary needs its subroutines, so the two functions call each other; the number of unentered entries falls.
-ghost use Prim.Native.Nat.{_<_};
+ghost use Prim.Native.Nat.{ℕ, _<_};
 ghost use mathlib.Core.Path.{_≡_};
 ghost use Rattle.flow.specs.Format.{flowOf};
 ghost use Rattle.flow.specs.Answers.{headerOf};
 ghost use Rattle.statements.specs.Layout.{callsAt, enteredAt};
 ghost use Rattle.statements.specs.Ready.{Ready, Keeps};
-ghost use Prim.Native.Nat.{ℕ};
 ghost use Rattle.theory.specs.Lists.{In};
 ghost use Rattle.theory.specs.Body.{callees};
 ghost use Rattle.calls.specs.Held.{Fresh, Summarized};
 ghost use Rattle.calls.specs.Summing as state;
 ghost use Rattle.calls.specs.Summing.{Area, Summing, Leads, Referred, CallJoined, BodyJoined, BodySummed, CallSummed};
+use crate::CLEAR;
+use crate::OPAQUE;
+use crate::OPEN;
+use crate::UNENTERED;
 use crate::walk::walk;
-use crate::{CLEAR, OPAQUE, OPEN, UNENTERED};
 use statements::fields;
 use statements::layout;
 

@@ -1,10 +1,9 @@
 // The body walk of an entry, into its row of the matrix. The queue's words serve as a stack.
 ghost use Prim.Native.Nat.{_<_};
-ghost use mathlib.Core.Path.{_≡_};
-ghost use Rattle.flow.specs.Format.{flowOf};
-ghost use Rattle.statements.specs.Ready.{Ready};
 ghost use mathlib.Core.List.{_∷_, []};
+ghost use Rattle.flow.specs.Format.{flowOf};
 ghost use Rattle.theory.specs.Body.{successors, walkNext};
+ghost use Rattle.statements.specs.Ready.{Ready};
 ghost use Rattle.calls.specs.Held.{EmptyRow, Walked};
 ghost use Rattle.calls.specs.Walking.{Stack, Met};
 use statements::fields;

@@ -1,11 +1,11 @@
 -- The proof of the cycle of calls {call_summary, sub_effect}. The measure: twice the number of unentered bodies, and one more for a call, since a body is opened between.
 -- What each step makes of the summaries is in the laws of bodies and of calls; here they are put together.
 use Prim.Native.Nat.{ℕ, _+_, _*_, _/_, _-_, _<_, _≤_, zero-le}
-use mathlib.Core.Bool.{Bool, true, false, _||_}
+use mathlib.Core.Bool.{Bool, _||_}
 use mathlib.Core.List.{List}
-use mathlib.Core.Logic.{_≢_, ⊎-elim}
-use mathlib.Core.Option.{Option, none, some}
-use mathlib.Core.Path.{_≡_, refl, sym, ap, _∙_, subst, subst₂}
+use mathlib.Core.Logic.{⊎-elim}
+use mathlib.Core.Option.{some}
+use mathlib.Core.Path.{_≡_, sym, ap, _∙_, subst, subst₂}
 use native.Mathlib.Nat.{le-refl}
 use native.Mathlib.Omega.{arith}
 use borrow.Author.Needs.{needs}
@@ -15,13 +15,13 @@ use Rattle.flow.specs.Flow.{enters}
 use Rattle.flow.specs.Format.{flowOf}
 use Rattle.flow.specs.Limits.{maxStatements, workWords}
 use Rattle.theory.specs.Lists as lists
-use Rattle.theory.specs.Body.{kind, callLines, continuationOf, callees, isReturn, Walks}
-use Rattle.statements.specs.Layout.{callsAt, bodiesAt, matrixAt, rowAt, rowWords, queueAt, enteredAt}
+use Rattle.theory.specs.Body.{kind, callLines, continuationOf, callees, Walks}
+use Rattle.statements.specs.Layout.{callsAt, bodiesAt, matrixAt, rowAt, rowWords, enteredAt}
 use Rattle.statements.specs.Ready.{Ready, Keeps}
-use Rattle.statements.proofs.Keeps.{ready-keeps, keeps-set, keeps-trans}
+use Rattle.statements.proofs.Keeps.{ready-keeps, keeps-set}
 use Rattle.statements.proofs.WorkArea.{row-from, row-fits, row-below}
 use Rattle.calls.specs.Held.{unentered, opened, clear, EmptyRow, Walked}
-use Rattle.calls.specs.Summing.{body, call, settled, BodyState, Summing, OnwardBut, Onward, Leads, BodySummed, CallSummed}
+use Rattle.calls.specs.Summing.{body, call, settled, Summing, OnwardBut, Onward, Leads, BodySummed, CallSummed}
 use Rattle.calls.proofs.Checked.{ready-few, ready-size, ready-formed, continues-to, continues-nowhere, enters-at, enters-nothing}
 use Rattle.calls.proofs.Summing.{onward-refl, onward-trans, onward-but, body-open, onward-open, summing-open, rows-set, callee-low}
 use Rattle.calls.proofs.BodySummary.{BodyLoop, PassedBelow, body-next, passed-none, body-turn, body-done, body-leads, return-done, referred-summing, referred-onward, next-low, unentered-row}
@@ -477,8 +477,13 @@ sub-effect-call-summary-requires t c κs =
     let turn = of-turn t d in
     let s = given t turn in
     let less : 2 * unenteredCount (noted t d) (s .args .h .statements) + 1 < t =
-    omega (arith, s .pre .0, unentered-le (noted-onward t d), unentered-le (turn .before .loop .inv .below .onward),
-    unentered-falls (walk-onward t (walk-done t turn)) (s .pre .1 .2) (was-unentered t (unentered-at t (walk-done t turn))) (walk-open t (walk-done t turn))) in
+    omega (
+      arith,
+      s .pre .0,
+      unentered-le (noted-onward t d),
+      unentered-le (turn .before .loop .inv .below .onward),
+      unentered-falls (walk-onward t (walk-done t turn)) (s .pre .1 .2) (was-unentered t (unentered-at t (walk-done t turn))) (walk-open t (walk-done t turn)),
+    ) in
     (less, (ready-keeps (s .pre .1 .0) (noted-all t d .keeps) (omega arith), s .pre .1 .1, turn .loop-test .taken, noted-summing t d, λ b m. body-leads (noted-all t d) (s .pre .1 .4) (on-walk t turn) m))
 
 sub-effect-join-call-requires : (t : ℕ) → sub-effect-lts.Need-join-call-requires (sub-claims t) (sub-effect-at t) sub-effect.Post sub-effect-Inv-loop sub-effect-μ-loop

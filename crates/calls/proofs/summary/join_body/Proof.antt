@@ -8,15 +8,9 @@ use denote.Ref.{now}
 use lib.Dec.{eqb}
 use lib.ListN.{getD}
 use Rattle.words.specs.Change.{joined}
-use Rattle.calls.specs.Held.{opaque, clear}
+use Rattle.calls.specs.Held.{clear}
 use Rattle.calls.proofs.summary.join_body.Statement.{statement}
 use Rattle.calls.proofs.summary.join_body.Tie as tie
-use Rattle.calls.proofs.summary.join_body.Reads as reads
-use Rattle.calls.proofs.summary.join_body.Lts as lts
-use Rattle.statements.proofs.layout.bodies.Reads as bodies-reads
-use Rattle.statements.proofs.layout.call_touched.Reads as call-touched-reads
-use Rattle.statements.proofs.layout.touched.Reads as touched-reads
-use Rattle.words.proofs.union_word.Reads as union-word-reads
 
 bodies-requires : tie.Need-bodies-requires
 bodies-requires c κs = search needs

@@ -2,21 +2,14 @@
 -- By what joining a word ensures.
 use borrow.Author.Needs.{needs}
 use Prim.Native.Nat.{ℕ, _+_}
-use mathlib.Core.Bool.{not}
 use mathlib.Core.Path.{ap, ap₂, _∙_}
 use denote.Ref.{now}
 use lib.Dec.{eqb}
 use lib.ListN.{getD}
 use Rattle.words.specs.Change.{joined}
-use Rattle.calls.specs.Held.{opaque, clear}
+use Rattle.calls.specs.Held.{opaque}
 use Rattle.calls.proofs.summary.join_call.Statement.{statement}
 use Rattle.calls.proofs.summary.join_call.Tie as tie
-use Rattle.calls.proofs.summary.join_call.Reads as reads
-use Rattle.calls.proofs.summary.join_call.Lts as lts
-use Rattle.statements.proofs.layout.call_touched.Reads as call-touched-reads
-use Rattle.statements.proofs.layout.calls.Reads as calls-reads
-use Rattle.statements.proofs.layout.touched.Reads as touched-reads
-use Rattle.words.proofs.union_word.Reads as union-word-reads
 
 calls-requires : tie.Need-calls-requires
 calls-requires c κs = search needs

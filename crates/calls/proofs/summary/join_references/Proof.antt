@@ -8,11 +8,6 @@ use Rattle.words.specs.Change.{joined}
 use Rattle.calls.proofs.Checked.{ready-few}
 use Rattle.calls.proofs.summary.join_references.Statement.{statement}
 use Rattle.calls.proofs.summary.join_references.Tie as tie
-use Rattle.calls.proofs.summary.join_references.Reads as reads
-use Rattle.calls.proofs.summary.join_references.Lts as lts
-use Rattle.statements.proofs.fields.references_word.Reads as references-word-reads
-use Rattle.statements.proofs.layout.touched.Reads as touched-reads
-use Rattle.words.proofs.union_word.Reads as union-word-reads
 
 references-word-requires : tie.Need-references-word-requires
 references-word-requires c κs = search needs

@@ -1,8 +1,6 @@
 -- `calls::summary::summarize_calls` meets its contract. The invariant: the calls below c have their summaries, and no body is open.
 -- So in the end each call's state is that of the definitions.
-use Prim.Native.Nat.{ℕ, _+_, _-_, _≤_, _<_}
-use mathlib.Core.List.{List}
-use mathlib.Core.Path.{_≡_}
+use Prim.Native.Nat.{_-_}
 use native.Mathlib.Omega.{arith}
 use denote.Ref.{now}
 use Rattle.words.specs.Row.{Words}
@@ -12,9 +10,6 @@ use Rattle.calls.proofs.Checked.{ready-few, ready-size, ready-formed}
 use Rattle.calls.proofs.Summaries.{SummedBelow, below-first, below-next, summarized, fresh-summing, fresh-shut}
 use Rattle.calls.proofs.summary.summarize_calls.Statement.{statement}
 use Rattle.calls.proofs.summary.summarize_calls.Tie as tie
-use Rattle.calls.proofs.summary.summarize_calls.Reads as reads
-use Rattle.calls.proofs.summary.summarize_calls.Lts as lts
-use Rattle.calls.proofs.summary.call_summary.Reads as call-summary-reads
 
 abbrev Inv-loop : tie.InvT-loop
 Inv-loop file h work₀ n c₀ work c = SummedBelow (flowOf file) work₀ work n c × Words work

@@ -1,18 +1,16 @@
 -- `calls::walk::meet` meets its contract: a statement that is new in the row goes on the stack, which has room for it.
 -- By the laws of one statement more.
-use Prim.Native.Nat.{ℕ, _+_, _*_, _<_}
-use mathlib.Core.Bool.{true, false}
-use mathlib.Core.Path.{_≡_, sym, ap, _∙_, subst}
+use Prim.Native.Nat.{_+_, _*_, _<_}
+use mathlib.Core.Bool.{true}
+use mathlib.Core.Path.{_≡_, _∙_}
 use native.Mathlib.Nat.{le-refl}
 use native.Mathlib.Omega.{arith}
 use borrow.Author.Needs.{needs}
 use denote.Ref.{now}
-use lib.ListN.{length, length-set, set}
+use lib.ListN.{length-set}
 use Rattle.words.specs.Row.{has}
-use Rattle.words.proofs.Inserted.{length-inserted}
-use Rattle.statements.specs.Layout.{rowAt, queueAt}
-use Rattle.statements.proofs.WorkArea.{area-fits, row-below}
-use Rattle.calls.specs.Walking.{Met}
+use Rattle.statements.specs.Layout.{queueAt}
+use Rattle.statements.proofs.WorkArea.{row-below}
 use Rattle.words.specs.Change.{Inserted}
 use Rattle.calls.proofs.Walking.{in-row, insert-room, insert-new, insert-old}
 use Rattle.calls.proofs.walk.meet.Statement.{statement}

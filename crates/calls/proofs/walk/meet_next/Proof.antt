@@ -1,23 +1,16 @@
 -- `calls::walk::meet_next` meets its contract: nothing at RETURN, the continuation of a call with one, else the successors.
 -- By cases, as the walk's next statements are defined.
-use mathlib.Core.Bool.{true, false}
-use mathlib.Core.Option.{Option, none, some}
-use mathlib.Core.Path.{_≡_, sym, ap, _∙_, subst}
+use mathlib.Core.Bool.{false}
+use mathlib.Core.Option.{none, some}
+use mathlib.Core.Path.{_≡_, sym, _∙_}
 use borrow.Author.Needs.{needs}
 use denote.Ref.{now}
 use Rattle.flow.specs.Format.{flowOf}
 use Rattle.theory.specs.Body.{kind, continuationOf, isReturn}
-use Rattle.calls.specs.Walking.{Met}
 use Rattle.calls.proofs.Checked.{ready-formed, ready-below, continues-to, continues-nowhere}
 use Rattle.calls.proofs.Walking.{met-return, met-next}
 use Rattle.calls.proofs.walk.meet_next.Statement.{statement}
 use Rattle.calls.proofs.walk.meet_next.Tie as tie
-use Rattle.calls.proofs.walk.meet_next.Reads as reads
-use Rattle.calls.proofs.walk.meet_next.Lts as lts
-use Rattle.calls.proofs.walk.meet.Reads as meet-reads
-use Rattle.calls.proofs.walk.meet_successors.Reads as meet-successors-reads
-use Rattle.statements.proofs.fields.continuation.Reads as continuation-reads
-use Rattle.statements.proofs.fields.is_return.Reads as is-return-reads
 
 -- the call has the continuation k
 module _ (c : tie.After-k) where

@@ -2,24 +2,17 @@
 -- Each is a statement, since the file is fit.
 use Prim.Native.Nat.{ℕ, _-_, _≤_, _<_, zero-le}
 use mathlib.Core.List.{List}
-use mathlib.Core.Path.{_≡_, sym, ap, _∙_, subst}
 use native.Mathlib.Omega.{arith}
-use borrow.Author.Needs.{needs}
 use denote.Ref.{now}
 use lib.ListN.{length, getD, take}
 use lib.Seq.{take-all}
 use Rattle.flow.specs.Format.{flowOf}
 use Rattle.theory.specs.Body.{successors}
-use Rattle.calls.specs.Walking.{Stack, Met}
+use Rattle.calls.specs.Walking.{Met}
 use Rattle.calls.proofs.Checked.{ready-formed, ready-below, getD-In}
 use Rattle.calls.proofs.Walking.{met-none, met-more, met-stack, met-ready}
 use Rattle.calls.proofs.walk.meet_successors.Statement.{statement}
 use Rattle.calls.proofs.walk.meet_successors.Tie as tie
-use Rattle.calls.proofs.walk.meet_successors.Reads as reads
-use Rattle.calls.proofs.walk.meet_successors.Lts as lts
-use Rattle.calls.proofs.walk.meet.Reads as meet-reads
-use Rattle.statements.proofs.fields.successor.Reads as successor-reads
-use Rattle.statements.proofs.fields.successor_count.Reads as successor-count-reads
 
 abbrev Inv-loop : tie.InvT-loop
 Inv-loop file work₀ n e top i count height₀ k₀ work height k = (k ≤ count) × Met work₀ work n e top height (take k (successors (flowOf file) i))

@@ -1,26 +1,19 @@
 -- `calls::walk::walk` meets its contract. The invariant is that of a walk as it is made; with the stack empty the row is the walk.
 -- What is left to do falls with each turn.
-use Prim.Native.Nat.{ℕ, suc, _+_, _*_, _-_, _≤_, _<_, zero-le}
-use mathlib.Core.List.{List}
-use mathlib.Core.Path.{_≡_, sym, ap, _∙_, subst}
+use Prim.Native.Nat.{ℕ, suc, _+_, _*_, _-_, _<_, zero-le}
+use mathlib.Core.Path.{_≡_, ap, _∙_, subst}
 use native.Mathlib.Omega.{arith}
-use borrow.Author.Needs.{needs}
 use denote.Ref.{now}
-use lib.ListN.{length, getD}
+use lib.ListN.{getD}
 use Rattle.flow.specs.Format.{flowOf}
 use Rattle.statements.specs.Layout.{queueAt}
 use Rattle.statements.specs.Ready.{Ready}
 use Rattle.statements.proofs.Keeps.{ready-keeps}
-use Rattle.calls.specs.Walking.{Stack, Met, Entry}
+use Rattle.calls.specs.Walking.{Stack}
 use Rattle.calls.proofs.Checked.{ready-few, ready-next}
 use Rattle.calls.proofs.Walking.{Walking, left, only-keeps, only-trans, walking-first, walking-next, left-falls, walking-end, stack-fits, stack-less}
 use Rattle.calls.proofs.walk.walk.Statement.{statement}
 use Rattle.calls.proofs.walk.walk.Tie as tie
-use Rattle.calls.proofs.walk.walk.Reads as reads
-use Rattle.calls.proofs.walk.walk.Lts as lts
-use Rattle.calls.proofs.walk.meet.Reads as meet-reads
-use Rattle.calls.proofs.walk.meet_next.Reads as meet-next-reads
-use Rattle.statements.proofs.layout.queue.Reads as queue-reads
 
 abbrev Inv-loop : tie.InvT-loop
 Inv-loop file work₀ n e top₀ work top = Walking (flowOf file) work₀ work n e top
