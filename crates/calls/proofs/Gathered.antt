@@ -22,13 +22,14 @@ use Rattle.theory.specs.Reach.{Reach}
 use Rattle.theory.specs.Body.{kind, continuationOf, callLines, isReturn, entered, callees, Walks, walkNext, walked, opaqueCall, callTouches}
 use Rattle.theory.specs.WellFormed.{WellFormed}
 use Rattle.theory.specs.Doubled.{returnsTo, isSome}
-use Rattle.theory.proofs.Lists.{same-test, not-so, In-has, has-In}
+use Rattle.theory.proofs.Lists.{same-test, not-so, In-has, has-In, concatMap-In, optionList-In}
 use Rattle.theory.proofs.Reach.{reach-below}
 use Rattle.theory.proofs.Body.{walkNext-below, entered-below, walked-sound, walked-complete}
 use Rattle.statements.specs.Layout.{callsAt, callTouchedAt, rowAt}
 use Rattle.statements.specs.Ready.{MembersWord}
 use Rattle.calls.specs.Held.{WalkRow, Summarized, Linked, clear, opaque}
 use Rattle.calls.specs.Joins.{Joins, Summary, BodyRows, fromReturn, fromBody, fromBodies}
+use Rattle.calls.proofs.Checked.{getD-In}
 use Rattle.calls.proofs.Joined.{joins-none, joins-then, joins-same}
 
 -- A walk, member by member of its row
@@ -162,6 +163,11 @@ entered-more f ls l h =
 pub entered-all : (f : Flow) (c l : ℕ) → length (callLines (kind f c)) ≤ l → enteredBy f (take l (callLines (kind f c))) ≡ entered f c
 unfolding entered
 entered-all f c l h = ap (enteredBy f) (take-all l (callLines (kind f c)) h)
+
+pub entered-line : (f : Flow) (c l b : ℕ) → l < length (callLines (kind f c)) → enters f (getD (callLines (kind f c)) l 0) ≡ some b → In b (entered f c)
+unfolding entered
+entered-line f c l b h e =
+    concatMap-In (λ x. optionList (enters f x)) (getD-In (callLines (kind f c)) l h) (optionList-In (enters f (getD (callLines (kind f c)) l 0)) b e)
 
 any-append : {A : Type 0} (p : A → Bool) (xs ys : List A) → any p (xs ++ ys) ≡ (any p xs || any p ys)
 unfolding any

@@ -1,8 +1,9 @@
 // The edges of a doubled number, in the paper's order, one after the other by a cursor.
 ghost use Prim.Native.Nat.{ℕ, _+_, _-_, _/_, _^_, _≤_, _<_};
-ghost use mathlib.Core.Bool.{cond, false};
+ghost use mathlib.Core.Bool.{cond, false, _||_};
 ghost use mathlib.Core.Option.{some};
 ghost use mathlib.Core.Path.{_≡_};
+ghost use lib.Dec.{eqb};
 ghost use lib.ListN.{length, getD, drop};
 ghost use Rattle.words.specs.Row.{has, nextMember};
 ghost use Rattle.flow.specs.Flow.{enters};
@@ -74,6 +75,17 @@ fn call_edge(file: &[u8], h: flow::Header, work: &[u64], base: usize, i: usize, 
     other_edge(file, work, n, base, i, k, lines + 1, c)
 }
 
+// Whether the successor s of such a call is left out: it is the continuation, or entered.
+fn left_out(work: &[u64], n: usize, k: usize, s: usize) -> bool
+    requires { ⌜ (n ≤ 2048) × (waitingAt n ≤ length (now work)) × (s < n) ⌝ }
+    ensures { λ r. ⌜ r ≡ (eqb s k || eqb (has (now (work .entry)) (enteredAt n) s) 1) ⌝ }
+{
+    if s == k {
+        return true;
+    }
+    words::contains(work, layout::entered(n), s)
+}
+
 // The successors of such a call that are neither entered nor the continuation; they stand from the slot `first` on.
 fn other_edge(file: &[u8], work: &[u64], n: usize, base: usize, i: usize, k: usize, first: usize, cursor: usize) -> Edge
     requires { ⌜ Ready (now file) (now work) n × (i < n) × (offset (flowOf (now file)) (copyOf base) ≡ base) × EnteredIs (flowOf (now file)) (now work) n i × (first ≤ cursor) × (first < 2 ^ 32) ⌝ }
@@ -84,10 +96,8 @@ fn other_edge(file: &[u8], work: &[u64], n: usize, base: usize, i: usize, k: usi
     while c - first < count {
         let j = fields::successor(file, work, n, i, c - first);
         let s = j.0;
-        if s != k {
-            if !words::contains(work, layout::entered(n), s) {
-                return Edge::To(flow::NodeId(base + s), false, c + 1);
-            }
+        if !left_out(work, n, k, s) {
+            return Edge::To(flow::NodeId(base + s), false, c + 1);
         }
         c += 1;
     }
