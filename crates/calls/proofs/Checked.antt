@@ -6,17 +6,19 @@ use mathlib.Core.Option.{Option, none, some}
 use mathlib.Core.Path.{_≡_, refl, sym, ap, _∙_, subst}
 use native.Mathlib.Omega.{arith}
 use lib.ListN.{length, getD}
-use Rattle.flow.specs.Limits.{maxStatements}
+use Rattle.flow.specs.Limits.{maxFile, maxStatements}
 use Rattle.flow.specs.Flow.{size}
 use Rattle.flow.specs.declared.StmtId.{StmtId}
 use Rattle.flow.specs.declared.Continuation as C
 use Rattle.flow.specs.declared.Entered as E
-use Rattle.flow.specs.Fields.{continuationTo, enteredAt}
-use Rattle.flow.specs.Format.{flowOf}
-use Rattle.flow.proofs.Files.{limited}
-use Rattle.flow.proofs.Statements.{size-is}
+use Rattle.flow.specs.Fields.{FitRecord, callLineCount, callLineAt, continuationTo, enteredAt}
+use Rattle.flow.specs.Format.{flowOf, statementsOf, recordPlace, successorCount, successorAt}
+use Rattle.flow.proofs.Files.{limited, record-fit}
+use Rattle.flow.proofs.Records.{call-line-fits, references-fit}
+use Rattle.flow.proofs.Statements.{says, size-is}
+use Rattle.flow.proofs.Tabulated.{length-tabulate}
 use Rattle.theory.specs.Lists.{In}
-use Rattle.theory.specs.Body.{walkNext}
+use Rattle.theory.specs.Body.{kind, callLines, successors, walkNext}
 use Rattle.theory.specs.WellFormed.{WellFormed}
 use Rattle.theory.proofs.Body.{walkNext-below}
 use Rattle.statements.specs.Layout as layout
@@ -45,6 +47,26 @@ module _ {s ws : List ℕ} {n : ℕ} (r : Ready s ws n) where
   ready-room p = let h = r .room in omega (arith, area-fits p ready-few)
 
   module _ {i : ℕ} (l : i < n) where
+    -- a statement has no more lines and successors than its record has room for
+    pub lines-few : length (callLines (kind (flowOf s) i)) ≤ maxFile
+    lines-few =
+        let below : i < statementsOf s = let e = r .count in omega arith in
+        let p = recordPlace s i in
+        go (callLineCount s p) refl (record-fit (r .fit) i below)
+        (ap length (says s i below .lines) ∙ length-tabulate (callLineAt s p) (callLineCount s p))
+      where
+        go : (m : ℕ) → callLineCount s (recordPlace s i) ≡ m → FitRecord s (recordPlace s i) → length (callLines (kind (flowOf s) i)) ≡ callLineCount s (recordPlace s i)
+            → length (callLines (kind (flowOf s) i)) ≤ maxFile
+        go zero e h c = omega arith
+        go (suc m) e h c = omega (arith, call-line-fits h m (omega arith), limited (r .fit) .file)
+
+    pub successors-few : length (successors (flowOf s) i) ≤ maxFile
+    successors-few =
+        let below : i < statementsOf s = let e = r .count in omega arith in
+        let p = recordPlace s i in
+        let counted : length (successors (flowOf s) i) ≡ successorCount s p = ap length (says s i below .successors) ∙ length-tabulate (successorAt s p) (successorCount s p) in
+        omega (arith, references-fit (record-fit (r .fit) i below), limited (r .fit) .file)
+
     -- the rows of statements, whole and word by word
     pub row-room : rowAt n i + (n + 63) / 64 ≤ length ws
     unfolding rowWords
@@ -85,3 +107,6 @@ pub getD-In : (l : List ℕ) (k : ℕ) → k < length l → In (getD l k 0) l
 getD-In [] k h = absurd (omega arith)
 getD-In (x ∷ l) zero h = List·Memᴰ·head refl
 getD-In (x ∷ l) (suc k) h = List·Memᴰ·tail (getD-In l k (omega arith))
+
+pub successor-below : {s ws : List ℕ} {n : ℕ} → Ready s ws n → (i k : ℕ) → k < length (successors (flowOf s) i) → getD (successors (flowOf s) i) k 0 < n
+successor-below {s} r i k h = ready-below r (ready-formed r .successor i (getD (successors (flowOf s) i) k 0) (getD-In (successors (flowOf s) i) k h))

@@ -1,7 +1,7 @@
 -- The slot at a cursor, by the kind of statement: the next edge is the one in it, or that from the next slot on. The slots of a RETURN are the members
 -- of its row. By the list that the slots are made from.
 use Prim.Native.Nat.{ℕ, zero, suc, _+_, _-_, _≤_, _<_}
-use mathlib.Core.Bool.{Bool, true, false, cond, not, _&&_, _||_}
+use mathlib.Core.Bool.{Bool, true, false, cond, not, _||_, or-true, or-false}
 use mathlib.Core.List.{List, [], _∷_, _++_, map}
 use mathlib.Core.Option.{Option, none, some}
 use mathlib.Core.Path.{_≡_, refl, sym, _∙_, ap, subst}
@@ -9,19 +9,21 @@ use native.Mathlib.Decide.{decLt}
 use native.Mathlib.Nat.{zero-add}
 use native.Mathlib.Numerals.{add-one}
 use native.Mathlib.Omega.{arith}
-use borrow.Author.Tests.{lt-ltb, le-ltb, eq-eqb, ne-eqb}
+use borrow.Author.Tests.{lt-ltb, le-ltb, eq-eqb, ne-eqb, eqb-true}
 use lib.Dec.{eqb}
 use lib.ListN.{length, getD, drop, length-append, length-map, List·getD-append, List·getD-map, drop-of-length-le}
-use lib.Seq.{drop-cons, drop-append-add, drop-at, getD-at}
+use lib.Seq.{drop-cons, drop-nil, drop-append-add, drop-at, getD-at}
 use Rattle.words.specs.Row as row
 use Rattle.words.specs.Row.{seek, nextMember, pick}
-use Rattle.flow.specs.Flow.{Flow, size, enters}
+use Rattle.flow.specs.Flow.{Flow, Kind, size, enters}
 use Rattle.theory.specs.Lists.{any, has, upTo}
-use Rattle.theory.specs.Body.{kind, successors, callLines, entered}
-use Rattle.theory.specs.Doubled.{Base, Node, Edge, at, plain, number, sameNode, returnsTo}
-use Rattle.theory.proofs.Lists.{clash}
+use Rattle.theory.specs.Body.{kind, successors, callLines, continuationOf, entered, isReturn, opaqueCall}
+use Rattle.theory.specs.Doubled.{Base, Node, Edge, at, plain, offset, number, node, sameNode, returnsTo}
+use Rattle.theory.proofs.Lists.{clash, same-test}
 use Rattle.theory.proofs.Edges.{node-same}
-use Rattle.calls.specs.Slots.{edgeTo, ifEntered, otherSlots, callSlots, returnSlots, listedSlots, edgeFrom, memberEdge}
+use Rattle.statements.specs.Layout.{callsAt, enteredAt}
+use Rattle.calls.specs.Held.{EnteredIs, Linked, clear, opaque}
+use Rattle.calls.specs.Slots.{edgeTo, ifEntered, otherSlots, callSlots, returnSlots, listedSlots, slotsOf, slots, edgeFrom, copyOf, memberEdge}
 use Rattle.calls.specs.declared.Edge as E
 
 abbrev pub to : Flow → Node → Bool → ℕ → E.Edge
@@ -99,7 +101,7 @@ module _ (f : Flow) (b : Base) (i k c p : ℕ) where
       let here : c < length lines = omega arith in
       let fits : c < length (lines ++ rest) = omega (arith, length-append lines rest) in
       let slot : getD (lines ++ rest) c (line 0) ≡ ifEntered (at b k) o =
-          List·getD-append lines rest (line 0) c here ∙ List·getD-map line (callLines (kind f i)) c 0 ∙ ap (ifEntered (at b k)) e
+      List·getD-append lines rest (line 0) c here ∙ List·getD-map line (callLines (kind f i)) c 0 ∙ ap (ifEntered (at b k)) e
       in
       ap (λ xs. edgeFrom f xs p) (drop-cons (lines ++ rest) c (line 0) fits)
       ∙ ap (λ x. edgeFrom f (x ∷ drop (suc c) (lines ++ rest)) p) slot
@@ -184,3 +186,95 @@ return-edge f r c ws base h = go (decLt c (size f))
     go : Dec (c < size f) → edgeFrom f (drop c (map (slot f r ws base h) (upTo (size f)))) c ≡ memberEdge (size f) (seek ws base c (size f - c))
     go (yes l) = member-from f r ws base h (size f - c) c (omega arith)
     go (no l) = let d : size f - c ≡ 0 = omega (arith, l) in rw d (none-left f r ws base h c (omega (arith, l)))
+
+-- Which slots a statement has
+
+nowhere : (k : Kind) → isReturn k ≡ true → continuationOf k ≡ none
+nowhere Kind.other h = clash false h refl
+nowhere Kind.return h = refl
+nowhere Kind.clr h = clash false h refl
+nowhere Kind.run h = clash false h refl
+nowhere (Kind.dim items) h = clash false h refl
+nowhere (Kind.gosub l c) h = clash false h refl
+nowhere (Kind.onGosub ls c) h = clash false h refl
+
+module _ (f : Flow) (b : Base) (i : ℕ) where
+  pub slots-return : isReturn (kind f i) ≡ true → slots f (at b i) ≡ returnSlots f b i
+  unfolding slots slotsOf
+  slots-return h = rw (nowhere (kind f i) h, h) refl
+
+  pub slots-call : (k : ℕ) → continuationOf (kind f i) ≡ some k → opaqueCall f i ≡ false → slots f (at b i) ≡ callSlots f b i k
+  unfolding slots slotsOf
+  slots-call k e h = rw (e, h) refl
+
+  pub slots-listed : isReturn (kind f i) ≡ false → ((k : ℕ) → continuationOf (kind f i) ≡ some k → opaqueCall f i ≡ true) → slots f (at b i) ≡ listedSlots f b i
+  unfolding slots slotsOf
+  slots-listed h op = go (continuationOf (kind f i)) refl
+    where
+      go : (o : Option ℕ) → continuationOf (kind f i) ≡ o → slotsOf f b i (continuationOf (kind f i)) ≡ listedSlots f b i
+      go none e = rw (e, h) refl
+      go (some k) e = rw (e, op k e) refl
+
+-- The copies' bases as numbers
+
+pub base-most : (f : Flow) (base : ℕ) → offset f (copyOf base) ≡ base → base ≤ size f
+base-most f base e = go (eqb base 0) refl e
+  where
+    go : (t : Bool) → eqb base 0 ≡ t → offset f (cond t Base.zero Base.n) ≡ base → base ≤ size f
+    go true q e = omega (arith, eqb-true base 0 q)
+    go false q e = omega arith
+
+-- an edge to statement j of the copy
+pub to-copy : (f : Flow) (b : Base) {base : ℕ} (j : ℕ) (c : Bool) (next : ℕ) → offset f b ≡ base → E.the-variants.To (record { 0 = base + j }) c next ≡ to f (at b j) c next
+to-copy f b j c next e = ap (λ (x : ℕ). E.the-variants.To (record { 0 = x + j }) c next) (sym e)
+
+-- an entered statement is the continuation when their numbers are one
+pub same-number : (f : Flow) (b : Base) {base : ℕ} (e k : ℕ) → offset f b ≡ base → k < size f → eqb (size f + e) (base + k) ≡ sameNode (at Base.n e) (at b k)
+same-number f Base.zero {base} e k o l = ne-eqb (size f + e) (base + k) (λ q. omega arith)
+same-number f Base.n {base} e k o l =
+    same-test (eqb (size f + e) (base + k)) (eqb e k)
+    (λ q. let same = eqb-true (size f + e) (base + k) q in eq-eqb e k (omega arith))
+    (λ q. let same = eqb-true e k q in eq-eqb (size f + e) (base + k) (omega arith))
+
+-- what is left out, by the row of entered statements
+pub left-out-is : (f : Flow) (ws : List ℕ) {n : ℕ} (i k s : ℕ) → EnteredIs f ws n i → s < n
+    → (eqb s k || eqb (row.has ws (enteredAt n) s) 1) ≡ (has s (entered f i) || eqb s k)
+left-out-is f ws i k s r l = ap (λ (x : ℕ). eqb s k || eqb x 1) (r s l) ∙ go (has s (entered f i)) (eqb s k)
+  where
+    go : (a b : Bool) → (b || eqb (cond a 1 0) 1) ≡ (a || b)
+    go true b = or-true b
+    go false b = or-false b
+
+-- the state of a call as its summary says it
+
+pub call-opaque : {f : Flow} {ws : List ℕ} {n i k : ℕ} → Linked f ws n → i < n → (getD ws (callsAt n + i) 0 ≡ clear → ⊥) → continuationOf (kind f i) ≡ some k
+    → opaqueCall f i ≡ true
+call-opaque {f} {ws} {n} {i} {k} h l other e = go (opaqueCall f i) (h .call i k l e)
+  where
+    go : (b : Bool) → getD ws (callsAt n + i) 0 ≡ cond b opaque clear → b ≡ true
+    go true q = refl
+    go false q = absurd (other q)
+
+pub call-clear : {f : Flow} {ws : List ℕ} {n i k : ℕ} → Linked f ws n → i < n → getD ws (callsAt n + i) 0 ≡ clear → continuationOf (kind f i) ≡ some k
+    → opaqueCall f i ≡ false
+call-clear {f} {ws} {n} {i} {k} h l is e = go (opaqueCall f i) (sym (h .call i k l e) ∙ is)
+  where
+    go : (b : Bool) → cond b opaque clear ≡ clear → b ≡ false
+    go true q = absurd (omega arith)
+    go false q = refl
+
+-- the node of a number in each copy
+
+pub node-low : (f : Flow) (d : ℕ) → d < size f → node f d ≡ at Base.zero d
+node-low f d l = ap (λ (t : Bool). cond t (at Base.zero d) (at Base.n (d - size f))) (lt-ltb d (size f) l)
+
+pub node-high : (f : Flow) (d : ℕ) → size f ≤ d → node f d ≡ at Base.n (d - size f)
+node-high f d l = ap (λ (t : Bool). cond t (at Base.zero d) (at Base.n (d - size f))) (le-ltb d (size f) l)
+
+pub copy-n : (n : ℕ) → 0 < n → copyOf n ≡ Base.n
+copy-n n l = ap (λ (t : Bool). cond t Base.zero Base.n) (ne-eqb n 0 (λ e. omega arith))
+
+-- a RETURN in base n goes nowhere
+pub return-end : (f : Flow) (base i c : ℕ) → (base ≡ 0 → ⊥) → edgeFrom f (drop c (returnSlots f (copyOf base) i)) c ≡ E.the-variants.End
+unfolding returnSlots edgeFrom
+return-end f base i c other = rw (ne-eqb base 0 other, drop-nil {A = Option Edge} c) refl

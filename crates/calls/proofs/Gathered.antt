@@ -188,7 +188,7 @@ module _ (f : Flow) (k : ℕ) where
   bodies-then xs ys a b =
       joins-same (joins-then a b)
       (λ s j ls lj is. let p : ℕ → Bool = λ e. has s (walked f e) in
-          sym (ap (λ (t : Bool). t && eqb j k) (any-append p xs ys) ∙ and-or-distrib-right (any p xs) (any p ys) (eqb j k)))
+      sym (ap (λ (t : Bool). t && eqb j k) (any-append p xs ys) ∙ and-or-distrib-right (any p xs) (any p ys) (eqb j k)))
 
 -- Call by call
 

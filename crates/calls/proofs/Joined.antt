@@ -16,12 +16,13 @@ use Rattle.words.proofs.Row.{has-lt}
 use Rattle.words.proofs.Inserted.{insert-same, insert-other}
 use Rattle.flow.specs.Flow.{Flow}
 use Rattle.theory.specs.Lists as lists
-use Rattle.theory.specs.Body.{kind, isReturn}
+use Rattle.theory.specs.Body.{kind, isReturn, entered}
 use Rattle.theory.proofs.Lists.{clash, not-so}
 use Rattle.statements.specs.Layout.{rowWords, rowAt, matrixAt, queueAt, enteredAt, waitingAt}
 use Rattle.statements.specs.Ready.{Keeps}
 use Rattle.statements.proofs.WorkArea.{member-word, row-words-le, row-from, row-fits, insert-row}
 use Rattle.statements.proofs.Keeps.{keeps-refl, keeps-trans, keeps-inserted}
+use Rattle.calls.specs.Held.{EmptyEntered, EnteredIs}
 use Rattle.calls.specs.Joins.{Joins, Adds, fromReturn}
 
 max-or : (a : ℕ) (p q : Bool) → max (max a (cond p 1 0)) (cond q 1 0) ≡ max a (cond (p || q) 1 0)
@@ -107,3 +108,10 @@ adds-insert {ws} {vs} {n} {b} i l room = subst (λ (us : List ℕ). Adds ws us n
   joined = λ j lj. inserted-bit ws (enteredAt n) b (omega (arith, member-word l, row-words-le n)) j
       ∙ ap (λ (t : Bool). max (has ws (enteredAt n) j) (cond t 1 0)) (sym (or-false (eqb j b)));
 })
+
+-- where the row was empty, it holds what was joined
+pub adds-all : (f : Flow) (i : ℕ) {ws vs : List ℕ} {n : ℕ} → EmptyEntered ws n → Adds ws vs n (entered f i) → EnteredIs f vs n i
+adds-all f i none a j l =
+    let t : ℕ = cond (lists.has j (entered f i)) 1 0 in
+    let only : max 0 t ≡ t = omega arith in
+    a .joined j l ∙ ap (λ (x : ℕ). max x t) (none j l) ∙ only

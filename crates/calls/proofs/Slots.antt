@@ -73,7 +73,7 @@ call-present f b i k =
     let left : ℕ → Bool = λ j. not (has j (entered f i) || eqb j k) in
     present-append first (some (edgeTo back back) ∷ others)
     ∙ ap₂ (λ (xs ys : List Edge). xs ++ (edgeTo back back ∷ ys)) (present-entered f back (callLines (kind f i)))
-      (present-select left (λ j. edgeTo back (at b j)) (successors f i) ∙ map-map (edgeTo back) (at b) (select left (successors f i)))
+    (present-select left (λ j. edgeTo back (at b j)) (successors f i) ∙ map-map (edgeTo back) (at b) (select left (successors f i)))
     ∙ sym (map-append (edgeTo back) (map (at Base.n) (entered f i)) (back ∷ map (at b) (select left (successors f i))))
 
 -- edges with the same target are the same

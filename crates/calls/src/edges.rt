@@ -56,7 +56,15 @@ pub fn clear_entered(work: &mut [u64], n: usize)
 }
 
 // A call that is not opaque, with the continuation k: the entered statements, then the continuation, then the other successors.
-fn call_edge(file: &[u8], h: flow::Header, work: &[u64], base: usize, i: usize, k: usize, cursor: usize) -> Edge
+fn call_edge(
+    file: &[u8],
+    h: flow::Header,
+    work: &[u64],
+    base: usize,
+    i: usize,
+    k: usize,
+    cursor: usize,
+) -> Edge
     requires { ⌜ Ready (now file) (now work) (h .statements) × (h ≡ headerOf (now file)) × (i < h .statements) × (offset (flowOf (now file)) (copyOf base) ≡ base) × (continuationOf (kind (flowOf (now file)) i) ≡ some k) × EnteredIs (flowOf (now file)) (now work) (h .statements) i ⌝ }
     ensures { λ r. ⌜ r ≡ edgeFrom (flowOf (now (file .entry))) (drop cursor (callSlots (flowOf (now (file .entry))) (copyOf base) i k)) cursor ⌝ }
 {
@@ -87,7 +95,16 @@ fn left_out(work: &[u64], n: usize, k: usize, s: usize) -> bool
 }
 
 // The successors of such a call that are neither entered nor the continuation; they stand from the slot `first` on.
-fn other_edge(file: &[u8], work: &[u64], n: usize, base: usize, i: usize, k: usize, first: usize, cursor: usize) -> Edge
+fn other_edge(
+    file: &[u8],
+    work: &[u64],
+    n: usize,
+    base: usize,
+    i: usize,
+    k: usize,
+    first: usize,
+    cursor: usize,
+) -> Edge
     requires { ⌜ Ready (now file) (now work) n × (i < n) × (offset (flowOf (now file)) (copyOf base) ≡ base) × EnteredIs (flowOf (now file)) (now work) n i × (first ≤ cursor) × (first < 2 ^ 32) ⌝ }
     ensures { λ r. ⌜ r ≡ edgeFrom (flowOf (now (file .entry))) (drop (cursor - first) (otherSlots (flowOf (now (file .entry))) (copyOf base) i k)) cursor ⌝ }
 {
@@ -139,12 +156,13 @@ fn edge_of(file: &[u8], h: flow::Header, work: &[u64], base: usize, i: usize, cu
         }
         return Edge::End;
     }
-    if work[layout::calls(n) + i] == CLEAR {
-        if let flow::Continuation::To(k) = fields::continuation(file, work, n, i) {
-            return call_edge(file, h, work, base, i, k.0, cursor);
-        }
+    if work[layout::calls(n) + i] != CLEAR {
+        return listed_edge(file, work, n, base, i, cursor);
     }
-    listed_edge(file, work, n, base, i, cursor)
+    match fields::continuation(file, work, n, i) {
+        flow::Continuation::To(k) => call_edge(file, h, work, base, i, k.0, cursor),
+        flow::Continuation::None => listed_edge(file, work, n, base, i, cursor),
+    }
 }
 
 // The next edge of d at or after the cursor.

@@ -35,9 +35,12 @@ note-body-requires c κs =
     let f = flowOf (now (a .file)) in
     let ready = start .pre .0 in
     let b = c .before .before .b .given .0 .0 .0 in
-    let e = enters-b (c .before .before) in
-    (ready, ready-below ready (ready-formed ready .first (getD (callLines (kind f (a .c))) (a .l) 0) b e), start .pre .3,
-    start .pre .5 b (entered-line f (a .c) (a .l) b (start .pre .4) e))
+    let e = enters-b (c .before .before) in (
+      ready,
+      ready-below ready (ready-formed ready .first (getD (callLines (kind f (a .c))) (a .l) 0) b e),
+      start .pre .3,
+      start .pre .5 b (entered-line f (a .c) (a .l) b (start .pre .4) e),
+    )
 
 enum-told : tie.Need-enum-told
 enum-told c = search needs

@@ -36,9 +36,14 @@ note-line-requires : tie.Need-note-line-requires Inv-loop μ-loop
 note-line-requires c κs =
     let start = c .before .before .before .before .before .before .before in
     let p = start .pre in
-    let joins = c .before .before .loop .inv .1 in
-    (ready-keeps (p .0) (joins .kept) (omega arith), p .1, p .2, p .3, omega (arith, c .before .before .before .line-count .ensures),
-    rows-kept (start .args .c) (ready-formed (p .0)) (ready-size (p .0)) joins (p .4))
+    let joins = c .before .before .loop .inv .1 in (
+      ready-keeps (p .0) (joins .kept) (omega arith),
+      p .1,
+      p .2,
+      p .3,
+      omega (arith, c .before .before .before .line-count .ensures),
+      rows-kept (start .args .c) (ready-formed (p .0)) (ready-size (p .0)) joins (p .4),
+    )
 
 add-l : tie.Need-add-l Inv-loop μ-loop
 add-l c = omega arith
@@ -51,11 +56,12 @@ loop-again c =
     let a = c .before .before .before .before .before .before .before .before .before .before .args in
     let f = flowOf (now (a .file)) in
     let lines = callLines (kind f (a .c)) in
-    let l = c .before .before .before .before .before .loop .l in
-    (omega arith,
-    subst (λ (bs : List ℕ). Joins f (now (a .work)) (c .before .before .note-line .last .1 .1 .0) (a .h .statements) (fromBodies f bs (a .k)))
-    (entered-more f lines l (omega (arith, c .before .before .before .before .before .before .line-count .ensures)))
-    (bodies-then f (a .k) (enteredBy f (take l lines)) (optionList (enters f (getD lines l 0))) (c .before .before .before .before .before .loop .inv .1) (c .before .before .note-line .ensures)))
+    let l = c .before .before .before .before .before .loop .l in (
+      omega arith,
+      subst (λ (bs : List ℕ). Joins f (now (a .work)) (c .before .before .note-line .last .1 .1 .0) (a .h .statements) (fromBodies f bs (a .k)))
+          (entered-more f lines l (omega (arith, c .before .before .before .before .before .before .line-count .ensures)))
+          (bodies-then f (a .k) (enteredBy f (take l lines)) (optionList (enters f (getD lines l 0))) (c .before .before .before .before .before .loop .inv .1) (c .before .before .note-line .ensures)),
+    )
 
 same-length : tie.Need-same-length Inv-loop μ-loop
 same-length c = c .before .loop .inv .1 .kept .size

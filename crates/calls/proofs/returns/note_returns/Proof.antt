@@ -27,9 +27,12 @@ loop-holds c = let a = c .before .before .args in calling-start (flowOf (now (a 
 note-call-requires : tie.Need-note-call-requires Inv-loop μ-loop
 note-call-requires c κs =
     let p = c .before .before .before .before .before .pre in
-    let joins = c .before .before .loop .inv .joins in
-    (ready-keeps (p .0) (joins .kept) (omega arith), p .1, c .before .loop-test .taken,
-    summary-kept (ready-formed (p .0)) (ready-size (p .0)) (p .2) joins (c .before .loop-test .taken))
+    let joins = c .before .before .loop .inv .joins in (
+      ready-keeps (p .0) (joins .kept) (omega arith),
+      p .1,
+      c .before .loop-test .taken,
+      summary-kept (ready-formed (p .0)) (ready-size (p .0)) (p .2) joins (c .before .loop-test .taken),
+    )
 
 add-c : tie.Need-add-c Inv-loop μ-loop
 add-c c = omega arith
@@ -50,9 +53,11 @@ returns c =
     let f = flowOf (now (a .file)) in
     let inv = c .before .loop .inv in
     let n = a .h .statements in
-    let all : c .before .loop .c ≡ n = omega arith in
-    (linked (ready-size (start .pre .0)) (start .pre .2)
-    (subst (λ (m : ℕ). Joins f (now (a .work)) (c .before .loop .work) n (λ r k. any (returnsTo f r k) (upTo m))) all (inv .joins)), inv .joins .kept)
+    let all : c .before .loop .c ≡ n = omega arith in (
+      linked (ready-size (start .pre .0)) (start .pre .2)
+          (subst (λ (m : ℕ). Joins f (now (a .work)) (c .before .loop .work) n (λ r k. any (returnsTo f r k) (upTo m))) all (inv .joins)),
+      inv .joins .kept,
+    )
 
 pub note-returns-spec : {M : Type 1} → statement M
 note-returns-spec =
