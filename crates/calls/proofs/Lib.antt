@@ -4,3 +4,8 @@ pub mod Summing
 pub mod BodySummary
 pub mod CallSummary
 pub mod Summaries
+pub mod Slots
+pub mod Cursor
+pub mod Found
+pub mod Joined
+pub mod Gathered

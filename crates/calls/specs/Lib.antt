@@ -2,3 +2,4 @@ pub mod Held
 pub mod Walking
 pub mod Summing
 pub mod Slots
+pub mod Joins

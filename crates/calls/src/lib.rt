@@ -15,5 +15,7 @@ pub const CLEAR: u64 = 2;
 
 pub const OPAQUE: u64 = 3;
 
+pub mod edges;
+pub mod returns;
 pub mod summary;
 pub mod walk;
