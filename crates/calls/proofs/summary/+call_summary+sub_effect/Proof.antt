@@ -1,28 +1,27 @@
 -- The proof of the cycle of calls {call_summary, sub_effect}. The measure: twice the number of unentered bodies, and one more for a call, since a body is opened between.
 -- What each step makes of the summaries is in the laws of bodies and of calls; here they are put together.
-use Prim.Native.Nat.{ℕ, _+_, _*_, _/_, _-_, _<_, _≤_, zero-le}
+use Prim.Native.Nat.{ℕ, _+_, _*_, _-_, _<_, _≤_, zero-le}
 use mathlib.Core.Bool.{Bool, _||_}
 use mathlib.Core.List.{List}
 use mathlib.Core.Logic.{⊎-elim}
 use mathlib.Core.Option.{some}
 use mathlib.Core.Path.{_≡_, sym, ap, _∙_, subst, subst₂}
-use native.Mathlib.Nat.{le-refl}
 use native.Mathlib.Omega.{arith}
 use borrow.Author.Needs.{needs}
 use denote.Ref.{now}
 use lib.ListN.{length, getD, set, length-set}
 use Rattle.flow.specs.Flow.{enters}
 use Rattle.flow.specs.Format.{flowOf}
-use Rattle.flow.specs.Limits.{maxStatements, workWords}
+use Rattle.flow.specs.Limits.{workWords}
 use Rattle.theory.specs.Lists as lists
 use Rattle.theory.specs.Body.{kind, callLines, continuationOf, callees, Walks}
-use Rattle.statements.specs.Layout.{callsAt, bodiesAt, matrixAt, rowAt, rowWords, enteredAt}
+use Rattle.statements.specs.Layout.{callsAt, bodiesAt, matrixAt, enteredAt}
 use Rattle.statements.specs.Ready.{Ready, Keeps}
 use Rattle.statements.proofs.Keeps.{ready-keeps, keeps-set}
-use Rattle.statements.proofs.WorkArea.{row-from, row-fits, row-below}
+use Rattle.statements.proofs.WorkArea.{row-from}
 use Rattle.calls.specs.Held.{unentered, opened, clear, EmptyRow, Walked}
 use Rattle.calls.specs.Summing.{body, call, settled, Summing, OnwardBut, Onward, Leads, BodySummed, CallSummed}
-use Rattle.calls.proofs.Checked.{ready-few, ready-size, ready-formed, continues-to, continues-nowhere, enters-at, enters-nothing}
+use Rattle.calls.proofs.Checked.{ready-few, ready-size, ready-formed, row-room, continues-to, continues-nowhere, enters-at, enters-nothing}
 use Rattle.calls.proofs.Summing.{onward-refl, onward-trans, onward-but, body-open, onward-open, summing-open, rows-set, callee-low}
 use Rattle.calls.proofs.BodySummary.{BodyLoop, PassedBelow, body-next, passed-none, body-turn, body-done, body-leads, return-done, referred-summing, referred-onward, next-low, unentered-row}
 use Rattle.calls.proofs.CallSummary.{CallLoop, call-first, call-nothing, call-line, call-done, leads-onward, line-callee}
@@ -396,6 +395,9 @@ module _ (t : ℕ) (c : sub-effect-lts.After-walk (sub-claims t) (sub-effect-at 
   walk-onward : OnwardBut (entry .args .e) (entry .args .work .now) walked (entry .args .h .statements)
   walk-onward = let r = entry .pre .1 .0 in onward-open (ready-formed r) (ready-size r) (entry .pre .1 .3) (body-room t unentered-at) (entry .pre .1 .2) is-walked
 
+  walk-ready : Ready (entry .args .file .now) walked (entry .args .h .statements)
+  walk-ready = ready-keeps (entry .pre .1 .0) (walk-onward .keeps) (omega arith)
+
   walk-open : body walked (entry .args .h .statements) (entry .args .e) ≡ opened
   walk-open = let r = entry .pre .1 .0 in body-open (ready-formed r) (ready-size r) (entry .pre .1 .3) (body-room t unentered-at) (entry .pre .1 .2) is-walked
 
@@ -407,15 +409,10 @@ module _ (t : ℕ) (c : sub-effect-lts.After-walk (sub-claims t) (sub-effect-at 
 sub-effect-row-requires : (t : ℕ) → sub-effect-lts.Need-row-requires (sub-claims t) (sub-effect-at t) sub-effect.Post sub-effect-Inv-loop sub-effect-μ-loop
 sub-effect-row-requires t c κs = let s = entry t (c .before .before) in (ready-few (s .pre .1 .0), omega (arith, s .pre .1 .2))
 
--- a row stands within the area
-row-within : (n e base : ℕ) (ws : List ℕ) → n ≤ maxStatements → e < n → workWords n ≤ length ws → base ≡ rowAt n e → base + (n + 63) / 64 ≤ length ws
-unfolding rowWords
-row-within n e base ws few l room q = omega (arith, row-fits n l, row-below few (le-refl n))
-
 sub-effect-next-requires : (t : ℕ) → sub-effect-lts.Need-next-requires (sub-claims t) (sub-effect-at t) sub-effect.Post sub-effect-Inv-loop sub-effect-μ-loop
 sub-effect-next-requires t c κs =
-    let s = entry t (c .before .before .before .before) in
-    row-within _ _ _ (walked t (c .before .before .before .before)) (ready-few (s .pre .1 .0)) (s .pre .1 .2) (omega (arith, s .pre .1 .0 .room, walk-onward t (c .before .before .before .before) .keeps .size)) (c .before .row .ensures)
+    let d = c .before .before .before .before in
+    omega (arith, c .before .row .ensures, row-room (walk-ready t d) (entry t d .pre .1 .2))
 
 sub-effect-loop-holds : (t : ℕ) → sub-effect-lts.Need-loop-holds (sub-claims t) (sub-effect-at t) sub-effect.Post sub-effect-Inv-loop sub-effect-μ-loop
 sub-effect-loop-holds t c =
@@ -507,8 +504,9 @@ module _ (t : ℕ) (c : sub-effect-lts.After-join-call (sub-claims t) (sub-effec
       body-turn (ready-formed r) (ready-size r) (omega (arith, turn-room t turned)) (given t turned .pre .1 .2) (turned .loop-test .taken) (on-walk t turned) (turned .before .loop .inv .below)
       (c .before .before .before .before .before .before .before .before .before .before .join-references2 .ensures) (c .before .before .before .before .call-summary .ensures) (c .before .before .before .before .before .before .wipes .ensures) (c .join-call .ensures)
 
-  passed-room : workWords (given t turned .args .h .statements) ≤ length (c .join-call .last .0)
-  passed-room = omega (arith, given t turned .pre .1 .0 .room, walk-onward t (walk-done t turned) .keeps .size, passed .onward .keeps .size)
+  passed-ready : Ready (given t turned .args .file .now) (c .join-call .last .0) (given t turned .args .h .statements)
+  passed-ready =
+      ready-keeps (given t turned .pre .1 .0) (onward-trans (walk-onward t (walk-done t turned)) (onward-but (given t turned .args .e) (passed .onward)) .keeps) (omega arith)
 
 sub-effect-add-next : (t : ℕ) → sub-effect-lts.Need-add-next (sub-claims t) (sub-effect-at t) sub-effect.Post sub-effect-Inv-loop sub-effect-μ-loop
 sub-effect-add-next t c = let turn = turned t (c .before .before .before) in omega (arith, turn .loop-test .taken, ready-few (given t turn .pre .1 .0))
@@ -516,8 +514,7 @@ sub-effect-add-next t c = let turn = turned t (c .before .before .before) in ome
 sub-effect-next-requires-2 : (t : ℕ) → sub-effect-lts.Need-next-requires-2 (sub-claims t) (sub-effect-at t) sub-effect.Post sub-effect-Inv-loop sub-effect-μ-loop
 sub-effect-next-requires-2 t c κs =
     let d = c .before .before .before in
-    let s = given t (turned t d) in
-    row-within _ _ _ (d .join-call .last .0) (ready-few (s .pre .1 .0)) (s .pre .1 .2) (passed-room t d) (turned t d .before .before .before .before .row .ensures)
+    omega (arith, turned t d .before .before .before .before .row .ensures, row-room (passed-ready t d) (given t (turned t d) .pre .1 .2))
 
 sub-effect-loop-less : (t : ℕ) → sub-effect-lts.Need-loop-less (sub-claims t) (sub-effect-at t) sub-effect.Post sub-effect-Inv-loop sub-effect-μ-loop
 sub-effect-loop-less t c =

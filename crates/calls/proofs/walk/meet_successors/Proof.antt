@@ -9,7 +9,7 @@ use lib.Seq.{take-all}
 use Rattle.flow.specs.Format.{flowOf}
 use Rattle.theory.specs.Body.{successors}
 use Rattle.calls.specs.Walking.{Met}
-use Rattle.calls.proofs.Checked.{ready-formed, ready-below, getD-In}
+use Rattle.calls.proofs.Checked.{successor-below}
 use Rattle.calls.proofs.Walking.{met-none, met-more, met-stack, met-ready}
 use Rattle.calls.proofs.walk.meet_successors.Statement.{statement}
 use Rattle.calls.proofs.walk.meet_successors.Tie as tie
@@ -38,9 +38,7 @@ module _ (c : tie.In-loop Inv-loop μ-loop) where
   inside = omega (arith, c .loop-test .taken, c .before .before .successor-count .ensures)
 
   is-statement : getD list (c .before .loop .k) 0 < start .args .n
-  is-statement =
-      let r = start .pre .0 in
-      ready-below r (ready-formed r .successor (start .args .i) _ (getD-In list (c .before .loop .k) inside))
+  is-statement = successor-below (start .pre .0) (start .args .i) (c .before .loop .k) inside
 
 successor-requires : tie.Need-successor-requires Inv-loop μ-loop
 successor-requires c κs =
