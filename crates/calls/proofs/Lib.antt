@@ -4,3 +4,4 @@ pub mod Found
 pub mod Checked
 pub mod Joined
 pub mod Gathered
+pub mod Next

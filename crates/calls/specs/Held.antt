@@ -1,9 +1,9 @@
 -- What the phases leave in the work area of a flow of n statements: the walk of a body in its row, the summary of each call, and the
 -- continuations that each RETURN goes to in its row.
-use Prim.Native.Nat.{ℕ, _+_, _*_, _<_, _≤_}
-use mathlib.Core.Bool.{Bool, true, false, cond}
+use Prim.Native.Nat.{ℕ, _+_, _<_, _≤_}
+use mathlib.Core.Bool.{true, false, cond}
 use mathlib.Core.List.{List}
-use mathlib.Core.Option.{Option, none, some}
+use mathlib.Core.Option.{none, some}
 use mathlib.Core.Path.{_≡_}
 use lib.ListN.{length, getD}
 use Rattle.words.specs.Row.{has}
@@ -12,7 +12,7 @@ use Rattle.theory.specs.Lists as lists
 use Rattle.theory.specs.Lists.{In, any, upTo}
 use Rattle.theory.specs.Body.{kind, continuationOf, isReturn, callees, entered, Walks, opaqueCall, callTouches}
 use Rattle.theory.specs.Doubled.{returnsTo}
-use Rattle.statements.specs.Layout.{callsAt, callTouchedAt, bodiesAt, rowAt, rowWords, queueAt, enteredAt}
+use Rattle.statements.specs.Layout.{callsAt, callTouchedAt, rowAt, rowWords, queueAt, enteredAt}
 use Rattle.statements.specs.Ready.{MembersWord}
 
 -- the states of a body and of a call
