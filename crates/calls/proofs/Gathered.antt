@@ -1,20 +1,19 @@
 -- Where the RETURNs of a call's bodies go, gathered member by member of a walk's row, line by line of a call, and call by call; and the statements that a
 -- call enters, line by line. Each step adds what its part gives, so that the whole is what the definitions say.
-use Prim.Native.Nat.{ℕ, suc, _+_, _≤_, _<_, max}
+use Prim.Native.Nat.{ℕ, _+_, _≤_, _<_, max}
 use mathlib.Core.Bool.{Bool, true, false, cond, _&&_, _||_, or-assoc, or-false, or-true, and-comm, and-false, and-or-distrib-right}
 use mathlib.Core.List.{List, [], _∷_, _++_, append-assoc, append-nil, List·Memᴰ·not-nil}
 use mathlib.Core.Option.{Option, none, some}
-use mathlib.Core.Path.{_≡_, refl, sym, _∙_, ap, ap₂, subst}
+use mathlib.Core.Path.{_≡_, refl, sym, _∙_, ap, subst}
 use native.Mathlib.Decide.{decLt}
 use native.Mathlib.Numerals.{add-one}
 use native.Mathlib.Omega.{arith}
-use borrow.Author.Tests.{eqb-true, eqb-false, eq-eqb, ne-eqb, ltb-true, lt-ltb, le-ltb}
+use borrow.Author.Tests.{eqb-true, eqb-false, eq-eqb, lt-ltb, le-ltb}
 use lib.Dec.{eqb, ltb}
 use lib.ListN.{length, getD, take}
 use lib.Seq.{take-suc, take-all}
 use Rattle.words.specs.Row as row
 use Rattle.words.specs.Row.{nextMember, First}
-use Rattle.words.proofs.Row.{has-lt}
 use Rattle.words.proofs.NextMember.{first}
 use Rattle.flow.specs.Flow.{Flow, size, enters}
 use Rattle.theory.specs.Lists.{In, any, has, concatMap, optionList, upTo}

@@ -3,11 +3,9 @@
 use Prim.Native.Nat.{ℕ, _+_, _/_, _≤_, _<_, max}
 use mathlib.Core.Bool.{Bool, true, false, cond, _&&_, _||_, or-assoc, or-false}
 use mathlib.Core.List.{List, [], _∷_, _++_}
-use mathlib.Core.Logic.{_≢_}
 use mathlib.Core.Path.{_≡_, refl, sym, _∙_, ap, subst}
-use native.Mathlib.Decide.{decLt}
 use native.Mathlib.Omega.{arith}
-use borrow.Author.Tests.{eqb-true, eqb-false, eq-eqb}
+use borrow.Author.Tests.{eqb-true, eqb-false}
 use lib.Dec.{eqb}
 use lib.ListN.{length}
 use Rattle.words.specs.Row.{has}
@@ -18,8 +16,7 @@ use Rattle.flow.specs.Flow.{Flow}
 use Rattle.theory.specs.Lists as lists
 use Rattle.theory.specs.Body.{kind, isReturn, entered}
 use Rattle.theory.proofs.Lists.{clash, not-so}
-use Rattle.statements.specs.Layout.{rowWords, rowAt, matrixAt, queueAt, enteredAt, waitingAt}
-use Rattle.statements.specs.Ready.{Keeps}
+use Rattle.statements.specs.Layout.{rowAt, queueAt, enteredAt, waitingAt}
 use Rattle.statements.proofs.WorkArea.{member-word, row-words-le, row-from, row-fits, insert-row}
 use Rattle.statements.proofs.Keeps.{keeps-refl, keeps-trans, keeps-inserted}
 use Rattle.calls.specs.Held.{EmptyEntered, EnteredIs}

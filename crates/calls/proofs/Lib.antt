@@ -9,3 +9,4 @@ pub mod Cursor
 pub mod Found
 pub mod Joined
 pub mod Gathered
+pub mod Next

@@ -1,6 +1,6 @@
 // The edges of a doubled number, in the paper's order, one after the other by a cursor.
-ghost use Prim.Native.Nat.{ℕ, _+_, _-_, _/_, _^_, _≤_, _<_};
-ghost use mathlib.Core.Bool.{cond, false, _||_};
+ghost use Prim.Native.Nat.{_+_, _-_, _/_, _^_, _≤_, _<_};
+ghost use mathlib.Core.Bool.{false, _||_};
 ghost use mathlib.Core.Option.{some};
 ghost use mathlib.Core.Path.{_≡_};
 ghost use lib.Dec.{eqb};

@@ -8,7 +8,7 @@ ghost use Rattle.flow.specs.Flow.{enters};
 ghost use Rattle.flow.specs.Format.{flowOf};
 ghost use Rattle.flow.specs.Answers.{headerOf};
 ghost use Rattle.theory.specs.Lists.{optionList};
-ghost use Rattle.theory.specs.Body.{kind, callLines, continuationOf, isReturn, entered};
+ghost use Rattle.theory.specs.Body.{kind, callLines, isReturn, entered};
 ghost use Rattle.theory.specs.Doubled.{returnsTo};
 ghost use Rattle.statements.specs.Layout.{matrixAt, queueAt};
 ghost use Rattle.statements.specs.Ready.{Ready, Keeps};

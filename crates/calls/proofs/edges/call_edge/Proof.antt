@@ -12,11 +12,10 @@ use lib.ListN.{getD, drop}
 use Rattle.flow.specs.Flow.{size, enters}
 use Rattle.flow.specs.Format.{flowOf}
 use Rattle.theory.specs.Body.{kind, callLines}
-use Rattle.theory.specs.Doubled.{Base, at}
 use Rattle.calls.specs.Slots.{otherSlots, callSlots, edgeFrom, copyOf}
 use Rattle.calls.specs.declared.Edge as E
 use Rattle.calls.proofs.Checked.{ready-few, ready-size, ready-formed, ready-below, lines-few, enters-at, enters-nothing}
-use Rattle.calls.proofs.Found.{line-here, line-skip, back-here, then-others, base-most, to-copy, same-number, to}
+use Rattle.calls.proofs.Found.{line-here, line-skip, back-here, then-others, base-most, to-copy, same-number}
 use Rattle.calls.proofs.edges.call_edge.Statement.{statement}
 use Rattle.calls.proofs.edges.call_edge.Tie as tie
 

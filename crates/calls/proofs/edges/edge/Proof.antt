@@ -1,11 +1,10 @@
 -- `edge` meets its contract: a number below n is a statement in base 0, and the others are those in base n.
 -- Assumes nothing.
-use Prim.Native.Nat.{ℕ, _-_, _≤_}
+use Prim.Native.Nat.{ℕ, _-_}
 use mathlib.Core.Path.{_≡_, refl, sym, ap, ap₂, _∙_, subst}
 use native.Mathlib.Omega.{arith}
 use denote.Ref.{now}
 use lib.ListN.{drop}
-use Rattle.flow.specs.Flow.{size}
 use Rattle.flow.specs.Format.{flowOf}
 use Rattle.theory.specs.Doubled.{Base, Node, at, node, offset}
 use Rattle.calls.specs.Held.{EnteredRow}

@@ -2,14 +2,13 @@
 -- By the slot at the cursor. Assumes nothing.
 use Prim.Native.Nat.{ℕ, _+_}
 use mathlib.Core.Bool.{false}
-use mathlib.Core.Path.{_≡_, sym, ap, _∙_}
+use mathlib.Core.Path.{sym, ap, _∙_}
 use native.Mathlib.Omega.{arith}
 use borrow.Author.Needs.{needs}
 use denote.Ref.{now}
 use Rattle.flow.specs.Format.{flowOf}
 use Rattle.theory.specs.Doubled.{at}
 use Rattle.calls.specs.Slots.{copyOf}
-use Rattle.calls.specs.declared.Edge as E
 use Rattle.calls.proofs.Checked.{ready-few, ready-size, successor-below}
 use Rattle.calls.proofs.Found.{listed-here, listed-end, base-most, to-copy, to}
 use Rattle.calls.proofs.edges.listed_edge.Statement.{statement}

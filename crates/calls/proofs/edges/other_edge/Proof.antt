@@ -1,7 +1,7 @@
 -- `other_edge` meets its contract. The invariant: what is found from the cursor on is what is found from c on. The measure is how many successors are left.
 -- By the slot at c. Assumes nothing.
 use Prim.Native.Nat.{ℕ, _+_, _-_, _≤_, _<_}
-use mathlib.Core.Bool.{Bool, false, _||_}
+use mathlib.Core.Bool.{false, _||_}
 use mathlib.Core.Path.{_≡_, refl, sym, ap, _∙_}
 use native.Mathlib.Omega.{arith}
 use borrow.Author.Needs.{needs}

@@ -1,7 +1,7 @@
 -- `note_body` meets its contract: the walk of a RETURN is itself, and any other body has its walk in its row.
 -- By the laws of `Joins`. Assumes nothing.
 use Prim.Native.Nat.{ℕ}
-use mathlib.Core.Path.{_≡_, sym, _∙_, subst}
+use mathlib.Core.Path.{sym, _∙_, subst}
 use native.Mathlib.Omega.{arith}
 use borrow.Author.Needs.{needs}
 use denote.Ref.{now}

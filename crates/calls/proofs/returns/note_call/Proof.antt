@@ -3,13 +3,12 @@
 use Prim.Native.Nat.{ℕ, _+_}
 use mathlib.Core.Option.{some}
 use mathlib.Core.Path.{_≡_, sym, ap, _∙_}
-use native.Mathlib.Omega.{arith}
 use borrow.Author.Needs.{needs}
 use denote.Ref.{now}
 use lib.ListN.{getD}
 use Rattle.flow.specs.Format.{flowOf}
 use Rattle.theory.specs.Body.{kind, continuationOf}
-use Rattle.calls.proofs.Checked.{ready-few, ready-formed, ready-below, matrix-room, continues-to, continues-nowhere}
+use Rattle.calls.proofs.Checked.{ready-few, ready-formed, ready-below, continues-to, continues-nowhere}
 use Rattle.calls.proofs.Gathered.{call-none, call-clear, call-opaque}
 use Rattle.calls.proofs.returns.note_call.Statement.{statement}
 use Rattle.calls.proofs.returns.note_call.Tie as tie

@@ -1,8 +1,8 @@
 -- `note_lines` meets its contract. The invariant: the RETURNs of the bodies that the lines before l enter go to k. So the rows of walks stay.
 -- The measure is how many lines are left. Assumes nothing.
-use Prim.Native.Nat.{ℕ, _+_, _-_, _≤_}
+use Prim.Native.Nat.{ℕ, _-_, _≤_}
 use mathlib.Core.List.{List}
-use mathlib.Core.Path.{_≡_, subst}
+use mathlib.Core.Path.{subst}
 use native.Mathlib.Omega.{arith}
 use borrow.Author.Needs.{needs}
 use denote.Ref.{now}
@@ -10,7 +10,7 @@ use lib.ListN.{getD, take}
 use Rattle.flow.specs.Flow.{enters}
 use Rattle.flow.specs.Format.{flowOf}
 use Rattle.theory.specs.Lists.{concatMap, optionList}
-use Rattle.theory.specs.Body.{kind, callLines, entered}
+use Rattle.theory.specs.Body.{kind, callLines}
 use Rattle.statements.proofs.Keeps.{ready-keeps}
 use Rattle.calls.specs.Joins.{Joins, fromBodies}
 use Rattle.calls.proofs.Checked.{ready-formed, ready-size}

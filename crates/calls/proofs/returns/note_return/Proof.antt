@@ -1,7 +1,7 @@
 -- `note_return` meets its contract: a RETURN's row gains the number, and any other statement has no such row.
 -- By the laws of `Joins`. Assumes nothing.
 use Prim.Native.Nat.{ℕ}
-use mathlib.Core.Path.{_≡_, sym, _∙_, subst}
+use mathlib.Core.Path.{sym, _∙_, subst}
 use native.Mathlib.Omega.{arith}
 use borrow.Author.Needs.{needs}
 use denote.Ref.{now}

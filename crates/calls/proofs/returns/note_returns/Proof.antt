@@ -1,7 +1,6 @@
 -- `note_returns` meets its contract. The invariant, `Calling`: the RETURNs go where the calls before c make them go.
 -- The measure is how many statements are left. Assumes nothing.
 use Prim.Native.Nat.{ℕ, _-_}
-use mathlib.Core.Bool.{Bool}
 use mathlib.Core.Path.{_≡_, subst}
 use native.Mathlib.Omega.{arith}
 use denote.Ref.{now}

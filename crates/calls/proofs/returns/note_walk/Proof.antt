@@ -1,9 +1,8 @@
 -- `note_walk` meets its contract. The invariant, `Walking`: the RETURNs before r on the walk go to k, and r is its next statement, found in its row,
 -- which no RETURN's row touches. The measure is what is left of the statements. Assumes nothing.
-use Prim.Native.Nat.{ℕ, _+_, _-_, _≤_}
-use mathlib.Core.Path.{_≡_, sym, ap, _∙_, subst}
+use Prim.Native.Nat.{ℕ, _+_, _-_}
+use mathlib.Core.Path.{sym, ap, _∙_, subst}
 use native.Mathlib.Omega.{arith}
-use borrow.Author.Needs.{needs}
 use denote.Ref.{now}
 use Rattle.words.specs.Row.{nextMember}
 use Rattle.words.proofs.NextMember.{first}
