@@ -1,9 +1,9 @@
 pub mod Verdicts
 pub mod Numbers
-pub mod Rising
+pub mod Answers
+pub mod Tests
 pub mod Records
-pub mod Files
-pub mod Tabulated
-pub mod Statements
-pub mod Noting
-pub mod LineSearch
+pub mod RecordVerdict
+pub mod FileVerdict
+pub mod Reading
+pub mod Cases

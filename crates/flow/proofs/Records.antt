@@ -1,20 +1,18 @@
--- What a fit record gives its readers: its fields lie within the file, and their values are in range.
+-- What a fit record gives its readers: each of its parts is fit, and its fields lie within the file.
 -- By the checks of each of the record's parts, which all hold.
-use Prim.Native.Nat.{ℕ, zero, suc, _+_, _-_, _*_, _^_, _≤_, _<_}
+use Prim.Native.Nat.{ℕ, zero, suc, _+_, _-_, _*_, _≤_, _<_}
 use native.Mathlib.Omega.{arith}
 use native.Mathlib.Nat.{eq-or-lt-of-le}
 use mathlib.Core.Logic.{⊎-elim}
-use mathlib.Core.Bool.{Bool, true, false, cond, not, _||_}
+use mathlib.Core.Bool.{Bool, true, false, cond}
 use mathlib.Core.List.{List, [], _∷_, _++_}
-use mathlib.Core.Option.{Option, none, some}
+use mathlib.Core.Option.{none}
 use mathlib.Core.Path.{_≡_, refl, sym, ap, _∙_}
 use lib.ListN.{length}
-use lib.Dec.{leb, ltb, eqb}
-use borrow.Author.Tests.{leb-true, ltb-true, eqb-true, ne-eqb}
-use Rattle.flow.specs.Limits.{maxKind}
-use Rattle.flow.specs.Format.{Check, verdict, fit, each, present, recordEnd, startChecks, successorChecks, referenceCountChecks, referenceChecks, nameChecks, itemChecks, lineChecks, continuationChecks, dimChecks, gosubChecks, onGosubChecks, dataChecks, restChecks, recordChecks, successorCount, successorAt, referencesPlace, referenceCount, referenceAt, dataPlace, dataCount, elementPlace, elementsEnd, kindAt, continuationAt, writtenAt, readAt, itemAt, statementsOf, arraysOf, namesOf, byData}
+use lib.Dec.{eqb}
+use borrow.Author.Tests.{leb-true, eqb-true, ne-eqb}
+use Rattle.flow.specs.Format.{verdict, fit, each, present, recordEnd, startChecks, successorChecks, referenceCountChecks, referenceChecks, nameChecks, itemChecks, lineChecks, continuationChecks, dimChecks, gosubChecks, onGosubChecks, dataChecks, restChecks, recordChecks, successorCount, referencesPlace, referenceCount, dataPlace, dataCount, elementPlace, elementsEnd, kindAt, continuationAt, byData}
 use Rattle.flow.specs.Fields.{FitRecord, itemCount, callLineCount, continuationIn}
-use Rattle.flow.proofs.Rising.{Rising, rising, risesAt}
 use Rattle.flow.proofs.Verdicts.{all-hold, fit-left, fit-right, fit-at}
 
 -- the end of the record at p by its kind's number
@@ -147,9 +145,9 @@ unfolding continuationIn
 continuation-is s p k e =
     ap (λ x. cond (eqb x 5) (continuationAt s (dataPlace s p + 2)) (cond (eqb x 6) (continuationAt s (elementsEnd s p)) none)) e
 
-pub continuation-none : (s : List ℕ) (p : ℕ) → kindAt s p < 5 → continuationIn s p ≡ none
+pub continuation-none : (s : List ℕ) (p : ℕ) → (kindAt s p ≡ 5 → ⊥) → (kindAt s p ≡ 6 → ⊥) → continuationIn s p ≡ none
 unfolding continuationIn
-continuation-none s p l = simp (ne-eqb (kindAt s p) 5 (λ e. omega arith), ne-eqb (kindAt s p) 6 (λ e. omega arith))
+continuation-none s p g o = simp (ne-eqb (kindAt s p) 5 g, ne-eqb (kindAt s p) 6 o)
 
 pub continuation-ends : {s : List ℕ} {p : ℕ} → FitRecord s p → 5 ≤ kindAt s p → continuationIn s p ≡ continuationAt s (recordEnd s p - 2)
 unfolding startChecks
@@ -166,38 +164,3 @@ continuation-ends {s} {p} h l =
     on-gosub e =
         let place : elementsEnd s p ≡ recordEnd s p - 2 = omega (arith, end-is s p 6 e) in
         continuation-is s p 6 e ∙ ap (continuationAt s) place
-
--- The values of a fit record
-
-pub record InRange (s : List ℕ) (p : ℕ) : Type 0 where
-  pub kind : kindAt s p ≤ maxKind
-  pub successor : (k : ℕ) → k < successorCount s p → successorAt s p k < statementsOf s
-  pub reference : (k : ℕ) → k < referenceCount s p → referenceAt s p k < arraysOf s
-  pub rising : Rising (referenceAt s p) (referenceCount s p)
-  pub written : writtenAt s p < 2 ^ namesOf s
-  pub read : readAt s p < 2 ^ namesOf s
-
-pub in-range : {s : List ℕ} {p : ℕ} → FitRecord s p → InRange s p
-unfolding startChecks successorChecks referenceChecks nameChecks
-in-range {s} {p} h =
-    let v = parts h in
-    let start = all-hold (startChecks s p) (v .start) in
-    let names = all-hold (nameChecks s p) (v .names) in
-    record {
-      kind = omega (arith, leb-true);
-      successor = λ k l. successor-in k (fit-at (successorCount s p) (successorChecks s p) (v .successors) k l);
-      reference = λ k l. reference-in k (fit-at (referenceCount s p) (referenceChecks s p) (v .references) k l);
-      rising = rising (referenceAt s p) (referenceCount s p)
-          (λ k l. rises-at k (fit-at (referenceCount s p) (referenceChecks s p) (v .references) k l));
-      written = ltb-true _ _ (names .1 .0);
-      read = ltb-true _ _ (names .1 .1 .1 .0);
-    }
-  where
-    successor-in : (k : ℕ) → verdict (successorChecks s p k) ≡ fit → successorAt s p k < statementsOf s
-    successor-in k e = ltb-true _ _ (all-hold (successorChecks s p k) e .1 .0)
-
-    reference-in : (k : ℕ) → verdict (referenceChecks s p k) ≡ fit → referenceAt s p k < arraysOf s
-    reference-in k e = ltb-true _ _ (all-hold (referenceChecks s p k) e .1 .0)
-
-    rises-at : (k : ℕ) → verdict (referenceChecks s p k) ≡ fit → risesAt (referenceAt s p) k ≡ true
-    rises-at k e = all-hold (referenceChecks s p k) e .1 .1 .0

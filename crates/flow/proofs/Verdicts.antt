@@ -1,6 +1,6 @@
 -- Laws of verdicts: a list of checks is fit where each check holds, and its verdict is that of its first part unless that is fit.
 -- By induction on the list, and for `each` on the number of elements.
-use Prim.Native.Nat.{ℕ, zero, suc, _+_, _≤_, _<_}
+use Prim.Native.Nat.{ℕ, zero, suc, _+_, _*_, _≤_, _<_}
 use native.Mathlib.Omega.{arith}
 use native.Mathlib.Numerals.{add-one}
 use native.Mathlib.Nat.{eq-or-lt-of-le}
@@ -10,19 +10,8 @@ use mathlib.Core.Bool.{Bool, true, false}
 use mathlib.Core.List.{List, [], _∷_, _++_}
 use mathlib.Core.Path.{_≡_, refl, sym, ap, _∙_, subst}
 use Rattle.flow.specs.declared.Refusal.{Refusal}
-use Rattle.flow.specs.Format.{Check, check, Verdict, fit, unfit, first, verdict, each}
-
--- what a list's checks come to, check by check
-pub data Judged : List Check → Verdict → Type 0 where
-  done : Judged [] fit
-  pass : {b : Bool} {r : Refusal} {cs : List Check} {v : Verdict} → b ≡ true → Judged cs v → Judged (check b r ∷ cs) v
-  stop : {b : Bool} {r : Refusal} {cs : List Check} → b ≡ false → Judged (check b r ∷ cs) (unfit r)
-
-pub judged : {cs : List Check} {v : Verdict} → Judged cs v → verdict cs ≡ v
-unfolding verdict
-judged done = refl
-judged (pass {r = r} {cs = cs} h j) = ap (λ b. first b r (verdict cs)) h ∙ judged j
-judged (stop {r = r} {cs = cs} h) = ap (λ b. first b r (verdict cs)) h
+use Rattle.flow.specs.declared.Refusal.the-variants.{TooLong}
+use Rattle.flow.specs.Format.{Check, Verdict, fit, unfit, first, verdict, each}
 
 fit≢unfit : {r : Refusal} {A : Type 0} → fit ≡ unfit r → A
 fit≢unfit {r} e = let z : _≡_ {A = ℕ} 0 1 = cc in absurd (omega arith)
@@ -37,10 +26,32 @@ unfolding verdict
 all-hold [] h = tt
 all-hold (c ∷ cs) h = go (c .holds) refl h (all-hold cs)
   where
-    go : (b : Bool) → c .holds ≡ b → first b (c .otherwise) (verdict cs) ≡ fit → (verdict cs ≡ fit → AllHold cs)
-        → (c .holds ≡ true) × AllHold cs
+    go : (b : Bool) → c .holds ≡ b → first b (c .otherwise) (verdict cs) ≡ fit → (verdict cs ≡ fit → AllHold cs) → (c .holds ≡ true) × AllHold cs
     go true e h′ ih = (e, ih h′)
     go false e h′ ih = fit≢unfit (sym h′)
+
+pub all-fit : (cs : List Check) → AllHold cs → verdict cs ≡ fit
+unfolding verdict
+all-fit [] h = refl
+all-fit (c ∷ cs) h = ap (λ b. first b (c .otherwise) (verdict cs)) (h .0) ∙ all-fit cs (h .1)
+
+-- check k is the first that fails
+abbrev pub StopsAt : ℕ → List Check → Type 0
+StopsAt k [] = ⊥
+StopsAt zero (c ∷ cs) = c .holds ≡ false
+StopsAt (suc k) (c ∷ cs) = (c .holds ≡ true) × StopsAt k cs
+
+-- the refusal of check k
+abbrev pub refusalAt : ℕ → List Check → Refusal
+refusalAt k [] = TooLong
+refusalAt zero (c ∷ cs) = c .otherwise
+refusalAt (suc k) (c ∷ cs) = refusalAt k cs
+
+pub stops-at : (k : ℕ) (cs : List Check) → StopsAt k cs → verdict cs ≡ unfit (refusalAt k cs)
+unfolding verdict
+stops-at k [] h = absurd h
+stops-at zero (c ∷ cs) h = ap (λ b. first b (c .otherwise) (verdict cs)) h
+stops-at (suc k) (c ∷ cs) h = ap (λ b. first b (c .otherwise) (verdict cs)) (h .0) ∙ stops-at k cs (h .1)
 
 -- the verdict of two lists, one after the other
 
@@ -105,3 +116,10 @@ fit-at (suc n) f h i l =
   where
     le-pred : i < suc n → i ≤ n
     le-pred h = omega arith
+
+-- elements of w bytes from b on end within n bytes, if each that is fit ends there
+pub elements-within : (k : ℕ) (f : ℕ → List Check) (n b w : ℕ) → b ≤ n → ((i : ℕ) → verdict (f i) ≡ fit → b + w * i + w ≤ n) → verdict (each k f) ≡ fit
+    → b + w * k ≤ n
+unfolding each
+elements-within zero f n b w l each-ends h = omega arith
+elements-within (suc k) f n b w l each-ends h = omega (arith, each-ends k (fit-right (each k f) (f k) h))

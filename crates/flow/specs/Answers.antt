@@ -1,7 +1,9 @@
 -- What the reader answers: the header of a file that was found fit, or its refusal; of a part of a file, the place after it.
 -- Each is given by the verdict on the checks of Format.
-use Prim.Native.Nat.{ℕ}
+use Prim.Native.Nat.{ℕ, _+_, _≤_}
+use mathlib.Core.Path.{_≡_}
 use mathlib.Core.List.{List}
+use lib.ListN.{length}
 use Rattle.flow.specs.declared.Refusal.{Refusal}
 use Rattle.flow.specs.declared.Header.{Header}
 use Rattle.flow.specs.declared.Checked.{Checked}
@@ -37,3 +39,10 @@ verdictNumber (unfit r) = numberOf r
 abbrev pub verdictPlace : Verdict → ℕ
 verdictPlace fit = 0
 verdictPlace (unfit r) = placeOf r
+
+-- the reader has come to a place of the record at p: the header, the record's start and all before the place lie within the file
+pub record Reached (s : List ℕ) (p at place : ℕ) : Type 0 where
+  pub header : 8 ≤ length s
+  pub start : p + 6 ≤ length s
+  pub within : at ≤ length s
+  pub there : at ≡ place

@@ -1,7 +1,7 @@
 -- The fields of a statement's record that was found fit, where Format does not give them by one position: the data of its kind, its references as
 -- a set, the part of the file that the record is, and what the second pass notes of the records' places.
 use Prim.Native.Nat.{ℕ, zero, suc, _+_, _-_, _*_, _/_, _%_, _^_, _≤_, _<_}
-use mathlib.Core.Bool.{cond}
+use mathlib.Core.Bool.{Bool, true, false, cond}
 use mathlib.Core.List.{List}
 use mathlib.Core.Option.{Option, none, some}
 use mathlib.Core.Path.{_≡_}
@@ -12,7 +12,6 @@ use Rattle.flow.specs.declared.Continuation.{Continuation}
 use Rattle.flow.specs.declared.Continuation as C
 use Rattle.flow.specs.declared.Entered.{Entered}
 use Rattle.flow.specs.declared.Entered as E
-use Rattle.flow.specs.declared.Verdict as V′
 use Rattle.flow.specs.Format.{Verdict, fit, unfit, verdict, fileChecks, recordChecks, kindAt, dataPlace, dataCount, elementsEnd, continuationAt, recordEnd, lineCount, lineNumber, u16At}
 
 -- the file, or the record at p, was found fit
@@ -52,9 +51,9 @@ abbrev pub enteredAt : Option ℕ → Entered
 enteredAt none = E.the-variants.Nothing
 enteredAt (some t) = E.the-variants.At (record { 0 = t })
 
-abbrev pub verdictOf : Verdict → V′.Verdict
-verdictOf fit = V′.the-variants.Fit
-verdictOf (unfit r) = V′.the-variants.Unfit r
+abbrev pub isFit : Verdict → Bool
+isFit fit = true
+isFit (unfit r) = false
 
 -- r of the file's FL records have lines below l, and the others have not
 pub record LineRank (s : List ℕ) (l r : ℕ) : Type 0 where

@@ -4,7 +4,7 @@ pub mod push;
 pub mod ring;
 
 // The waiting numbers: where the front stands in the queue's words, and how many wait.
-pub struct Ring {
+pub struct Queue {
     pub head: usize,
     pub len: usize,
 }

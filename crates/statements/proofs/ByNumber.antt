@@ -13,10 +13,10 @@ use Rattle.flow.specs.Limits.{maxKind}
 use Rattle.flow.specs.Flow.{Kind, Item, statement, items}
 use Rattle.flow.specs.Format.{flowOf, tabulate, recordPlace, statementsOf, kindAt, kindOf, byData, plainKind, successorCount, successorAt, referenceCount, referenceAt, writtenAt, readAt, itemAt}
 use Rattle.flow.specs.Fields.{FitRecord, itemCount, callLineCount, callLineAt, continuationIn}
-use Rattle.flow.proofs.Files.{record-fit}
-use Rattle.flow.proofs.Records.{in-range}
-use Rattle.flow.proofs.Statements.{Says, says}
-use Rattle.flow.proofs.Tabulated.{length-tabulate, getD-tabulate}
+use Rattle.records.proofs.Files.{record-fit}
+use Rattle.records.proofs.Values.{in-range}
+use Rattle.records.proofs.Statements.{Says, says}
+use Rattle.records.proofs.Tabulated.{length-tabulate, getD-tabulate}
 use Rattle.theory.specs.Body.{kind, successors, references, callLines, continuationOf, isReturn, counts, wipes}
 use Rattle.theory.specs.Runs.{empties}
 use Rattle.statements.specs.Ready.{Ready}

@@ -13,7 +13,7 @@ use Rattle.words.specs.Byte.{byteSet}
 use Rattle.words.proofs.Row.{has-cong}
 use Rattle.words.proofs.Rewritten.{length-rewritten, rewritten-other}
 use Rattle.flow.specs.Limits.{maxStatements}
-use Rattle.flow.proofs.Files.{limited}
+use Rattle.records.proofs.Files.{limited}
 use Rattle.statements.specs.Layout.{areaEnd}
 use Rattle.statements.specs.Ready.{Ready, Keeps}
 use Rattle.statements.proofs.WorkArea.{area-fits}

@@ -15,10 +15,11 @@ use Rattle.flow.specs.Limits.{noContinuation}
 use Rattle.flow.specs.Flow.{Flow, Kind, Item, Line, Statement, noStatement, size, statement, items, firstOf, enters}
 use Rattle.flow.specs.Format.{verdict, fit, each, present, tabulate, flowOf, statementsOf, arraysOf, namesOf, entryOf, lineCount, lineNumber, lineFirst, recordPlace, kindAt, successorCount, successorAt, referenceCount, referenceAt, dataPlace, dataCount, elementPlace, elementsEnd, itemAt, continuationOf, continuationAt, u16At, dataChecks, dimChecks, gosubChecks, onGosubChecks, itemChecks, lineChecks, continuationChecks}
 use Rattle.flow.specs.Fields.{FitFile, FitRecord, itemCount, continuationIn}
-use Rattle.flow.proofs.Files.{limited, record-fit, line-first}
-use Rattle.flow.proofs.Records.{parts, in-range}
-use Rattle.flow.proofs.Statements.{Says, says, size-is}
-use Rattle.flow.proofs.Tabulated.{member-of}
+use Rattle.records.proofs.Files.{limited, record-fit, line-first}
+use Rattle.flow.proofs.Records.{parts}
+use Rattle.records.proofs.Values.{in-range}
+use Rattle.records.proofs.Statements.{Says, says, size-is}
+use Rattle.records.proofs.Tabulated.{member-of}
 use Rattle.flow.proofs.Verdicts.{all-hold, fit-right, fit-at}
 use Rattle.theory.specs.Lists.{In}
 use Rattle.theory.specs.Body as body

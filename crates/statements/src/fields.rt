@@ -26,7 +26,7 @@ pub fn is_return(file: &[u8], work: &[u64], n: usize, i: usize) -> bool
     requires { ⌜ Ready (now file) (now work) n × (i < n) ⌝ }
     ensures { λ r. ⌜ r ≡ isReturn (kind (flowOf (now (file .entry))) i) ⌝ }
 {
-    flow::fields::kind(file, offset(file, work, n, i)) == 1
+    records::kind(file, offset(file, work, n, i)) == 1
 }
 
 // CLR and RUN: every array becomes NONE.
@@ -34,7 +34,7 @@ pub fn clears(file: &[u8], work: &[u64], n: usize, i: usize) -> bool
     requires { ⌜ Ready (now file) (now work) n × (i < n) ⌝ }
     ensures { λ r. ⌜ r ≡ empties (kind (flowOf (now (file .entry))) i) ⌝ }
 {
-    let kind = flow::fields::kind(file, offset(file, work, n, i));
+    let kind = records::kind(file, offset(file, work, n, i));
     kind == 2 || kind == 3
 }
 
@@ -46,42 +46,42 @@ pub fn wipes(file: &[u8], work: &[u64], n: usize, i: usize) -> bool
     if clears(file, work, n, i) {
         return true;
     }
-    0 < flow::fields::item_count(file, offset(file, work, n, i))
+    0 < records::item_count(file, offset(file, work, n, i))
 }
 
 pub fn continuation(file: &[u8], work: &[u64], n: usize, i: usize) -> flow::Continuation
     requires { ⌜ Ready (now file) (now work) n × (i < n) ⌝ }
     ensures { λ r. ⌜ r ≡ continuationTo (continuationOf (kind (flowOf (now (file .entry))) i)) ⌝ }
 {
-    flow::fields::continuation(file, offset(file, work, n, i))
+    records::continuation(file, offset(file, work, n, i))
 }
 
 pub fn successor_count(file: &[u8], work: &[u64], n: usize, i: usize) -> usize
     requires { ⌜ Ready (now file) (now work) n × (i < n) ⌝ }
     ensures { λ r. ⌜ r ≡ length (successors (flowOf (now (file .entry))) i) ⌝ }
 {
-    flow::fields::successor_count(file, offset(file, work, n, i))
+    records::successor_count(file, offset(file, work, n, i))
 }
 
 pub fn successor(file: &[u8], work: &[u64], n: usize, i: usize, k: usize) -> flow::StmtId
     requires { ⌜ Ready (now file) (now work) n × (i < n) × (k < length (successors (flowOf (now file)) i)) ⌝ }
     ensures { λ r. ⌜ r .0 ≡ getD (successors (flowOf (now (file .entry))) i) k 0 ⌝ }
 {
-    flow::fields::successor(file, offset(file, work, n, i), k)
+    records::successor(file, offset(file, work, n, i), k)
 }
 
 pub fn reference_count(file: &[u8], work: &[u64], n: usize, i: usize) -> usize
     requires { ⌜ Ready (now file) (now work) n × (i < n) ⌝ }
     ensures { λ r. ⌜ r ≡ length (references (flowOf (now (file .entry))) i) ⌝ }
 {
-    flow::fields::reference_count(file, offset(file, work, n, i))
+    records::reference_count(file, offset(file, work, n, i))
 }
 
 pub fn reference(file: &[u8], work: &[u64], n: usize, i: usize, k: usize) -> usize
     requires { ⌜ Ready (now file) (now work) n × (i < n) × (k < length (references (flowOf (now file)) i)) ⌝ }
     ensures { λ r. ⌜ r ≡ getD (references (flowOf (now (file .entry))) i) k 0 ⌝ }
 {
-    flow::fields::reference(file, offset(file, work, n, i), k)
+    records::reference(file, offset(file, work, n, i), k)
 }
 
 // The references as a set: array a is bit a of the word.
@@ -89,35 +89,35 @@ pub fn references_word(file: &[u8], work: &[u64], n: usize, i: usize) -> u64
     requires { ⌜ Ready (now file) (now work) n × (i < n) ⌝ }
     ensures { λ r. ⌜ MembersWord r (λ a. lists.has a (references (flowOf (now (file .entry))) i)) ⌝ }
 {
-    flow::fields::references_word(file, offset(file, work, n, i), 0)
+    records::references_word(file, offset(file, work, n, i), 0)
 }
 
 pub fn written(file: &[u8], work: &[u64], n: usize, i: usize) -> u64
     requires { ⌜ Ready (now file) (now work) n × (i < n) ⌝ }
     ensures { λ r. ⌜ r ≡ statement (flowOf (now (file .entry))) i .written ⌝ }
 {
-    flow::fields::written(file, offset(file, work, n, i))
+    records::written(file, offset(file, work, n, i))
 }
 
 pub fn read(file: &[u8], work: &[u64], n: usize, i: usize) -> u64
     requires { ⌜ Ready (now file) (now work) n × (i < n) ⌝ }
     ensures { λ r. ⌜ r ≡ statement (flowOf (now (file .entry))) i .read ⌝ }
 {
-    flow::fields::read(file, offset(file, work, n, i))
+    records::read(file, offset(file, work, n, i))
 }
 
 pub fn item_count(file: &[u8], work: &[u64], n: usize, i: usize) -> usize
     requires { ⌜ Ready (now file) (now work) n × (i < n) ⌝ }
     ensures { λ r. ⌜ r ≡ length (items (kind (flowOf (now (file .entry))) i)) ⌝ }
 {
-    flow::fields::item_count(file, offset(file, work, n, i))
+    records::item_count(file, offset(file, work, n, i))
 }
 
 pub fn item(file: &[u8], work: &[u64], n: usize, i: usize, k: usize) -> flow::Item
     requires { ⌜ Ready (now file) (now work) n × (i < n) × (k < length (items (kind (flowOf (now file)) i))) ⌝ }
     ensures { λ r. ⌜ (r .array ≡ getD (items (kind (flowOf (now (file .entry))) i)) k noItem .array) × (r .flag ≡ getD (items (kind (flowOf (now (file .entry))) i)) k noItem .flag) ⌝ }
 {
-    flow::fields::item(file, offset(file, work, n, i), k)
+    records::item(file, offset(file, work, n, i), k)
 }
 
 // The lines that a call names.
@@ -125,7 +125,7 @@ pub fn line_count(file: &[u8], work: &[u64], n: usize, i: usize) -> usize
     requires { ⌜ Ready (now file) (now work) n × (i < n) ⌝ }
     ensures { λ r. ⌜ r ≡ length (callLines (kind (flowOf (now (file .entry))) i)) ⌝ }
 {
-    flow::fields::line_count(file, offset(file, work, n, i))
+    records::line_count(file, offset(file, work, n, i))
 }
 
 // The statement that the k-th of them enters, if any.
@@ -134,9 +134,12 @@ pub fn entered(file: &[u8], h: flow::Header, work: &[u64], i: usize, k: usize) -
     ensures { λ r. ⌜ r ≡ enteredAt (enters (flowOf (now (file .entry))) (getD (callLines (kind (flowOf (now (file .entry))) i)) k 0)) ⌝ }
 {
     let n = h.statements;
-    flow::lines::line_entry(
+    let lines_at = h.lines_at;
+    let lines = h.lines;
+    records::lines::line_entry(
         file,
-        h,
-        flow::fields::call_line(file, offset(file, work, n, i), k),
+        lines_at,
+        lines,
+        records::call_line(file, offset(file, work, n, i), k),
     )
 }

@@ -4,6 +4,7 @@ use borrow.Author.Needs.{needs}
 use denote.Ref.{now}
 use Prim.Native.Nat.{_<_}
 use mathlib.Core.Path.{ap, sym, subst, _∙_}
+use Rattle.flow.specs.declared.Header.{Header}
 use Rattle.flow.specs.Flow.{enters}
 use Rattle.flow.specs.Format.{flowOf}
 use Rattle.flow.specs.Fields.{enteredAt}
@@ -21,7 +22,9 @@ call-line-requires c κs =
     (r .fit, subst (λ m. start .args .k < m) (r .lines .count) (start .pre .3))
 
 line-entry-requires : tie.Need-line-entry-requires
-line-entry-requires c κs = search needs
+line-entry-requires c κs =
+    let start = c .before .before .before .before in
+    (start .pre .0 .fit, (ap (λ (h : Header). h .«lines_at») (start .pre .1), ap (λ (h : Header). h .lines) (start .pre .1)))
 
 returns : tie.Need-returns
 returns c = let start = c .before .before .before .before .before in
