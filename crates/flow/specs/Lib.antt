@@ -1,0 +1,7 @@
+pub mod Limits
+pub mod Flow
+pub mod Refusals
+pub mod Format
+pub mod Answers
+pub mod Fields
+pub mod Cases
