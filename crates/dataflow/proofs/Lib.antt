@@ -1,4 +1,0 @@
-pub mod Promised
-pub mod Judging
-pub mod NotedRows
-pub mod Phases
