@@ -13,10 +13,10 @@ use Rattle.flow.specs.declared.Continuation as C
 use Rattle.flow.specs.declared.Entered as E
 use Rattle.flow.specs.Fields.{FitRecord, callLineCount, callLineAt, continuationTo, enteredAt}
 use Rattle.flow.specs.Format.{flowOf, statementsOf, recordPlace, successorCount, successorAt}
-use Rattle.flow.proofs.Files.{limited, record-fit}
+use Rattle.records.proofs.Files.{limited, record-fit}
 use Rattle.flow.proofs.Records.{call-line-fits, references-fit}
-use Rattle.flow.proofs.Statements.{says, size-is}
-use Rattle.flow.proofs.Tabulated.{length-tabulate}
+use Rattle.records.proofs.Statements.{says, size-is}
+use Rattle.records.proofs.Tabulated.{length-tabulate}
 use Rattle.theory.specs.Lists.{In}
 use Rattle.theory.specs.Body.{kind, callLines, successors, walkNext}
 use Rattle.theory.specs.WellFormed.{WellFormed}
