@@ -27,7 +27,7 @@ matrixAt n = 5 * n
 unfoldable pub rowWords : ℕ → ℕ
 rowWords n = (n + 63) / 64
 
--- row i of the matrix. Its laws are in proofs/Layout: a row lies in the matrix, and two rows are apart
+-- row i of the matrix. Its laws are in proofs/WorkArea: a row lies in the matrix, and two rows are apart
 unfoldable pub rowAt : ℕ → ℕ → ℕ
 rowAt n i = matrixAt n + rowWords n * i
 

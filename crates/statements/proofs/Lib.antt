@@ -1,0 +1,2 @@
+pub mod WorkArea
+pub mod Keeps
