@@ -1,2 +1,3 @@
 pub mod WorkArea
 pub mod Keeps
+pub mod ByNumber

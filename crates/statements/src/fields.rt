@@ -134,5 +134,9 @@ pub fn entered(file: &[u8], h: flow::Header, work: &[u64], i: usize, k: usize) -
     ensures { λ r. ⌜ r ≡ enteredAt (enters (flowOf (now (file .entry))) (getD (callLines (kind (flowOf (now (file .entry))) i)) k 0)) ⌝ }
 {
     let n = h.statements;
-    flow::lines::line_entry(file, h, flow::fields::call_line(file, offset(file, work, n, i), k))
+    flow::lines::line_entry(
+        file,
+        h,
+        flow::fields::call_line(file, offset(file, work, n, i), k),
+    )
 }

@@ -6,6 +6,7 @@ use mathlib.Core.List.{List, [], _∷_, _++_}
 use mathlib.Core.Option.{Option, none, some}
 use mathlib.Core.Path.{_≡_}
 use Rattle.flow.specs.Flow.{Flow, Kind, Statement, Item, size, statement, enters}
+pub use Rattle.flow.specs.Flow.{callLines, continuation as continuationOf}
 use Rattle.theory.specs.Lists.{In, any, has, concatMap, optionList}
 use Rattle.theory.specs.Reach.{Reach, Reach⁺, reached}
 
@@ -17,26 +18,6 @@ successors f i = statement f i .successors
 
 abbrev pub references : Flow → ℕ → List ℕ
 references f i = statement f i .references
-
--- the lines that a call names
-abbrev pub callLines : Kind → List ℕ
-callLines Kind.other = []
-callLines Kind.return = []
-callLines Kind.clr = []
-callLines Kind.run = []
-callLines (Kind.dim items) = []
-callLines (Kind.gosub l c) = l ∷ []
-callLines (Kind.onGosub ls c) = ls
-
--- a call's continuation, where there is one
-abbrev pub continuationOf : Kind → Option ℕ
-continuationOf Kind.other = none
-continuationOf Kind.return = none
-continuationOf Kind.clr = none
-continuationOf Kind.run = none
-continuationOf (Kind.dim items) = none
-continuationOf (Kind.gosub l c) = c
-continuationOf (Kind.onGosub ls c) = c
 
 -- the statements that a call's lines enter, in listed order: other lines enter nothing
 unfoldable pub entered : Flow → ℕ → List ℕ
