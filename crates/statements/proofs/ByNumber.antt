@@ -23,11 +23,13 @@ use Rattle.statements.specs.Ready.{Ready}
 
 -- the elements of l are f 0, f 1, .. of n elements
 pub record Elements {A : Type 0} (l : List A) (n : ℕ) (f : ℕ → A) : Type 0 where
+  pub list : l ≡ tabulate n f
   pub count : length l ≡ n
   pub at : (k : ℕ) (d : A) → k < length l → getD l k d ≡ f k
 
 elements : {A : Type 0} {l : List A} (n : ℕ) (f : ℕ → A) → l ≡ tabulate n f → Elements l n f
 elements n f e = record {
+  list = e;
   count = ap length e ∙ length-tabulate f n;
   at = λ k d b. ap (λ x. getD x k d) e ∙ getD-tabulate f n k d (subst (λ (m : ℕ). k < m) (ap length e ∙ length-tabulate f n) b);
 }

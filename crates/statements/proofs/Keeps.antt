@@ -12,7 +12,11 @@ use Rattle.words.specs.Change.{joined, inserted, rewritten, unioned, cleared}
 use Rattle.words.specs.Byte.{byteSet}
 use Rattle.words.proofs.Row.{has-cong}
 use Rattle.words.proofs.Rewritten.{length-rewritten, rewritten-other}
+use Rattle.flow.specs.Limits.{maxStatements}
+use Rattle.flow.proofs.Files.{limited}
+use Rattle.statements.specs.Layout.{areaEnd}
 use Rattle.statements.specs.Ready.{Ready, Keeps}
+use Rattle.statements.proofs.WorkArea.{area-fits}
 
 pub keeps-refl : {lo hi : ℕ} {ws : List ℕ} → Keeps lo hi ws ws
 keeps-refl = record { size = refl; below = λ x l. refl; above = λ x l. refl }
@@ -89,3 +93,11 @@ ready-keeps r k l = record {
   room = let room = r .room in let size = k .size in omega arith;
   offsets = λ i m. k .below _ (omega arith) ∙ r .offsets i m;
 }
+
+-- a fit file has few enough statements for the layout, and their parts lie within the area
+
+pub ready-most : {s ws : List ℕ} {n : ℕ} → Ready s ws n → n ≤ maxStatements
+ready-most {s} r = let most = limited (r .fit) .statements in let count = r .count in omega arith
+
+pub ready-room : {s ws : List ℕ} {n : ℕ} → Ready s ws n → 0 < n → areaEnd n ≤ length ws
+ready-room r p = let room = r .room in omega (arith, area-fits p (ready-most r))
