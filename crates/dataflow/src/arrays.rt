@@ -1,60 +1,13 @@
 // Masks by doubled number: the queue rule, with every mask pushed along the edges instead of pulled.
 use calls::edges;
 use calls::summary;
+use crate::transfer;
 use masks::Effect;
 use solve::Ring;
 use solve::push;
 use solve::ring;
-use statements::fields;
+use solve::rows;
 use statements::layout;
-
-fn step_references(file: &[u8], work: &mut [u64], n: usize, i: usize, row: usize) {
-    let count = fields::reference_count(file, work, n, i);
-    let mut k = 0;
-    while k < count {
-        let a = fields::reference(file, work, n, i, k);
-        push::step_at(work, row, a, Effect::Reference);
-        k += 1;
-    }
-}
-
-fn step_items(file: &[u8], work: &mut [u64], n: usize, i: usize, row: usize) {
-    let count = fields::item_count(file, work, n, i);
-    let mut k = 0;
-    while k < count {
-        let x = fields::item(file, work, n, i, k);
-        if x.flag == 1 {
-            push::step_at(work, row, x.array, Effect::Dim);
-        }
-        k += 1;
-    }
-}
-
-// The act of statement i on the masks of d, into the row for its edges.
-fn transfer(file: &[u8], h: flow::Header, work: &mut [u64], d: usize, i: usize) {
-    let n = h.statements;
-    let row = layout::mask_row(n, 2 * n);
-    push::copy_row(work, row, layout::mask_row(n, d));
-    step_references(file, work, n, i, row);
-    step_items(file, work, n, i, row);
-    if fields::clears(file, work, n, i) {
-        push::step_all(work, row, h.arrays, Effect::Clear);
-    }
-}
-
-// The masks on the edge to the continuation of the call i, which is not opaque: those of its other edges, with the touched step.
-fn transfer_back(work: &mut [u64], h: flow::Header, i: usize) {
-    let n = h.statements;
-    let arrays = h.arrays;
-    let row = layout::mask_row(n, 2 * n + 1);
-    push::copy_row(work, row, layout::mask_row(n, 2 * n));
-    let touched = layout::call_touched(n) + i;
-    let mut a = words::next(work, touched, 0, arrays);
-    while a < arrays {
-        push::step_at(work, row, a, Effect::Touched);
-        a = words::next(work, touched, a + 1, arrays);
-    }
-}
 
 fn push_edges(file: &[u8], h: flow::Header, work: &mut [u64], r: Ring, d: usize) -> Ring {
     let n = h.statements;
@@ -78,9 +31,9 @@ fn push_edges(file: &[u8], h: flow::Header, work: &mut [u64], r: Ring, d: usize)
 fn send(file: &[u8], h: flow::Header, work: &mut [u64], r: Ring, d: usize) -> Ring {
     let n = h.statements;
     let i = if d < n { d } else { d - n };
-    transfer(file, h, work, d, i);
+    transfer::transfer(file, h, work, d, i);
     if work[layout::calls(n) + i] == summary::CLEAR {
-        transfer_back(work, h, i);
+        transfer::transfer_back(work, h, i);
         edges::note_entered(file, h, work, i);
         let queue = push_edges(file, h, work, r, d);
         edges::clear_entered(work, n);
@@ -108,7 +61,7 @@ fn visit(file: &[u8], h: flow::Header, work: &mut [u64], r: Ring) -> Ring {
 pub fn array_states(file: &[u8], h: flow::Header, work: &mut [u64]) -> u64 {
     let n = h.statements;
     let entry = h.entry;
-    push::step_all(work, layout::mask_row(n, entry), h.arrays, Effect::Clear);
+    rows::step_all(work, layout::mask_row(n, entry), h.arrays, Effect::Clear);
     let mut queue = ring::enqueue(work, n, Ring { head: 0, len: 0 }, entry);
     let mut visits = 0u64;
     while 0 < queue.len {

@@ -1,3 +1,4 @@
 // `array_states` and live names: the answer to a flow file.
 pub mod answer;
 pub mod arrays;
+pub mod transfer;

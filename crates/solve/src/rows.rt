@@ -6,7 +6,7 @@ ghost use lib.ListN.{length};
 ghost use Rattle.words.specs.Byte.{byteAt};
 ghost use Rattle.flow.specs.Limits.{maxArrays};
 ghost use Rattle.statements.specs.Layout.{maskWords};
-ghost use Rattle.solve.specs.Rows.{RowIs, stepWhere};
+ghost use Rattle.solve.specs.Rows.{RowIs, stepWhere, memberBelow};
 use statements::layout;
 
 pub fn step_at(work: &mut [u64], row: usize, a: usize, effect: masks::Effect)
@@ -26,6 +26,18 @@ pub fn step_all(work: &mut [u64], row: usize, arrays: usize, effect: masks::Effe
     while a < arrays {
         step_at(work, row, a, effect);
         a += 1;
+    }
+}
+
+// Every array below the count that is a member of the set at word `set` takes the effect.
+pub fn step_members(work: &mut [u64], row: usize, set: usize, count: usize, effect: masks::Effect)
+    requires { ⌜ (set < row) × (row + maskWords ≤ length (now work)) × (count ≤ maxArrays) ⌝ }
+    ensures { λ _. ⌜ RowIs (now (work .entry)) (now (work .exit)) row (stepWhere (memberBelow (now (work .entry)) set count) effect (byteAt (now (work .entry)) row)) ⌝ }
+{
+    let mut a = words::next(work, set, 0, count);
+    while a < count {
+        step_at(work, row, a, effect);
+        a = words::next(work, set, a + 1, count);
     }
 }
 
