@@ -1,1 +1,3 @@
 pub mod RowChanges
+pub mod Wrapped
+pub mod Waiting

@@ -5,7 +5,7 @@ pub mod ring;
 pub mod rows;
 
 // The waiting numbers: where the front stands in the queue's words, and how many wait.
-pub struct Ring {
+pub struct Queue {
     pub head: usize,
     pub len: usize,
 }

@@ -19,31 +19,31 @@ pub data Distinct : List ℕ → Type 0 where
   more : {x : ℕ} {l : List ℕ} → (In x l → ⊥) → Distinct l → Distinct (x ∷ l)
 
 -- the number joins the back unless it waits
-abbrev join : List ℕ → ℕ → List ℕ
+abbrev pub join : List ℕ → ℕ → List ℕ
 join w t = cond (has t w) w (w ++ (t ∷ []))
 
-join-keeps : (w : List ℕ) (t : ℕ) {x : ℕ} → In x w → In x (join w t)
+pub join-keeps : (w : List ℕ) (t : ℕ) {x : ℕ} → In x w → In x (join w t)
 join-keeps w t {x} m = go (has t w)
   where
     go : (b : Bool) → In x (cond b w (w ++ (t ∷ [])))
     go true = m
     go false = Memᴰ·append-left (t ∷ []) m
 
-join-adds : (w : List ℕ) (t : ℕ) → In t (join w t)
+pub join-adds : (w : List ℕ) (t : ℕ) → In t (join w t)
 join-adds w t = go (has t w) refl
   where
     go : (b : Bool) → has t w ≡ b → In t (cond b w (w ++ (t ∷ [])))
     go true e = has-In t w e
     go false e = Memᴰ·append-right w (List·Memᴰ·head refl)
 
-join-cases : (w : List ℕ) (t : ℕ) {x : ℕ} → In x (join w t) → In x w ⊎ (x ≡ t)
+pub join-cases : (w : List ℕ) (t : ℕ) {x : ℕ} → In x (join w t) → In x w ⊎ (x ≡ t)
 join-cases w t {x} = go (has t w)
   where
     go : (b : Bool) → In x (cond b w (w ++ (t ∷ []))) → In x w ⊎ (x ≡ t)
     go true m = inl m
     go false m = ⊎-elim (λ n. inl n) (λ n. inr (List·Memᴰ·eq-of-singleton n)) (List·Memᴰ·append-cases w m)
 
-join-length : (w : List ℕ) (t : ℕ) → length (join w t) ≤ length w + 1
+pub join-length : (w : List ℕ) (t : ℕ) → length (join w t) ≤ length w + 1
 join-length w t = go (has t w)
   where
     go : (b : Bool) → length (cond b w (w ++ (t ∷ []))) ≤ length w + 1
@@ -57,7 +57,7 @@ append-distinct (x ∷ xs) t (more f d) h = more fresh (append-distinct xs t d (
     fresh : In x (xs ++ (t ∷ [])) → ⊥
     fresh m = ⊎-elim f (λ n. h (List·Memᴰ·head (sym (List·Memᴰ·eq-of-singleton n)))) (List·Memᴰ·append-cases xs m)
 
-join-distinct : (w : List ℕ) (t : ℕ) → Distinct w → Distinct (join w t)
+pub join-distinct : (w : List ℕ) (t : ℕ) → Distinct w → Distinct (join w t)
 join-distinct w t d = go (has t w) refl
   where
     go : (b : Bool) → has t w ≡ b → Distinct (cond b w (w ++ (t ∷ [])))

@@ -88,6 +88,17 @@ has-In x (y ∷ ys) h =
 pub has-not : (x : ℕ) (l : List ℕ) → has x l ≡ false → In x l → ⊥
 has-not x l h m = clash (has x l) (In-has m) h
 
+-- one more element at the end
+
+pub has-last : (l : List ℕ) (x : ℕ) → has x (l ++ (x ∷ [])) ≡ true
+has-last l x = In-has (Memᴰ·append-right l (List·Memᴰ·head refl))
+
+pub has-before : (l : List ℕ) {x y : ℕ} → (y ≡ x → ⊥) → has y (l ++ (x ∷ [])) ≡ has y l
+has-before l {x} {y} d =
+    same-test (has y (l ++ (x ∷ []))) (has y l)
+    (λ t. In-has (⊎-elim (λ m. m) (λ m. absurd (d (List·Memᴰ·eq-of-singleton m))) (List·Memᴰ·append-cases l (has-In y (l ++ (x ∷ [])) t))))
+    (λ t. In-has (Memᴰ·append-left (x ∷ []) (has-In y l t)))
+
 -- select
 
 pub select-In : {A : Type 0} (p : A → Bool) {x : A} {l : List A} → In x l → p x ≡ true → In x (select p l)
