@@ -1,7 +1,7 @@
 // Masks by doubled number: the queue rule, with every mask pushed along the edges instead of pulled.
+use crate::transfer;
 use calls::edges;
 use calls::summary;
-use crate::transfer;
 use masks::Effect;
 use solve::Ring;
 use solve::push;
