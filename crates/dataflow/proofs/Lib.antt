@@ -1,2 +1,3 @@
 pub mod Stepping
 pub mod Acted
+pub mod Writing

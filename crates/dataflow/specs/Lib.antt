@@ -1,1 +1,2 @@
 pub mod Transfer
+pub mod Output

@@ -14,7 +14,7 @@ fn solve_flow(file: &[u8], h: flow::Header, masks: &mut [u8], live_in: &mut [u64
     calls::summary::summarize_calls(file, h, work);
     calls::returns::note_returns(file, h, work);
     let visits = crate::arrays::array_states(file, h, work);
-    crate::arrays::write_masks(masks, work, n, h.arrays);
+    crate::output::write_masks(masks, work, n, h.arrays);
     words::clear(work, layout::row(n, 0), layout::visited(n) - layout::row(n, 0));
     live::live_names(file, work, live_in, live_out, n);
     visits

@@ -70,22 +70,3 @@ pub fn array_states(file: &[u8], h: flow::Header, work: &mut [u64]) -> u64 {
     }
     visits
 }
-
-fn write_row(masks: &mut [u8], work: &[u64], n: usize, arrays: usize, i: usize) {
-    let mut a = 0;
-    while a < arrays {
-        let outer = words::byte(work, layout::mask_row(n, i), a);
-        let inner = words::byte(work, layout::mask_row(n, n + i), a);
-        masks[i * arrays + a] = outer | inner;
-        a += 1;
-    }
-}
-
-// The union over both copies of each statement.
-pub fn write_masks(masks: &mut [u8], work: &[u64], n: usize, arrays: usize) {
-    let mut i = 0;
-    while i < n {
-        write_row(masks, work, n, arrays, i);
-        i += 1;
-    }
-}
