@@ -68,6 +68,9 @@ pub record Linked (f : Flow) (ws : List ℕ) (n : ℕ) : Type 0 where
 abbrev pub EmptyEntered : List ℕ → ℕ → Type 0
 EmptyEntered ws n = (j : ℕ) → j < n → has ws (enteredAt n) j ≡ 0
 
+abbrev pub EnteredIs : Flow → List ℕ → ℕ → ℕ → Type 0
+EnteredIs f ws n i = (j : ℕ) → j < n → has ws (enteredAt n) j ≡ cond (lists.has j (entered f i)) 1 0
+
 -- where statement i is a call that is not opaque, the row of entered statements is that of i
 pub record EnteredRow (f : Flow) (ws : List ℕ) (n i : ℕ) : Type 0 where
-  pub row : (k : ℕ) → continuationOf (kind f i) ≡ some k → opaqueCall f i ≡ false → (j : ℕ) → j < n → has ws (enteredAt n) j ≡ cond (lists.has j (entered f i)) 1 0
+  pub row : (k : ℕ) → continuationOf (kind f i) ≡ some k → opaqueCall f i ≡ false → EnteredIs f ws n i
