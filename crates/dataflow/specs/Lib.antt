@@ -1,2 +1,4 @@
 pub mod Transfer
 pub mod Output
+pub mod Sent
+pub mod Solving

@@ -60,11 +60,11 @@ differs-masks ws vs base ww wv = at (differs ws vs base maskWords) refl (differ 
         (λ a l. eq-eqb (byteAt vs base a) (byteAt ws base a) (byte-cong vs ws base a (differs-false ws vs base maskWords p (a / 8) (omega arith))))))
 
 -- what differs goes by the masks below the count
-pub differ-as : (n : ℕ) (x y z : ℕ → ℕ) → ((a : ℕ) → a < n → x a ≡ y a) → differ n x z ≡ differ n y z
+pub differ-as : (n : ℕ) (x x′ y y′ : ℕ → ℕ) → ((a : ℕ) → a < n → x a ≡ x′ a) → ((a : ℕ) → a < n → y a ≡ y′ a) → differ n x y ≡ differ n x′ y′
 unfolding allBelow
-differ-as n x y z h = ap not (every n (λ a l. ap (λ (m : ℕ). eqb m (z a)) (h a l)))
+differ-as n x x′ y y′ h k = ap not (every n (λ a l. ap₂ eqb (h a l) (k a l)))
   where
-    every : (k : ℕ) → ((a : ℕ) → a < k → eqb (x a) (z a) ≡ eqb (y a) (z a)) → allBelow k (λ a. eqb (x a) (z a)) ≡ allBelow k (λ a. eqb (y a) (z a))
+    every : (k : ℕ) → ((a : ℕ) → a < k → eqb (x a) (y a) ≡ eqb (x′ a) (y′ a)) → allBelow k (λ a. eqb (x a) (y a)) ≡ allBelow k (λ a. eqb (x′ a) (y′ a))
     every zero g = refl
     every (suc k) g = ap₂ _&&_ (every k (λ a l. g a (omega arith))) (g k (omega arith))
 
@@ -125,7 +125,7 @@ module _ (ws : List ℕ) (n from d : ℕ) (room : areaEnd n ≤ length ws) (belo
     where
       differ-row : ((e a : ℕ) → a < maxArrays → masksAt (set us (grownAt n + d) 1) n e a ≡ masksAt us n e a)
           → differ maxArrays (masksAt us n d) (masksAt ws n d) ≡ differ maxArrays (masksAt (set us (grownAt n + d) 1) n d) (masksAt ws n d)
-      differ-row row = differ-as maxArrays (masksAt us n d) (masksAt (set us (grownAt n + d) 1) n d) (masksAt ws n d) (λ a l. sym (row d a l))
+      differ-row row = differ-as maxArrays (masksAt us n d) (masksAt (set us (grownAt n + d) 1) n d) (masksAt ws n d) (masksAt ws n d) (λ a l. sym (row d a l)) (λ a l. refl)
 
 -- a union by the places that were found
 pub union-at : {ws us : List ℕ} {to from to′ from′ width : ℕ} {r r′ : Bool} → to′ ≡ to → from′ ≡ from → r′ ≡ r → Unioned ws us to′ from′ width r′ → Unioned ws us to from width r
@@ -147,7 +147,7 @@ pushed {ws} {us} {vs} {n} {from} {d} {queue} {r} below x y =
         masks = λ a l. masks d a l ∙ x .0 .masks a l;
         others = λ e a ne l. masks e a l ∙ x .0 .others e a ne l;
         grew = y .kept .above (grownAt n + d) (omega arith) ∙ x .0 .grew
-            ∙ ap (λ (b : Bool). cond b 1 (getD ws (grownAt n + d) 0)) (differ-as maxArrays (masksAt us n d) (masksAt vs n d) (masksAt ws n d) (λ a l. sym (masks d a l)));
+            ∙ ap (λ (b : Bool). cond b 1 (getD ws (grownAt n + d) 0)) (differ-as maxArrays (masksAt us n d) (masksAt vs n d) (masksAt ws n d) (masksAt ws n d) (λ a l. sym (masks d a l)) (λ a l. refl));
         not-grew = λ e l ne. y .kept .above (grownAt n + e) (omega arith) ∙ x .0 .not-grew e l ne;
       };
       waits = λ w h. y .waits w (waits-grown (x .1) h);
