@@ -1,3 +1,8 @@
+pub mod Stepping
+pub mod Acted
+pub mod Unions
+pub mod Kept
+pub mod Sending
 pub mod Promised
 pub mod Judging
 pub mod NotedRows

@@ -31,7 +31,9 @@ use Rattle.statements.proofs.WellFormed.{arrays-is}
 use Rattle.calls.specs.Held as held
 use Rattle.calls.specs.Held.{Summarized, Linked}
 use Rattle.dataflow.specs.Promise.{Written}
-use Rattle.dataflow.specs.Phases.{Fresh, Begun, SolverBlank, Arrayed, Masked, Solved}
+use Rattle.dataflow.specs.Phases.{Fresh, Begun, SolverBlank, Masked, Solved}
+use Rattle.dataflow.specs.Solving as solver
+use Rattle.solve.specs.Pushed.{masksAt}
 use Rattle.dataflow.specs.Bytes.{bothCopies, notedRows}
 use Rattle.dataflow.proofs.NotedRows.{length-rows, rows-past, rows-at}
 
@@ -104,13 +106,13 @@ linked {s} {h} {ws} {vs} {us} begun e some l k c =
 -- the rows of the two copies are the masks of the statement
 pub masked : {s : List ℕ} {h : Header} {ws vs masks masks′ : List ℕ} {visits : ℕ} → SolverBlank s h ws
     → h .statements * h .arrays ≤ length masks
-    → Arrayed (flowOf s) (h .statements) ws vs visits
+    → solver.Solved (flowOf s) ws vs (h .statements) visits
     → masks′ ≡ notedRows masks (h .arrays) (bothCopies vs (h .statements)) (h .statements)
     → Masked s h masks masks′ vs visits
 unfolding bothCopies maskOf
 masked {s} {h} {ws} {vs} {masks} {masks′} {visits} blank room solved e = record {
-    ready = ready-keeps (blank .ready) (solved .kept) (omega (arith, row-from (h .statements) (h .statements)));
-    visited = solved .visited;
+    ready = ready-keeps (blank .ready) (solved .keeps) (omega (arith, row-from (h .statements) (h .statements)));
+    visited = solved .count;
     bytes = λ i a l m.
       ap (λ v. getD v (i * h .arrays + a) 0) e
       ∙ rows-at masks (h .arrays) (bothCopies vs (h .statements)) (h .statements) i a l m room
@@ -128,8 +130,8 @@ masked {s} {h} {ws} {vs} {masks} {masks′} {visits} blank room solved e = recor
     joined i a l m =
         let b : a < flowOf s .arrays = omega (arith, arrays′) in
         ap₂ bitOr
-        (solved .rows i a (omega arith) b ∙ ap (λ d. nodeMask (flowOf s) d a) (sym (zero-add i)))
-        (solved .rows (h .statements + i) a (omega arith) b ∙ ap (λ k. nodeMask (flowOf s) (k + i) a) (sym sizes))
+        (solved .masks i a (omega arith) b ∙ ap (λ d. nodeMask (flowOf s) d a) (sym (zero-add i)))
+        (solved .masks (h .statements + i) a (omega arith) b ∙ ap (λ k. nodeMask (flowOf s) (k + i) a) (sym sizes))
 
 pub wrote : {n : ℕ} {f : ℕ → ℕ} {ws vs : List ℕ} → ((i : ℕ) → i < n → getD vs i 0 ≡ f i) → Keeps 0 n ws vs → Written n f ws vs
 wrote w k = record { size = k .size; written = w; kept = k .above }

@@ -9,11 +9,10 @@ use Rattle.flow.specs.Flow.{Flow, size}
 use Rattle.flow.specs.Limits.{workWords}
 use Rattle.flow.specs.Fields.{FitFile}
 use Rattle.flow.specs.Answers.{headerOf}
-use Rattle.words.specs.Byte.{byteAt}
-use Rattle.theory.specs.Masks.{nodeMask, maskOf, visitsOf}
+use Rattle.theory.specs.Masks.{maskOf, visitsOf}
 use Rattle.theory.specs.Live.{liveInWord, liveOutWord}
-use Rattle.statements.specs.Layout.{maskRowAt, queueAt, enteredAt, areaEnd}
-use Rattle.statements.specs.Ready.{Ready, Keeps}
+use Rattle.statements.specs.Layout.{queueAt, enteredAt, areaEnd}
+use Rattle.statements.specs.Ready.{Ready}
 use Rattle.flow.specs.Format.{flowOf}
 use Rattle.calls.specs.Held.{Summarized, Linked}
 use Rattle.dataflow.specs.Promise.{Written}
@@ -40,12 +39,6 @@ pub record Solved (f : Flow) (masks masks′ liveIn liveIn′ liveOut liveOut′
   pub live-in : Written (size f) (liveInWord f) liveIn liveIn′
   pub live-out : Written (size f) (liveOutWord f) liveOut liveOut′
   pub count : visits ≡ visitsOf f
-
--- the forward solver has ended: its visits, and the masks of each doubled number in its row
-pub record Arrayed (f : Flow) (n : ℕ) (ws vs : List ℕ) (visits : ℕ) : Type 0 where
-  pub visited : visits ≡ visitsOf f
-  pub rows : (d a : ℕ) → d < 2 * n → a < f .arrays → byteAt vs (maskRowAt n d) a ≡ nodeMask f d a
-  pub kept : Keeps (queueAt n) (areaEnd n) ws vs
 
 -- the calls have their summaries, and the solver's words are still zero
 pub record Begun (s : List ℕ) (h : Header) (ws : List ℕ) : Type 0 where

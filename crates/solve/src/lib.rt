@@ -2,6 +2,7 @@
 // flow files: a row is pushed along an edge to a number.
 pub mod push;
 pub mod ring;
+pub mod rows;
 
 // The waiting numbers: where the front stands in the queue's words, and how many wait.
 pub struct Queue {
