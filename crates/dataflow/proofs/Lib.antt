@@ -4,3 +4,6 @@ pub mod Writing
 pub mod Unions
 pub mod Kept
 pub mod Sending
+pub mod Aside
+pub mod EdgeRows
+pub mod Sends

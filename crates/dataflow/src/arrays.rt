@@ -1,9 +1,9 @@
 // Masks by doubled number: the queue rule, with every mask pushed along the edges instead of pulled.
 ghost use mathlib.Core.Path.{_≡_};
-ghost use mathlib.Core.Bool.{_&&_};
+ghost use mathlib.Core.Bool.{cond, _&&_};
 ghost use mathlib.Core.List.{List};
-ghost use Prim.Native.Nat.{ℕ, _+_, _*_, _<_, _≤_};
-ghost use lib.Dec.{eqb};
+ghost use Prim.Native.Nat.{ℕ, _+_, _-_, _*_, _<_, _≤_};
+ghost use lib.Dec.{eqb, ltb};
 ghost use lib.ListN.{length, getD, set};
 ghost use Rattle.flow.specs.Format.{flowOf};
 ghost use Rattle.flow.specs.Answers.{headerOf};
@@ -54,4 +54,29 @@ fn push_edges(file: &[u8], h: flow::Header, work: &mut [u64], first: Queue, d: u
             }
         }
     }
+}
+
+// The statement that a doubled number is a copy of.
+fn statement_of(n: usize, d: usize) -> usize
+    ensures { λ r. ⌜ r ≡ cond (ltb d n) d (d - n) ⌝ }
+{
+    if d < n { d } else { d - n }
+}
+
+// The masks of d go on along its edges.
+fn send(file: &[u8], h: flow::Header, work: &mut [u64], first: Queue, d: usize) -> Queue
+    requires { ⌜ Ready (now file) (now work) (h .statements) × (h ≡ headerOf (now file)) × Linked (flowOf (now file)) (now work) (h .statements) × (d < 2 * h .statements) × EmptyEntered (now work) (h .statements) × ((w : List ℕ) × Waits (now work) (h .statements) first w) ⌝ }
+    ensures { λ r. ⌜ Sends (flowOf (now (file .entry))) (now (work .entry)) (now (work .exit)) (h .statements) first d r ⌝ }
+{
+    let n = h.statements;
+    let i = statement_of(n, d);
+    transfer::transfer(file, h, work, d, i);
+    if work[layout::calls(n) + i] == CLEAR {
+        transfer::transfer_back(work, h, i);
+        edges::note_entered(file, h, work, i);
+        let queue = push_edges(file, h, work, first, d);
+        edges::clear_entered(work, n);
+        return queue;
+    }
+    push_edges(file, h, work, first, d)
 }
