@@ -7,3 +7,4 @@ pub mod Sending
 pub mod Aside
 pub mod EdgeRows
 pub mod Sends
+pub mod Visiting

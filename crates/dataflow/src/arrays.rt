@@ -80,3 +80,38 @@ fn send(file: &[u8], h: flow::Header, work: &mut [u64], first: Queue, d: usize) 
     }
     push_edges(file, h, work, first, d)
 }
+
+// d was visited, and its masks have not grown since.
+fn settled(work: &[u64], n: usize, d: usize) -> bool
+    requires { ⌜ (n ≤ 2048) × (areaEnd n ≤ length (now work)) × (d < 2 * n) ⌝ }
+    ensures { λ r. ⌜ r ≡ (eqb (getD (now (work .entry)) (visitedAt n + d) 0) 1 && eqb (getD (now (work .entry)) (grownAt n + d) 0) 0) ⌝ }
+{
+    if work[layout::visited(n) + d] == 1 {
+        return work[layout::grown(n) + d] == 0;
+    }
+    false
+}
+
+// The visit of d is noted: its masks are as last set.
+fn note_visit(work: &mut [u64], n: usize, d: usize)
+    requires { ⌜ (n ≤ 2048) × (areaEnd n ≤ length (now work)) × (d < 2 * n) ⌝ }
+    ensures { λ _. ⌜ now (work .exit) ≡ set (set (now (work .entry)) (visitedAt n + d) 1) (grownAt n + d) 0 ⌝ }
+{
+    work[layout::visited(n) + d] = 1;
+    work[layout::grown(n) + d] = 0;
+}
+
+// One visit: the number's masks are what was pushed to it; at its first visit, or if they grew, they go on along its edges.
+fn visit(file: &[u8], h: flow::Header, work: &mut [u64], first: Queue) -> Queue
+    requires { ⌜ Ready (now file) (now work) (h .statements) × (h ≡ headerOf (now file)) × Linked (flowOf (now file)) (now work) (h .statements) × (0 < h .statements) × (0 < first .len) × Underway (flowOf (now file)) (now work) (h .statements) first ⌝ }
+    ensures { λ r. ⌜ ((u : Underway (flowOf (now (file .entry))) (now (work .entry)) (h .statements) first) → VisitsFront (flowOf (now (file .entry))) (now (work .entry)) (now (work .exit)) (h .statements) first r u) × Keeps (queueAt (h .statements)) (areaEnd (h .statements)) (now (work .entry)) (now (work .exit)) ⌝ }
+{
+    let n = h.statements;
+    let d = ring::take(work, n, first);
+    let queue = ring::rest(n, first);
+    if settled(work, n, d) {
+        return queue;
+    }
+    note_visit(work, n, d);
+    send(file, h, work, queue, d)
+}
