@@ -8,3 +8,5 @@ pub mod Aside
 pub mod EdgeRows
 pub mod Sends
 pub mod Visiting
+pub mod Few
+pub mod Running

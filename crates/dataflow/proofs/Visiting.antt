@@ -37,7 +37,7 @@ use Rattle.dataflow.specs.Solving.{Solving, Underway, VisitsFront}
 use Rattle.dataflow.proofs.Kept.{empty-stays}
 use Rattle.dataflow.proofs.Unions.{alike, no-differ, cond-or}
 
-nodes-are : (f : Flow) → doubled f .nodes ≡ size f + size f
+pub nodes-are : (f : Flow) → doubled f .nodes ≡ size f + size f
 unfolding doubled
 nodes-are f = refl
 

@@ -14,7 +14,7 @@ ghost use Rattle.calls.specs.Held.{Linked, EnteredRow, EmptyEntered};
 ghost use Rattle.solve.specs.Waiting.{Waits};
 ghost use Rattle.solve.specs.Pushed.{Pushed};
 ghost use Rattle.dataflow.specs.Sent.{edgeRow, Sent, Sends};
-ghost use Rattle.dataflow.specs.Solving.{Underway, VisitsFront, Solved};
+ghost use Rattle.dataflow.specs.Solving.{Underway, VisitsFront, Unused, Solved};
 use crate::transfer;
 use calls::CLEAR;
 use calls::edges;
@@ -114,4 +114,21 @@ fn visit(file: &[u8], h: flow::Header, work: &mut [u64], first: Queue) -> Queue
     }
     note_visit(work, n, d);
     send(file, h, work, queue, d)
+}
+
+// The queue rule. The count of visits comes back.
+pub fn array_states(file: &[u8], h: flow::Header, work: &mut [u64]) -> u64
+    requires { ⌜ Ready (now file) (now work) (h .statements) × (h ≡ headerOf (now file)) × Linked (flowOf (now file)) (now work) (h .statements) × (0 < h .statements) × Unused (now work) (h .statements) ⌝ }
+    ensures { λ r. ⌜ Solved (flowOf (now (file .entry))) (now (work .entry)) (now (work .exit)) (h .statements) r ⌝ }
+{
+    let n = h.statements;
+    let entry = h.entry;
+    rows::step_all(work, layout::mask_row(n, entry), h.arrays, Effect::Clear);
+    let mut queue = ring::enqueue(work, n, Queue { head: 0, len: 0 }, entry);
+    let mut visits = 0u64;
+    while 0 < queue.len {
+        queue = visit(file, h, work, queue);
+        visits += 1;
+    }
+    visits
 }
