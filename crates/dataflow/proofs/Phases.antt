@@ -35,6 +35,7 @@ use Rattle.dataflow.specs.Phases.{Fresh, Begun, SolverBlank, Masked, Sol
 use Rattle.dataflow.specs.Solving as solver
 use Rattle.solve.specs.Pushed.{masksAt}
 use Rattle.dataflow.specs.Bytes.{bothCopies, notedRows}
+use Rattle.dataflow.proofs.Kept.{linked-stays}
 use Rattle.dataflow.proofs.NotedRows.{length-rows, rows-past, rows-at}
 
 module _ {s : List ℕ} {h : Header} where
@@ -64,19 +65,6 @@ module _ {s : List ℕ} {h : Header} where
         summarized = m;
         zero = λ x l b. k .above x l ∙ ap (λ v. getD v x 0) e ∙ past x (omega (arith, row-from (h .statements) (h .statements))) }
 
--- the edges stand below the queue
-pub linked-keeps : {f : Flow} {ws vs : List ℕ} {n lo hi : ℕ} → queueAt n ≤ lo → Keeps lo hi ws vs → Linked f ws n → Linked f vs n
-linked-keeps {f} {ws} {vs} {n} {lo} {hi} q k l = record {
-    ordinary = λ c m e. at (callsAt n + c) (omega (arith, row-from n n)) ∙ l .ordinary c m e;
-    call = λ c j m e. at (callsAt n + c) (omega (arith, row-from n n)) ∙ l .call c j m e;
-    touched = λ c m e.
-      subst (λ w. MembersWord w (callTouches f c)) (sym (at (callTouchedAt n + c) (omega (arith, row-from n n))))
-      (l .touched c m (sym (at (callsAt n + c) (omega (arith, row-from n n))) ∙ e));
-    returns = λ r j m b e. keeps-has k (rowAt n r) j (λ x y. omega (arith, row-fits n m, member-word b)) ∙ l .returns r j m b e }
-  where
-    at : (x : ℕ) → x < queueAt n → getD vs x 0 ≡ getD ws x 0
-    at x m = keeps-word k x (λ a b. omega arith)
-
 -- with the queue's words cleared, the forward solver can begin
 pub linked : {s : List ℕ} {h : Header} {ws vs us : List ℕ} → Begun s h ws → h ≡ headerOf s → 0 < h .statements
     → Linked (flowOf s) vs (h .statements) → Keeps (matrixAt (h .statements)) (queueAt (h .statements)) ws vs
@@ -86,7 +74,7 @@ linked {s} {h} {ws} {vs} {us} begun e some l k c =
     (record {
       ready = ready-keeps ready′ clears (omega (arith, row-from (h .statements) (h .statements)));
       header = e;
-      linked = linked-keeps (omega arith) clears l;
+      linked = linked-stays clears l;
       some = some;
       zero = λ x a b. zeros x a b (decLt x (enteredAt (h .statements))) })
   where

@@ -18,10 +18,10 @@ or-assoc w a b c la lb lc =
     bits-below w (bitOr (bitOr a b) c) (bitOr a (bitOr b c)) (or-lt w (bitOr a b) c (or-lt w a b la lb) lc) (or-lt w a (bitOr b c) la (or-lt w b c lb lc))
     (λ k l. omega (arith, bit-or (bitOr a b) c k, bit-or a b k, bit-or a (bitOr b c) k, bit-or b c k))
 
-alike : (n : ℕ) (x y : ℕ → ℕ) → differ n x y ≡ false → (a : ℕ) → a < n → x a ≡ y a
+pub alike : (n : ℕ) (x y : ℕ → ℕ) → differ n x y ≡ false → (a : ℕ) → a < n → x a ≡ y a
 alike n x y h a l = eqb-true (x a) (y a) (allBelow-at n (λ a. eqb (x a) (y a)) (not-false _ h) a l)
 
-no-differ : (n : ℕ) (x y : ℕ → ℕ) → ((a : ℕ) → a < n → x a ≡ y a) → differ n x y ≡ false
+pub no-differ : (n : ℕ) (x y : ℕ → ℕ) → ((a : ℕ) → a < n → x a ≡ y a) → differ n x y ≡ false
 no-differ n x y h = ap not (allBelow-all n (λ a. eqb (x a) (y a)) (λ a l. eq-eqb (x a) (y a) (h a l)))
 
 pub differ-self : (n : ℕ) (x : ℕ → ℕ) → differ n x x ≡ false

@@ -39,6 +39,10 @@ pub record VisitsFront (f : Flow) (ws vs : List ℕ) (n : ℕ) (queue r : Queue)
   pub waiting : u .state .waiting ≡ front ∷ behind
   pub solving : Solving f vs n r (visit (doubled f) (u .state) front behind)
 
+-- the words from the queue on are zero
+abbrev pub Unused : List ℕ → ℕ → Type 0
+Unused ws n = (x : ℕ) → queueAt n ≤ x → x < areaEnd n → getD ws x 0 ≡ 0
+
 -- from an area that is zero from the queue on, the queue rule's visits and, of every number, what it leaves
 pub record Solved (f : Flow) (ws vs : List ℕ) (n visits : ℕ) : Type 0 where
   pub count : visits ≡ visitsOf f
