@@ -14,5 +14,6 @@ pub mod Noting
 pub mod LineSearch
 pub mod Ranged
 pub mod AreaVerdict
-
 pub mod RecordVerdict
+pub mod FileVerdict
+pub mod Reading

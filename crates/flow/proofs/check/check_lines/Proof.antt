@@ -27,9 +27,6 @@ use Rattle.flow.proofs.Tests.{tests, Rises, rises-first, rises-next, ma
 use Rattle.flow.proofs.Verdicts.{StopsAt, refusalAt, stops-at, unfit-at, fit-none}
 use Rattle.flow.proofs.Answers.{refused-by, passed-by, one-more}
 
-
-
-
 -- the FL records before k are fit, and the rest of them is counted from the place of record k on
 record Passing (s : List ℕ) (least k : ℕ) : Type 0 where
   counted : lineCount s ≡ k + countLines (length s - k) s (linePlace s k)
@@ -60,7 +57,7 @@ one-counted s k h m l =
     let left : length s - k ≡ suc (length s - (k + 1)) = omega arith in
     let next : linePlace s k + 6 ≡ linePlace s (k + 1) = omega arith in
     let more = ap (λ f. countLines f s (linePlace s k)) left ∙ count-more (length s - (k + 1)) s (linePlace s k) m
-        ∙ ap (λ q. suc (countLines (length s - (k + 1)) s q)) next in
+    ∙ ap (λ q. suc (countLines (length s - (k + 1)) s q)) next in
     omega (arith, more)
 
 abbrev Inv-loop : tie.InvT-loop
@@ -121,7 +118,7 @@ u16-at-requires c κs = search needs
 
 -- src/check.rt:296:5
 loop-holds : tie.Need-loop-holds Inv-loop μ-loop
-loop-holds c = 
+loop-holds c =
     let start = (c .before .before) in
     record { counted = none-counted (now (start .args .file)); within = omega arith; fits = fit-none _; rises = rises-first _ }
 
@@ -165,7 +162,7 @@ u16-at-requires-2 c κs = omega (arith, there (c .before), in-file (c .before))
 -- src/check.rt:303:13
 returns-2 : tie.Need-returns-2 Inv-loop μ-loop
 unfolding lineRecordChecks
-returns-2 c = 
+returns-2 c =
     let line = lineNumber (file (c .before .before .before)) (index (c .before .before .before)) in
     let inv = (c .before .before .before .before .before) .loop .inv in
     let low : line < (c .before .before .before .before .before) .loop .least = omega (arith, number (c .before)) in
@@ -208,7 +205,7 @@ loop-less c = omega (arith, there (c .before .before .before .before .before .be
 -- src/check.rt:296:5
 loop-again : tie.Need-loop-again Inv-loop μ-loop
 unfolding lineRecordChecks
-loop-again c = 
+loop-again c =
     let turn = (c .before .before .before .before .before .before) in
     let inv = (c .before .before .before .before .before .before .before .before) .loop .inv in
     record {
@@ -229,7 +226,7 @@ add-t17 c = omega arith
 
 -- src/check.rt:289:1
 returns-5 : tie.Need-returns-5 Inv-loop μ-loop
-returns-5 c = 
+returns-5 c =
     let start = (c .before .before .before .before .before) in
     let s = now (start .args .file) in
     let k = (c .before .before) .loop .k in

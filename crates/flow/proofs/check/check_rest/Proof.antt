@@ -22,8 +22,6 @@ use Rattle.flow.specs.Answers.{passedOf}
 use Rattle.flow.proofs.Verdicts.{all-hold, fit-left, fit-right, elements-within}
 use Rattle.flow.proofs.Answers.{Through, verdict-passed, verdict-refused, refused-first, onward}
 
-
-
 abbrev references : List ℕ → ℕ → List Check
 references s p = referenceCountChecks s p ++ each (referenceCount s p) (referenceChecks s p)
 
@@ -32,8 +30,8 @@ unfolding referenceCountChecks referenceChecks
 references-within s p h =
     let count = all-hold (referenceCountChecks s p) (fit-left (referenceCountChecks s p) (each (referenceCount s p) (referenceChecks s p)) h) in
     let all = elements-within (referenceCount s p) (referenceChecks s p) (length s) (referencesPlace s p + 1) 1 (omega (arith, leb-true))
-        (λ k f. let first = all-hold (referenceChecks s p k) f in omega (arith, leb-true))
-        (fit-right (referenceCountChecks s p) (each (referenceCount s p) (referenceChecks s p)) h) in
+    (λ k f. let first = all-hold (referenceChecks s p k) f in omega (arith, leb-true))
+    (fit-right (referenceCountChecks s p) (each (referenceCount s p) (referenceChecks s p)) h) in
     omega arith
 
 names-within : (s : List ℕ) (p : ℕ) → verdict (nameChecks s p) ≡ fit → dataPlace s p ≤ length s
@@ -80,20 +78,20 @@ enum-known-r c = search needs
 
 -- src/check.rt:245:29
 returns : tie.Need-returns
-returns c = 
+returns c =
     let start = (c .before .before .before .before .before) in
     in-references (file start) (start .args .p) _ (verdict-refused _ _ (sym ((c .before) .r .given .1) ∙ (c .before .before .before) .check-references .ensures))
 
 -- src/check.rt:247:25
 check-names-requires : tie.Need-check-names-requires
-check-names-requires c κs = 
+check-names-requires c κs =
     let start = (c .before .before .before .before .before) in
     let before = referred (c .before) in
     record {
       header = start .pre .header;
       start = start .pre .start;
       within = rw (before .place) (references-within (file start) (start .args .p) (before .is-fit));
-      there = before .place
+      there = before .place;
     }
 
 -- src/check.rt:248:20
@@ -106,7 +104,7 @@ enum-known-r-2 c = search needs
 
 -- src/check.rt:249:29
 returns-2 : tie.Need-returns-2
-returns-2 c = 
+returns-2 c =
     let start = (c .before .before .before .before .before .before .before .before .before) in
     let s = file start in
     let p = start .args .p in
@@ -115,19 +113,19 @@ returns-2 c =
 
 -- src/check.rt:251:5
 check-data-requires : tie.Need-check-data-requires
-check-data-requires c κs = 
+check-data-requires c κs =
     let start = (c .before .before .before .before .before .before .before .before .before) in
     let before = named (c .before) in
     record {
       header = start .pre .header;
       start = start .pre .start;
       within = rw (before .place) (names-within (file start) (start .args .p) (before .is-fit));
-      there = before .place
+      there = before .place;
     }
 
 -- src/check.rt:239:1
 returns-3 : tie.Need-returns-3
-returns-3 c = 
+returns-3 c =
     let start = (c .before .before .before .before .before .before .before .before .before .before) in
     let s = file start in
     let p = start .args .p in

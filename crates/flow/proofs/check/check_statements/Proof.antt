@@ -32,10 +32,6 @@ use Rattle.flow.proofs.RecordVerdict.{successors, start-within, success
 use Rattle.flow.specs.declared.Passed.the-variants.{To}
 use Rattle.flow.specs.Format.{statementsOf}
 
-
-
-
-
 abbrev recordsOf : List ℕ → ℕ → List Check
 recordsOf s i = recordChecks s (recordPlace s i)
 
@@ -148,27 +144,27 @@ left c =
     ⊎-elim (λ w. inl (w .0 .left))
     (λ ways. inr (⊎-elim
     (λ w.
-        let records : tie.In-records Inv-loop μ-loop Inv-records μ-records = record { before = c .before; records-test = w .0 } in
-        let start : tie.After-check-start Inv-loop μ-loop Inv-records μ-records = record { before = records; check-start = w .1 } in
-        let is : tie.At-match-keys1 Inv-loop μ-loop Inv-records μ-records = record { before = start; match = w .2 } in
-        let q : tie.After-q Inv-loop μ-loop Inv-records μ-records = record { before = is; q = w .3 } in
-        let told : tie.After-known-told Inv-loop μ-loop Inv-records μ-records = record { before = q; known-told = w .4 } in
-        let count : tie.After-u8-at Inv-loop μ-loop Inv-records μ-records = record { before = told; u8-at = w .5 } in
-        let loop : tie.At-loop Inv-loop μ-loop Inv-records μ-records = record { before = count; loop = w .6 } in
-        let turn : tie.In-loop Inv-loop μ-loop Inv-records μ-records = record { before = loop; loop-test = w .7 } in
-        short (record { before = turn; if1 = w .8 }) ∙ ap unfit (sym (w .9)))
+    let records : tie.In-records Inv-loop μ-loop Inv-records μ-records = record { before = c .before; records-test = w .0 } in
+    let start : tie.After-check-start Inv-loop μ-loop Inv-records μ-records = record { before = records; check-start = w .1 } in
+    let is : tie.At-match-keys1 Inv-loop μ-loop Inv-records μ-records = record { before = start; match = w .2 } in
+    let q : tie.After-q Inv-loop μ-loop Inv-records μ-records = record { before = is; q = w .3 } in
+    let told : tie.After-known-told Inv-loop μ-loop Inv-records μ-records = record { before = q; known-told = w .4 } in
+    let count : tie.After-u8-at Inv-loop μ-loop Inv-records μ-records = record { before = told; u8-at = w .5 } in
+    let loop : tie.At-loop Inv-loop μ-loop Inv-records μ-records = record { before = count; loop = w .6 } in
+    let turn : tie.In-loop Inv-loop μ-loop Inv-records μ-records = record { before = loop; loop-test = w .7 } in
+    short (record { before = turn; if1 = w .8 }) ∙ ap unfit (sym (w .9)))
     (λ w.
-        let records : tie.In-records Inv-loop μ-loop Inv-records μ-records = record { before = c .before; records-test = w .0 } in
-        let start : tie.After-check-start Inv-loop μ-loop Inv-records μ-records = record { before = records; check-start = w .1 } in
-        let is : tie.At-match-keys1 Inv-loop μ-loop Inv-records μ-records = record { before = start; match = w .2 } in
-        let q : tie.After-q Inv-loop μ-loop Inv-records μ-records = record { before = is; q = w .3 } in
-        let told : tie.After-known-told Inv-loop μ-loop Inv-records μ-records = record { before = q; known-told = w .4 } in
-        let count : tie.After-u8-at Inv-loop μ-loop Inv-records μ-records = record { before = told; u8-at = w .5 } in
-        let loop : tie.At-loop Inv-loop μ-loop Inv-records μ-records = record { before = count; loop = w .6 } in
-        let turn : tie.In-loop Inv-loop μ-loop Inv-records μ-records = record { before = loop; loop-test = w .7 } in
-        let there : tie.Else1 Inv-loop μ-loop Inv-records μ-records = record { before = turn; if1 = w .8 } in
-        let value : tie.After-u16-at2 Inv-loop μ-loop Inv-records μ-records = record { before = there; u16-at2 = w .9 } in
-        stray (record { before = value; if2 = w .10 }) ∙ ap unfit (sym (w .11)))
+    let records : tie.In-records Inv-loop μ-loop Inv-records μ-records = record { before = c .before; records-test = w .0 } in
+    let start : tie.After-check-start Inv-loop μ-loop Inv-records μ-records = record { before = records; check-start = w .1 } in
+    let is : tie.At-match-keys1 Inv-loop μ-loop Inv-records μ-records = record { before = start; match = w .2 } in
+    let q : tie.After-q Inv-loop μ-loop Inv-records μ-records = record { before = is; q = w .3 } in
+    let told : tie.After-known-told Inv-loop μ-loop Inv-records μ-records = record { before = q; known-told = w .4 } in
+    let count : tie.After-u8-at Inv-loop μ-loop Inv-records μ-records = record { before = told; u8-at = w .5 } in
+    let loop : tie.At-loop Inv-loop μ-loop Inv-records μ-records = record { before = count; loop = w .6 } in
+    let turn : tie.In-loop Inv-loop μ-loop Inv-records μ-records = record { before = loop; loop-test = w .7 } in
+    let there : tie.Else1 Inv-loop μ-loop Inv-records μ-records = record { before = turn; if1 = w .8 } in
+    let value : tie.After-u16-at2 Inv-loop μ-loop Inv-records μ-records = record { before = there; u16-at2 = w .9 } in
+    stray (record { before = value; if2 = w .10 }) ∙ ap unfit (sym (w .11)))
     ways))
     (c .records-test .came)
 
@@ -236,7 +232,7 @@ loop-less c = search needs
 -- src/check.rt:274:9
 loop-again : tie.Need-loop-again Inv-loop μ-loop Inv-records μ-records
 unfolding successorChecks
-loop-again c = 
+loop-again c =
     record {
       bound = omega arith;
       fits = one-more ((c .before .before .before .before) .loop .k) (successorChecks (file (outer (c .before .before .before))) (at (outer (c .before .before .before)))) ((c .before .before .before .before) .loop .inv .fits)
@@ -253,14 +249,14 @@ add-check-rest c = omega (arith, begun (c .before .before .before .before), star
 
 -- src/check.rt:286:15
 check-rest-requires : tie.Need-check-rest-requires Inv-loop μ-loop Inv-records μ-records
-check-rest-requires c κs = 
+check-rest-requires c κs =
     let s = file (of-record c) in
     let p = at (of-record c) in
     record {
       header = (c .before .before .before .before .before .before .before .before .before .before .before) .pre;
       start = begun (c .before .before .before .before);
       within = omega (arith, started (c .before .before .before .before) .place, (c .before .before) .u8-at .ensures, successors-within s p (begun (c .before .before .before .before)) (succeeded c));
-      there = omega (arith, started (c .before .before .before .before) .place, (c .before .before) .u8-at .ensures)
+      there = omega (arith, started (c .before .before .before .before) .place, (c .before .before) .u8-at .ensures);
     }
 
 -- src/check.rt:287:24
@@ -273,7 +269,7 @@ enum-known-r-2 c = search needs
 
 -- src/check.rt:288:33
 returns-2 : tie.Need-returns-2 Inv-loop μ-loop Inv-records μ-records
-returns-2 c = 
+returns-2 c =
     let here = of-record (c .before .before .before .before) in
     refused-by (statementChecks (file here)) _
     (refuse here (left-to-rest (c .before .before .before .before) ∙ verdict-refused _ _ (sym ((c .before) .r2 .given .1) ∙ (c .before .before .before) .check-rest .ensures)))
@@ -289,7 +285,7 @@ records-less c = search needs
 -- src/check.rt:267:5
 records-again : tie.Need-records-again Inv-loop μ-loop Inv-records μ-records
 unfolding recordPlace
-records-again c = 
+records-again c =
     let here = of-record (c .before .before .before .before) in
     let inv = here .before .records .inv in
     let through = ended (c .before) in
@@ -299,7 +295,7 @@ records-again c =
       bound = omega arith;
       place = rw add-one next;
       within = rw (through .place) (end-fits {s = file here} {p = at here} (record { checked = whole }));
-      fits = fit-more _ (recordsOf (file here)) (inv .fits) (subst (λ x. verdict (recordChecks (file here) x) ≡ fit) (inv .place) whole)
+      fits = fit-more _ (recordsOf (file here)) (inv .fits) (subst (λ x. verdict (recordChecks (file here) x) ≡ fit) (inv .place) whole);
     }
 
 -- src/check.rt:293:9
@@ -309,7 +305,7 @@ returns-3 c = ⊎-elim (λ w. absurd (omega arith)) (λ h. refused-by (statement
 -- src/check.rt:259:1
 returns-4 : tie.Need-returns-4 Inv-loop μ-loop Inv-records μ-records
 unfolding statementChecks
-returns-4 c = 
+returns-4 c =
     let s = now ((c .before .before .before .before .before) .args .file) in
     let inv = (c .before .before) .records .inv in
     let all : (c .before .before) .records .i ≡ statementsOf s = omega (arith, (c .before .before .before) .u16-at .ensures) in
