@@ -4,3 +4,4 @@ pub mod Refusals
 pub mod Format
 pub mod Answers
 pub mod Fields
+pub mod Cases

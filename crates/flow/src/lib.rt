@@ -72,9 +72,5 @@ pub enum Entered {
     Nothing,
 }
 
-pub mod areas;
-mod bytes;
+pub mod bytes;
 pub mod check;
-pub mod fields;
-pub mod lines;
-pub mod offsets;

@@ -19,7 +19,7 @@ fn answer(file: &[u8], case: Case) -> Found {
             };
         }
     };
-    if flow::areas::areas_fit(
+    if fields::areas::areas_fit(
         h.statements,
         h.arrays,
         case.masks,

@@ -4,7 +4,7 @@ use mathlib.Core.Path.{sym, _∙_}
 use denote.Ref.{now}
 use Rattle.flow.specs.Format.{verdict, fileChecks}
 use Rattle.flow.specs.Answers.{headerOf}
-use Rattle.flow.proofs.Files.{limited}
+use Rattle.fields.proofs.Files.{limited}
 use Rattle.flow.proofs.Reading.{accepts, fit-answer}
 use borrow.Author.Needs.{needs}
 use Rattle.replay.proofs.refusals.answer.Statement.{statement}

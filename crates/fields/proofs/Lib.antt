@@ -1,0 +1,11 @@
+pub mod Rising
+pub mod KindNumber
+pub mod Values
+pub mod Files
+pub mod Tabulated
+pub mod Statements
+pub mod Sets
+pub mod Noting
+pub mod LineSearch
+pub mod Ranged
+pub mod AreaVerdict

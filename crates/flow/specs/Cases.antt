@@ -1,0 +1,121 @@
+-- Flow files and how each is read: document 01's P5 and P10, and a file for each row of the refusal table that a small file can meet.
+-- A file is put together from its records; numbers in it are below 256.
+use Prim.Native.Nat.{ℕ}
+use mathlib.Core.List.{List, [], _∷_, _++_}
+use mathlib.Core.Option.{Option, none, some}
+use lib.ListN.{length}
+use Rattle.flow.specs.declared.Refusal.the-variants.{Record, Header, Kind, Target, Member, ReturnReference, Order, Trailing}
+use Rattle.flow.specs.Flow as F
+use Rattle.flow.specs.Flow.{Flow, Statement, Item, Line}
+use Rattle.flow.specs.Format.{Reading, accepted, refused}
+
+-- Records as bytes
+
+abbrev pub u16s : List ℕ → List ℕ
+u16s [] = []
+u16s (x ∷ xs) = x ∷ 0 ∷ u16s xs
+
+abbrev pub u64 : ℕ → List ℕ
+u64 x = x ∷ 0 ∷ 0 ∷ 0 ∷ 0 ∷ 0 ∷ 0 ∷ 0 ∷ []
+
+abbrev pub FH : ℕ → ℕ → ℕ → ℕ → List ℕ
+FH n arrays names entry = 70 ∷ 72 ∷ n ∷ 0 ∷ arrays ∷ names ∷ entry ∷ 0 ∷ []
+
+abbrev pub FN : ℕ → ℕ → List ℕ → List ℕ → ℕ → ℕ → List ℕ
+FN line kind successors references written read =
+    70 ∷ 78 ∷ line ∷ 0 ∷ kind ∷ length successors ∷ u16s successors
+    ++ (length references ∷ references) ++ u64 written ++ u64 read
+
+abbrev pub FL : ℕ → ℕ → List ℕ
+FL line first = 70 ∷ 76 ∷ line ∷ 0 ∷ first ∷ 0 ∷ []
+
+abbrev pub FE : List ℕ
+FE = 70 ∷ 69 ∷ []
+
+-- P5: lines 10, 20, 30, 40 at statements 0 to 3; 0 is GOSUB 30, continuation 1, successor 2; 1 reads name 0 and references array 0;
+-- 2 references array 0, successor 3; 3 RETURN; 1 array, 1 name, entry 0
+
+abbrev pub p5Bytes : List ℕ
+p5Bytes =
+    FH 4 1 1 0
+    ++ FN 10 5 (2 ∷ []) [] 0 0 ++ u16s (30 ∷ 1 ∷ [])
+    ++ FN 20 0 [] (0 ∷ []) 0 1
+    ++ FN 30 0 (3 ∷ []) (0 ∷ []) 0 0
+    ++ FN 40 1 [] [] 0 0
+    ++ FL 10 0 ++ FL 20 1 ++ FL 30 2 ++ FL 40 3
+    ++ FE
+
+abbrev pub p5 : Flow
+p5 = record {
+  arrays = 1;
+  names = 1;
+  entry = 0;
+  statements =
+      record { line = 10; kind = F.Kind.gosub 30 (some 1); successors = 2 ∷ []; references = []; written = 0; read = 0 }
+      ∷ record { line = 20; kind = F.Kind.other; successors = []; references = 0 ∷ []; written = 0; read = 1 }
+      ∷ record { line = 30; kind = F.Kind.other; successors = 3 ∷ []; references = 0 ∷ []; written = 0; read = 0 }
+      ∷ record { line = 40; kind = F.Kind.return; successors = []; references = []; written = 0; read = 0 }
+      ∷ [];
+  lines =
+      record { number = 10; first = 0 } ∷ record { number = 20; first = 1 } ∷ record { number = 30; first = 2 }
+      ∷ record { number = 40; first = 3 } ∷ [];
+}
+
+-- a flow of one statement of no name, line or successor
+abbrev pub alone : ℕ → F.Kind → Flow
+alone arrays kind = record {
+  arrays = arrays;
+  names = 0;
+  entry = 0;
+  statements = record { line = 10; kind = kind; successors = []; references = []; written = 0; read = 0 } ∷ [];
+  lines = [];
+}
+
+-- The table
+
+pub record Case : Type 0 where
+  pub bytes : List ℕ
+  pub reading : Reading
+
+abbrev pub accept : List ℕ → Flow → Case
+accept bytes f = record { bytes = bytes; reading = accepted f }
+
+-- one statement, given from its kind on, in a file of arrays and names
+abbrev pub one : ℕ → ℕ → List ℕ → List ℕ
+one arrays names record′ = FH 1 arrays names 0 ++ record′
+
+abbrev pub readCases : List Case
+readCases =
+    accept p5Bytes p5
+    -- P10, and an entry that is not looked at
+    ∷ accept (FH 0 64 64 9 ++ FE) (record { arrays = 64; names = 64; entry = 9; statements = []; lines = [] })
+    -- the other kinds that have data
+    ∷ accept (one 2 0 (FN 10 4 [] [] 0 0 ++ (2 ∷ 1 ∷ 1 ∷ 0 ∷ 0 ∷ [])) ++ FE)
+    (alone 2 (F.Kind.dim (record { array = 1; flag = 1 } ∷ record { array = 0; flag = 0 } ∷ [])))
+    ∷ accept (one 0 0 (FN 10 6 [] [] 0 0 ++ (2 ∷ u16s (7 ∷ 8 ∷ [])) ++ (255 ∷ 255 ∷ [])) ++ FE) (alone 0 (F.Kind.onGosub (7 ∷ 8 ∷ []) none))
+    -- 2: no mark, a wrong mark, a field past the end
+    ∷ record { bytes = []; reading = refused (Record 0) }
+    ∷ record { bytes = FH 1 0 0 0 ++ FE; reading = refused (Record 8) }
+    ∷ record { bytes = one 0 0 (70 ∷ 78 ∷ 10 ∷ []); reading = refused (Record 8) }
+    -- 3: 65 arrays, 65 names, the entry n
+    ∷ record { bytes = FH 0 65 0 0 ++ FE; reading = refused (Header 0) }
+    ∷ record { bytes = FH 0 0 65 0 ++ FE; reading = refused (Header 0) }
+    ∷ record { bytes = FH 1 0 0 1; reading = refused (Header 0) }
+    -- 4: kind 7, in a record that is short behind it; a flag of 2
+    ∷ record { bytes = one 0 0 (70 ∷ 78 ∷ 10 ∷ 0 ∷ 7 ∷ []); reading = refused (Kind 8) }
+    ∷ record { bytes = one 1 0 (FN 10 4 [] [] 0 0 ++ (1 ∷ 0 ∷ 2 ∷ [])) ++ FE; reading = refused (Kind 8) }
+    -- 5: a successor, a continuation and the statement of a line that are n
+    ∷ record { bytes = one 0 0 (FN 10 0 (1 ∷ []) [] 0 0) ++ FE; reading = refused (Target 8) }
+    ∷ record { bytes = one 0 0 (FN 10 5 [] [] 0 0 ++ u16s (7 ∷ 1 ∷ [])) ++ FE; reading = refused (Target 8) }
+    ∷ record { bytes = FH 0 0 0 0 ++ FL 10 0 ++ FE; reading = refused (Target 8) }
+    -- 6: the array `arrays`, before the order of the next; the name bit `names`
+    ∷ record { bytes = one 1 0 (FN 10 0 [] (1 ∷ 0 ∷ []) 0 0) ++ FE; reading = refused (Member 8) }
+    ∷ record { bytes = one 0 1 (FN 10 0 [] [] 2 0) ++ FE; reading = refused (Member 8) }
+    -- 7: a RETURN that refers to an array
+    ∷ record { bytes = one 1 0 (FN 10 1 [] (0 ∷ []) 0 0) ++ FE; reading = refused (ReturnReference 8) }
+    -- 8: references and lines that stay equal
+    ∷ record { bytes = one 1 0 (FN 10 0 [] (0 ∷ 0 ∷ []) 0 0) ++ FE; reading = refused (Order 8) }
+    ∷ record { bytes = one 0 0 (FN 10 0 [] [] 0 0) ++ FL 10 0 ++ FL 10 0 ++ FE; reading = refused (Order 37) }
+    -- 9: a byte after the end
+    ∷ record { bytes = FH 0 0 0 0 ++ FE ++ (0 ∷ []); reading = refused (Trailing 10) }
+    ∷ []
