@@ -10,11 +10,28 @@ ghost use Rattle.flow.specs.Answers.{Reached, passedOf, checkedOf, heade
 ghost use Rattle.flow.specs.Refusals.{numberOf, placeOf};
 use crate::Checked;
 use crate::Header;
+use crate::MAX_ARRAYS;
+use crate::MAX_FILE;
+use crate::MAX_KIND;
+use crate::MAX_NAMES;
+use crate::MAX_STATEMENTS;
+use crate::NO_CONTINUATION;
 use crate::Passed;
 use crate::Refusal;
 use crate::bytes::u8_at;
 use crate::bytes::u16_at;
 use crate::bytes::u64_at;
+
+// The letters of the marks: FH, FN, FL, FE.
+const LETTER_F: usize = 70;
+
+const LETTER_H: usize = 72;
+
+const LETTER_N: usize = 78;
+
+const LETTER_L: usize = 76;
+
+const LETTER_E: usize = 69;
 
 // Whether `F` and the letter stand at p, within the file.
 fn marked(file: &[u8], p: usize, letter: usize) -> bool
@@ -24,7 +41,7 @@ fn marked(file: &[u8], p: usize, letter: usize) -> bool
     if file.len() < p + 2 {
         return false;
     }
-    if u8_at(file, p) == 70 {
+    if u8_at(file, p) == LETTER_F {
         return u8_at(file, p + 1) == letter;
     }
     false
@@ -33,29 +50,29 @@ fn marked(file: &[u8], p: usize, letter: usize) -> bool
 fn check_header(file: &[u8]) -> Passed
     ensures { λ r. ⌜ r ≡ passedOf (verdict (headerChecks (now (file .entry)))) 8 ⌝ }
 {
-    if file.len() > 262144 {
+    if file.len() > MAX_FILE {
         return Passed::Unfit(Refusal::TooLong);
     }
-    if !marked(file, 0, 72) {
+    if !marked(file, 0, LETTER_H) {
         return Passed::Unfit(Refusal::Record(0));
     }
     if file.len() < 4 {
         return Passed::Unfit(Refusal::Record(0));
     }
     let n = u16_at(file, 2);
-    if n > 2048 {
+    if n > MAX_STATEMENTS {
         return Passed::Unfit(Refusal::Header(0));
     }
     if file.len() < 5 {
         return Passed::Unfit(Refusal::Record(0));
     }
-    if u8_at(file, 4) > 64 {
+    if u8_at(file, 4) > MAX_ARRAYS {
         return Passed::Unfit(Refusal::Header(0));
     }
     if file.len() < 6 {
         return Passed::Unfit(Refusal::Record(0));
     }
-    if u8_at(file, 5) > 64 {
+    if u8_at(file, 5) > MAX_NAMES {
         return Passed::Unfit(Refusal::Header(0));
     }
     if file.len() < 8 {
@@ -75,13 +92,13 @@ fn check_start(file: &[u8], p: usize) -> Passed
     requires { ⌜ p ≤ length (now file) ⌝ }
     ensures { λ r. ⌜ r ≡ passedOf (verdict (startChecks (now (file .entry)) p)) (successorsPlace p) ⌝ }
 {
-    if !marked(file, p, 78) {
+    if !marked(file, p, LETTER_N) {
         return Passed::Unfit(Refusal::Record(p));
     }
     if file.len() < p + 5 {
         return Passed::Unfit(Refusal::Record(p));
     }
-    if u8_at(file, p + 4) > 6 {
+    if u8_at(file, p + 4) > MAX_KIND {
         return Passed::Unfit(Refusal::Kind(p));
     }
     if file.len() < p + 6 {
@@ -193,7 +210,7 @@ fn check_continuation(file: &[u8], p: usize, at: usize) -> Passed
         return Passed::Unfit(Refusal::Record(p));
     }
     let t = u16_at(file, at);
-    if t == 65535 {
+    if t == NO_CONTINUATION {
         return Passed::To(at + 2);
     }
     if t >= u16_at(file, 2) {
@@ -303,20 +320,20 @@ fn check_lines(file: &[u8], at: usize) -> Passed
     let n = u16_at(file, 2);
     let mut least = 0;
     let mut k = 0;
-    while marked(file, at + 6 * k, 76) {
-        let p = at + 6 * k;
-        if file.len() < p + 4 {
-            return Passed::Unfit(Refusal::Record(p));
+    while marked(file, at + 6 * k, LETTER_L) {
+        let q = at + 6 * k;
+        if file.len() < q + 4 {
+            return Passed::Unfit(Refusal::Record(q));
         }
-        let line = u16_at(file, p + 2);
+        let line = u16_at(file, q + 2);
         if line < least {
-            return Passed::Unfit(Refusal::Order(p));
+            return Passed::Unfit(Refusal::Order(q));
         }
-        if file.len() < p + 6 {
-            return Passed::Unfit(Refusal::Record(p));
+        if file.len() < q + 6 {
+            return Passed::Unfit(Refusal::Record(q));
         }
-        if u16_at(file, p + 4) >= n {
-            return Passed::Unfit(Refusal::Target(p));
+        if u16_at(file, q + 4) >= n {
+            return Passed::Unfit(Refusal::Target(q));
         }
         least = line + 1;
         k += 1;
@@ -329,7 +346,7 @@ fn check_end(file: &[u8], at: usize) -> Passed
     requires { ⌜ (at ≤ length (now file)) × (at ≡ endPlace (now file)) ⌝ }
     ensures { λ r. ⌜ r ≡ passedOf (verdict (endChecks (now (file .entry)))) (endPlace (now (file .entry)) + 2) ⌝ }
 {
-    if !marked(file, at, 69) {
+    if !marked(file, at, LETTER_E) {
         return Passed::Unfit(Refusal::Record(at));
     }
     if file.len() > at + 2 {

@@ -1,6 +1,20 @@
 // The flow file: what it may hold, which file is refused and why, and the fields of a statement's record.
 ghost use mathlib.Core.Path.{_≡_};
 
+// The limits of a flow file.
+pub const MAX_FILE: usize = 262144;
+
+pub const MAX_STATEMENTS: usize = 2048;
+
+pub const MAX_ARRAYS: usize = 64;
+
+pub const MAX_NAMES: usize = 64;
+
+pub const MAX_KIND: usize = 6;
+
+// A continuation with this value means none.
+pub const NO_CONTINUATION: usize = 65535;
+
 // A statement's number, from 0 to n - 1.
 pub struct StmtId(pub usize);
 

@@ -40,7 +40,7 @@ fn line(file: &[u8], p: usize, i: usize, masks: &[u8], live_in: u64, live_out: u
     requires { ⌜ FitRecord (now file) p ⌝ }
 {
     number(i as u64, b" ");
-    number(fields::line(file, p) as u64, b" ");
+    number(records::line(file, p) as u64, b" ");
     digits(masks);
     io::write_all(1, b" ");
     io::print_hex(1, live_in, 16);
@@ -59,7 +59,7 @@ fn statements(file: &[u8], n: usize, arrays: usize, masks: &[u8], live_in: &[u64
     while i < n {
         let end = at + arrays;
         line(file, p, i, &masks[at..end], live_in[i], live_out[i]);
-        p = fields::record_end(file, p);
+        p = records::record_end(file, p);
         at = end;
         i += 1;
     }

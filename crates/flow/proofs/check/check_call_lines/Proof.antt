@@ -1,17 +1,11 @@
 -- `check_call_lines` meets its contract: lines of any value are fit if they are there, and they are all there if the last one is.
 -- By induction on how many lines there are. Assumes nothing.
-use borrow.Author.Needs.{needs}
-use Rattle.flow.proofs.check.check_call_lines.Statement.{statement}
-use Rattle.flow.proofs.check.check_call_lines.Tie as tie
-use Rattle.flow.proofs.check.check_call_lines.Reads as reads
-use Rattle.flow.proofs.check.check_call_lines.Lts as lts
-use Rattle.flow.proofs.bytes.u8_at.Reads as u8-at-reads
-use Rattle.flow.proofs.check.check_continuation.Reads as check-continuation-reads
 use native.Mathlib.Omega.{arith}
 use Prim.Native.Nat.{ℕ, zero, suc, _+_, _*_, _≤_, _<_}
 use mathlib.Core.List.{List, [], _∷_, _++_}
 use mathlib.Core.Logic.{⊎-elim}
-use mathlib.Core.Path.{_≡_, refl, sym, _∙_, ap}
+use mathlib.Core.Path.{_≡_, refl, _∙_, ap}
+use borrow.Author.Needs.{needs}
 use denote.Ref.{now}
 use lib.ListN.{length}
 use Rattle.flow.specs.declared.Passed.the-variants.{Unfit}
@@ -20,7 +14,9 @@ use Rattle.flow.specs.Format.{Check, verdict, fit, unfit, each, present,
 use Rattle.flow.specs.Answers.{passedOf}
 use Rattle.flow.proofs.Tests.{tests, lt-or-le}
 use Rattle.flow.proofs.Verdicts.{all-fit, stops-at, fit-append, unfit-append}
-use Rattle.flow.proofs.Answers.{refused-by, refused-first, onward}
+use Rattle.flow.proofs.Answers.{refused-first, onward}
+use Rattle.flow.proofs.check.check_call_lines.Statement.{statement}
+use Rattle.flow.proofs.check.check_call_lines.Tie as tie
 
 lines-fit : (s : List ℕ) (p n : ℕ) → elementPlace s p n ≤ length s → verdict (each n (lineChecks s p)) ≡ fit
 unfolding verdict each lineChecks
@@ -69,38 +65,30 @@ ended c =
     let count = c .u8-at .ensures ∙ ap (u8At (now (start .args .file))) (start .pre .there) in
     omega (arith, count)
 
--- src/check.rt:211:9
 returns : tie.Need-returns
 unfolding onGosubChecks
 returns c = let start = (c .before .before) in let s = now (start .args .file) in let p = start .args .p in
     refused-first (front s p) (lines s p ++ last s p) _ (stops-at 0 (front s p) (omega (arith, tests)))
 
--- src/check.rt:213:15
 add-end : tie.Need-add-end
 add-end c = search needs
 
--- src/check.rt:213:28
 u8-at-requires : tie.Need-u8-at-requires
 u8-at-requires c κs = search needs
 
--- src/check.rt:213:24
 mul-end : tie.Need-mul-end
 mul-end c = omega (arith, (c .before .before) .shared-slice-known .given ((c .before .before .before) .args .at))
 
--- src/check.rt:213:15
 add-end-2 : tie.Need-add-end-2
 add-end-2 c = omega (arith, (c .before .before) .shared-slice-known .given ((c .before .before .before) .args .at))
 
--- src/check.rt:215:9
 returns-2 : tie.Need-returns-2
 returns-2 c = let start = (c .before .before .before .before) in let s = now (start .args .file) in let p = start .args .p in
     short s p _ (omega arith) (omega (arith, ended (c .before)))
 
--- src/check.rt:217:5
 check-continuation-requires : tie.Need-check-continuation-requires
 check-continuation-requires c κs = search needs
 
--- src/check.rt:206:1
 returns-3 : tie.Need-returns-3
 returns-3 c =
     let start = (c .before .before .before .before .before) in let s = now (start .args .file) in let p = start .args .p in

@@ -1,24 +1,17 @@
 -- `check_data` meets its contract: the match on the kind is the definition's choice by the kind.
 -- Assumes nothing.
-use borrow.Author.Needs.{needs}
-use Rattle.flow.proofs.check.check_data.Statement.{statement}
-use Rattle.flow.proofs.check.check_data.Tie as tie
-use Rattle.flow.proofs.check.check_data.Reads as reads
-use Rattle.flow.proofs.check.check_data.Lts as lts
-use Rattle.flow.proofs.bytes.u8_at.Reads as u8-at-reads
-use Rattle.flow.proofs.check.check_call_lines.Reads as check-call-lines-reads
-use Rattle.flow.proofs.check.check_gosub.Reads as check-gosub-reads
-use Rattle.flow.proofs.check.check_items.Reads as check-items-reads
-use native.Mathlib.Omega.{arith}
 use mathlib.Core.List.{List}
-use mathlib.Core.Path.{_≡_, refl, sym, _∙_, ap}
+use mathlib.Core.Path.{_≡_, sym, _∙_, ap}
 use Prim.Native.Nat.{ℕ, _+_}
+use borrow.Author.Needs.{needs}
 use borrow.Author.Tests.{ne-eqb}
 use denote.Ref.{now}
 use Rattle.flow.specs.declared.Passed.the-variants.{To}
 use Rattle.flow.specs.Format.{verdict, dimChecks, gosubChecks, onGosubChecks, dataChecks, kindAt, dataPlace, elementsEnd, recordEnd}
 use Rattle.flow.specs.Answers.{passedOf}
 use Rattle.flow.specs.declared.Passed.{Passed}
+use Rattle.flow.proofs.check.check_data.Statement.{statement}
+use Rattle.flow.proofs.check.check_data.Tie as tie
 
 abbrev answer : List ℕ → ℕ → Passed
 answer s p = passedOf (verdict (dataChecks s p)) (recordEnd s p)
@@ -39,39 +32,30 @@ is-plain : (s : List ℕ) (p : ℕ) → (kindAt s p ≡ 4 → ⊥) → (kindAt s
 unfolding dataChecks recordEnd verdict
 is-plain s p d g o = rw (ne-eqb (kindAt s p) 4 d, ne-eqb (kindAt s p) 5 g, ne-eqb (kindAt s p) 6 o)
 
--- src/check.rt:230:23
 add-u8-at : tie.Need-add-u8-at
 add-u8-at c = search needs
 
--- src/check.rt:230:11
 u8-at-requires : tie.Need-u8-at-requires
 u8-at-requires c κs = search needs
 
--- src/check.rt:231:14
 check-items-requires : tie.Need-check-items-requires
 check-items-requires c κs = search needs
 
--- src/check.rt:232:14
 check-gosub-requires : tie.Need-check-gosub-requires
 check-gosub-requires c κs = search needs
 
--- src/check.rt:233:14
 check-call-lines-requires : tie.Need-check-call-lines-requires
 check-call-lines-requires c κs = search needs
 
--- src/check.rt:226:1
 returns : tie.Need-returns
 returns c = c .check-items .ensures ∙ is-dim (now ((c .before .before .before .before) .args .file)) ((c .before .before .before .before) .args .p) (sym ((c .before .before) .u8-at .ensures) ∙ (c .before) .match .keys1)
 
--- src/check.rt:226:1
 returns-2 : tie.Need-returns-2
 returns-2 c = c .check-gosub .ensures ∙ is-gosub (now ((c .before .before .before .before) .args .file)) ((c .before .before .before .before) .args .p) (sym ((c .before .before) .u8-at .ensures) ∙ (c .before) .match .keys2)
 
--- src/check.rt:226:1
 returns-3 : tie.Need-returns-3
 returns-3 c = c .check-call-lines .ensures ∙ is-on-gosub (now ((c .before .before .before .before) .args .file)) ((c .before .before .before .before) .args .p) (sym ((c .before .before) .u8-at .ensures) ∙ (c .before) .match .keys3)
 
--- src/check.rt:226:1
 returns-4 : tie.Need-returns-4
 returns-4 c =
     let kind = (c .before) .u8-at .ensures in

@@ -1,20 +1,10 @@
 -- `check_file` meets its contract: parts that are passed are fit, so a refusal on the way is the file's, and past the end the file is fit.
 -- Assumes nothing.
-use borrow.Author.Needs.{needs}
-use Rattle.flow.proofs.check.check_file.Statement.{statement}
-use Rattle.flow.proofs.check.check_file.Tie as tie
-use Rattle.flow.proofs.check.check_file.Reads as reads
-use Rattle.flow.proofs.check.check_file.Lts as lts
-use Rattle.flow.proofs.bytes.u16_at.Reads as u16-at-reads
-use Rattle.flow.proofs.bytes.u8_at.Reads as u8-at-reads
-use Rattle.flow.proofs.check.check_end.Reads as check-end-reads
-use Rattle.flow.proofs.check.check_header.Reads as check-header-reads
-use Rattle.flow.proofs.check.check_lines.Reads as check-lines-reads
-use Rattle.flow.proofs.check.check_statements.Reads as check-statements-reads
 use native.Mathlib.Omega.{arith}
 use Prim.Native.Nat.{ℕ, _≤_, _-_, _/_}
 use mathlib.Core.List.{List}
 use mathlib.Core.Path.{_≡_, sym, _∙_, ap}
+use borrow.Author.Needs.{needs}
 use denote.Ref.{now}
 use lib.ListN.{length}
 use Rattle.flow.specs.declared.Refusal.{Refusal}
@@ -24,6 +14,8 @@ use Rattle.flow.specs.Format.{verdict, fit, unfit, headerChecks, stateme
 use Rattle.flow.specs.Answers.{checkedOf, headerOf}
 use Rattle.flow.proofs.Answers.{Through, verdict-passed, verdict-refused}
 use Rattle.flow.proofs.FileVerdict.{lines, header-within, statements-within, lines-within, in-header, in-statements, in-lines, after-lines}
+use Rattle.flow.proofs.check.check_file.Statement.{statement}
+use Rattle.flow.proofs.check.check_file.Tie as tie
 
 module _ (c : tie.After-enum-told) where
   abbrev bytes : List ℕ
@@ -70,93 +62,73 @@ refuse s h = ap (λ v. checkedOf v (headerOf s)) (sym h)
 accept : (s : List ℕ) → verdict (fileChecks s) ≡ fit → Fit (headerOf s) ≡ checkedOf (verdict (fileChecks s)) (headerOf s)
 accept s h = ap (λ v. checkedOf v (headerOf s)) (sym h)
 
--- src/check.rt:344:31
 check-header-requires : tie.Need-check-header-requires
 check-header-requires c κs = search needs
 
--- src/check.rt:344:26
 enum-known-r : tie.Need-enum-known-r
 enum-known-r c = search needs
 
--- src/check.rt:345:9
 returns : tie.Need-returns
 returns c = refuse (now ((c .before .before .before .before .before) .args .file)) (in-header (now ((c .before .before .before .before .before) .args .file)) (verdict-refused _ _ (sym ((c .before) .r .given .1) ∙ (c .before .before .before) .check-header .ensures)))
 
 enum-told : tie.Need-enum-told
 enum-told c = search needs
 
--- src/check.rt:347:26
 check-statements-requires : tie.Need-check-statements-requires
 check-statements-requires c κs = header-within (bytes c) (header c .is-fit)
 
--- src/check.rt:348:20
 enum-known-q : tie.Need-enum-known-q
 enum-known-q c = search needs
 
--- src/check.rt:349:23
 enum-known-r-2 : tie.Need-enum-known-r-2
 enum-known-r-2 c = search needs
 
--- src/check.rt:349:29
 returns-2 : tie.Need-returns-2
 returns-2 c = refuse (now ((c .before .before .before .before .before .before .before .before) .args .file)) (in-statements (now ((c .before .before .before .before .before .before .before .before) .args .file)) (header (c .before .before .before .before) .is-fit) (verdict-refused _ _ (sym ((c .before) .r2 .given .1) ∙ (c .before .before .before) .check-statements .ensures)))
 
--- src/check.rt:351:21
 check-lines-requires : tie.Need-check-lines-requires
 check-lines-requires c κs =
     let s = s₁ (c .before) in
     (header-within s (header (c .before .before .before .before) .is-fit), rw (statements (c .before) .place) (to-lines (c .before)), statements (c .before) .place)
 
--- src/check.rt:352:20
 enum-known-q-2 : tie.Need-enum-known-q-2
 enum-known-q-2 c = search needs
 
--- src/check.rt:353:23
 enum-known-r-3 : tie.Need-enum-known-r-3
 enum-known-r-3 c = search needs
 
--- src/check.rt:353:29
 returns-3 : tie.Need-returns-3
 returns-3 c =
     let s = now ((c .before .before .before .before .before .before .before .before .before .before .before .before) .args .file) in
     refuse s (in-lines s (header (c .before .before .before .before .before .before .before .before) .is-fit) (statements (c .before .before .before .before .before) .is-fit) (verdict-refused _ _ (sym ((c .before) .r3 .given .1) ∙ (c .before .before .before) .check-lines .ensures)))
 
--- src/check.rt:355:31
 check-end-requires : tie.Need-check-end-requires
 check-end-requires c κs = (rw (lined (c .before) .place) (lines-within (s₂ (c .before)) (to-lines (c .before .before .before .before .before)) (lined (c .before) .is-fit)), lined (c .before) .place)
 
--- src/check.rt:355:26
 enum-known-r-4 : tie.Need-enum-known-r-4
 enum-known-r-4 c = search needs
 
--- src/check.rt:356:9
 returns-4 : tie.Need-returns-4
 returns-4 c = refuse (now ((c .before .before .before .before .before .before .before .before .before .before .before .before .before .before .before .before) .args .file)) (left-to-end (c .before .before .before .before .before) ∙ verdict-refused _ _ (sym ((c .before) .r4 .given .1) ∙ (c .before .before .before) .check-end .ensures))
 
 enum-told-2 : tie.Need-enum-told-2
 enum-told-2 c = search needs
 
--- src/check.rt:359:21
 u16-at-requires : tie.Need-u16-at-requires
 u16-at-requires c κs = omega (arith, header-within (s₃ c) (header (c .before .before .before .before .before .before .before .before .before .before .before) .is-fit))
 
--- src/check.rt:360:17
 u8-at-requires : tie.Need-u8-at-requires
 u8-at-requires c κs = omega (arith, header-within (s₃ (c .before)) (header (c .before .before .before .before .before .before .before .before .before .before .before .before) .is-fit))
 
--- src/check.rt:361:16
 u8-at-requires-2 : tie.Need-u8-at-requires-2
 u8-at-requires-2 c κs = omega (arith, header-within (s₃ (c .before .before)) (header (c .before .before .before .before .before .before .before .before .before .before .before .before .before) .is-fit))
 
--- src/check.rt:362:16
 u16-at-requires-2 : tie.Need-u16-at-requires-2
 u16-at-requires-2 c κs = omega (arith, header-within (s₃ (c .before .before .before)) (header (c .before .before .before .before .before .before .before .before .before .before .before .before .before .before) .is-fit))
 
--- src/check.rt:364:17
 sub-t20 : tie.Need-sub-t20
 sub-t20 c = omega (arith, statements (c .before .before .before .before .before .before .before .before .before .before .before .before) .place, lined (c .before .before .before .before .before .before .before .before) .place)
 
--- src/check.rt:341:1
 returns-5 : tie.Need-returns-5
 returns-5 c =
     let s = s₃ (c .before .before .before .before) in

@@ -1,23 +1,18 @@
 -- `check_header` meets its contract: at each return the tests that led there are the checks, up to the first that fails.
 -- Assumes nothing.
-use borrow.Author.Needs.{needs}
-use Rattle.flow.proofs.check.check_header.Statement.{statement}
-use Rattle.flow.proofs.check.check_header.Tie as tie
-use Rattle.flow.proofs.check.check_header.Reads as reads
-use Rattle.flow.proofs.check.check_header.Lts as lts
-use Rattle.flow.proofs.bytes.u16_at.Reads as u16-at-reads
-use Rattle.flow.proofs.bytes.u8_at.Reads as u8-at-reads
-use Rattle.flow.proofs.check.marked.Reads as marked-reads
 use native.Mathlib.Omega.{arith}
 use mathlib.Core.List.{List}
+use mathlib.Core.Path.{_≡_, sym, _∙_}
+use mathlib.Core.Bool.{true}
+use borrow.Author.Needs.{needs}
 use denote.Ref.{now}
+use borrow.Author.Tests.{not-true, not-false}
 use Rattle.flow.specs.Format.{Check, headerChecks, letterH}
 use Rattle.flow.proofs.Tests.{tests}
 use Rattle.flow.proofs.Answers.{refused, passed}
-use mathlib.Core.Path.{_≡_, sym, _∙_}
-use mathlib.Core.Bool.{true, false}
-use borrow.Author.Tests.{not-true, not-false}
 use Rattle.flow.specs.Format as format
+use Rattle.flow.proofs.check.check_header.Statement.{statement}
+use Rattle.flow.proofs.check.check_header.Tie as tie
 
 abbrev checks : tie.Start → List Check
 checks c = headerChecks (now (c .args .file))
@@ -25,82 +20,65 @@ checks c = headerChecks (now (c .args .file))
 is-marked : (c : tie.Else2) → format.marked (now (c .before .before .before .before .args .file)) 0 letterH ≡ true
 is-marked c = sym (c .before .marked .ensures) ∙ not-false _ (c .if2 .left)
 
--- src/check.rt:33:9
 returns : tie.Need-returns
 unfolding headerChecks
 returns c = refused 0 (checks (c .before .before)) _ (omega (arith, tests))
 
--- src/check.rt:35:9
 marked-requires : tie.Need-marked-requires
 marked-requires c κs = search needs
 
--- src/check.rt:36:9
 returns-2 : tie.Need-returns-2
 unfolding headerChecks
 returns-2 c = refused 1 (checks (c .before .before .before .before)) _ (omega (arith, tests), sym (c .before .marked .ensures) ∙ not-true _ (c .if2 .taken))
 
--- src/check.rt:39:9
 returns-3 : tie.Need-returns-3
 unfolding headerChecks
 returns-3 c = refused 2 (checks (c .before .before .before .before .before)) _ (omega (arith, tests), (is-marked (c .before), omega (arith, tests)))
 
--- src/check.rt:41:9
 u16-at-requires : tie.Need-u16-at-requires
 u16-at-requires c κs = search needs
 
--- src/check.rt:43:9
 returns-4 : tie.Need-returns-4
 unfolding headerChecks
 returns-4 c = refused 3 (checks (c .before .before .before .before .before .before .before)) _ (omega (arith, tests), (is-marked (c .before .before .before), omega (arith, tests)))
 
--- src/check.rt:46:9
 returns-5 : tie.Need-returns-5
 unfolding headerChecks
 returns-5 c = refused 4 (checks (c .before .before .before .before .before .before .before .before)) _ (omega (arith, tests), (is-marked (c .before .before .before .before), omega (arith, tests)))
 
--- src/check.rt:48:8
 u8-at-requires : tie.Need-u8-at-requires
 u8-at-requires c κs = search needs
 
--- src/check.rt:49:9
 returns-6 : tie.Need-returns-6
 unfolding headerChecks
 returns-6 c = refused 5 (checks (c .before .before .before .before .before .before .before .before .before .before)) _ (omega (arith, tests), (is-marked (c .before .before .before .before .before .before), omega (arith, tests)))
 
--- src/check.rt:52:9
 returns-7 : tie.Need-returns-7
 unfolding headerChecks
 returns-7 c = refused 6 (checks (c .before .before .before .before .before .before .before .before .before .before .before)) _ (omega (arith, tests), (is-marked (c .before .before .before .before .before .before .before), omega (arith, tests)))
 
--- src/check.rt:54:8
 u8-at-requires-2 : tie.Need-u8-at-requires-2
 u8-at-requires-2 c κs = search needs
 
--- src/check.rt:55:9
 returns-8 : tie.Need-returns-8
 unfolding headerChecks
 returns-8 c = refused 7 (checks (c .before .before .before .before .before .before .before .before .before .before .before .before .before)) _ (omega (arith, tests), (is-marked (c .before .before .before .before .before .before .before .before .before), omega (arith, tests)))
 
--- src/check.rt:58:9
 returns-9 : tie.Need-returns-9
 unfolding headerChecks
 returns-9 c = refused 8 (checks (c .before .before .before .before .before .before .before .before .before .before .before .before .before .before)) _ (omega (arith, tests), (is-marked (c .before .before .before .before .before .before .before .before .before .before), omega (arith, tests)))
 
--- src/check.rt:61:9
 returns-10 : tie.Need-returns-10
 unfolding headerChecks
 returns-10 c = passed (checks (c .before .before .before .before .before .before .before .before .before .before .before .before .before .before .before)) _ (omega (arith, tests), (is-marked (c .before .before .before .before .before .before .before .before .before .before .before), omega (arith, tests)))
 
--- src/check.rt:63:8
 u16-at-requires-2 : tie.Need-u16-at-requires-2
 u16-at-requires-2 c κs = search needs
 
--- src/check.rt:64:9
 returns-11 : tie.Need-returns-11
 unfolding headerChecks
 returns-11 c = refused 9 (checks (c .before .before .before .before .before .before .before .before .before .before .before .before .before .before .before .before .before)) _ (omega (arith, tests), (is-marked (c .before .before .before .before .before .before .before .before .before .before .before .before .before), omega (arith, tests)))
 
--- src/check.rt:29:1
 returns-12 : tie.Need-returns-12
 unfolding headerChecks
 returns-12 c = passed (checks (c .before .before .before .before .before .before .before .before .before .before .before .before .before .before .before .before .before)) _ (omega (arith, tests), (is-marked (c .before .before .before .before .before .before .before .before .before .before .before .before .before), omega (arith, tests)))

@@ -1,15 +1,10 @@
 -- `check_items` meets its contract: the loop's invariant is that the items passed are fit, and its measure what is left of them.
 -- Assumes nothing.
-use Rattle.flow.proofs.check.check_items.Statement.{statement}
-use Rattle.flow.proofs.check.check_items.Tie as tie
-use Rattle.flow.proofs.check.check_items.Reads as reads
-use Rattle.flow.proofs.check.check_items.Lts as lts
-use Rattle.flow.proofs.bytes.u8_at.Reads as u8-at-reads
-use borrow.Author.Needs.{needs}
 use native.Mathlib.Omega.{arith}
 use Prim.Native.Nat.{ℕ, _≤_, _-_, _+_, _*_}
 use mathlib.Core.List.{List, [], _∷_}
 use mathlib.Core.Path.{_≡_, _∙_, ap, subst}
+use borrow.Author.Needs.{needs}
 use denote.Ref.{now}
 use Rattle.flow.specs.declared.Passed.the-variants.{Unfit}
 use Rattle.flow.specs.Format.{Check, verdict, fit, each, u8At, present, dimChecks, itemChecks, dataPlace, dataCount, elementPlace, elementsEnd}
@@ -17,6 +12,8 @@ use Rattle.flow.specs.Answers.{passedOf}
 use Rattle.flow.proofs.Tests.{tests}
 use Rattle.flow.proofs.Verdicts.{StopsAt, refusalAt, all-fit, stops-at, fit-none}
 use Rattle.flow.proofs.Answers.{refused-first, refused-element, passed-elements, one-more}
+use Rattle.flow.proofs.check.check_items.Statement.{statement}
+use Rattle.flow.proofs.check.check_items.Tie as tie
 
 -- the items before k are fit
 record Passing (s : List ℕ) (p count k : ℕ) : Type 0 where
@@ -77,80 +74,62 @@ flag c =
     let k = c .before .before .before .before .before .before .loop .k in
     c .u8-at4 .ensures ∙ ap (λ at. u8At (file start) (at + 1 + 2 * k + 1)) (start .pre .there)
 
--- src/check.rt:154:9
 returns : tie.Need-returns Inv-loop μ-loop
 unfolding dimChecks
 returns c = refused-first (front (c .before .before)) _ _ (stops-at 0 (front (c .before .before)) (omega (arith, tests)))
 
--- src/check.rt:156:9
 u8-at-requires : tie.Need-u8-at-requires Inv-loop μ-loop
 u8-at-requires c κs = search needs
 
--- src/check.rt:157:9
 u8-at-requires-2 : tie.Need-u8-at-requires-2 Inv-loop μ-loop
 u8-at-requires-2 c κs = search needs
 
--- src/check.rt:159:5
 loop-holds : tie.Need-loop-holds Inv-loop μ-loop
 loop-holds c = record { bound = search needs; fits = fit-none _ }
 
--- src/check.rt:160:17
 add-q : tie.Need-add-q Inv-loop μ-loop
 add-q c = search needs
 
--- src/check.rt:160:26
 mul-q : tie.Need-mul-q Inv-loop μ-loop
 mul-q c = omega (arith, (c .before .before .before .before .before) .shared-slice-known .given ((c .before .before .before .before .before .before) .args .at))
 
--- src/check.rt:160:17
 add-q-2 : tie.Need-add-q-2 Inv-loop μ-loop
 add-q-2 c = omega (arith, (c .before .before .before .before .before) .shared-slice-known .given ((c .before .before .before .before .before .before) .args .at))
 
--- src/check.rt:162:13
 returns-2 : tie.Need-returns-2 Inv-loop μ-loop
 unfolding itemChecks
 returns-2 c = refuse (c .before) 0 (omega (arith, tests))
 
--- src/check.rt:164:12
 u8-at-requires-3 : tie.Need-u8-at-requires-3 Inv-loop μ-loop
 u8-at-requires-3 c κs = search needs
 
--- src/check.rt:165:13
 returns-3 : tie.Need-returns-3 Inv-loop μ-loop
 unfolding itemChecks
 returns-3 c = refuse (c .before .before .before) 1 (omega (arith, tests, array (c .before)))
 
--- src/check.rt:167:26
 add-if4 : tie.Need-add-if4 Inv-loop μ-loop
 add-if4 c = search needs
 
--- src/check.rt:168:13
 returns-4 : tie.Need-returns-4 Inv-loop μ-loop
 unfolding itemChecks
 returns-4 c = refuse (c .before .before .before .before) 2 (omega (arith, tests, array (c .before .before)))
 
--- src/check.rt:170:24
 add-u8-at : tie.Need-add-u8-at Inv-loop μ-loop
 add-u8-at c = search needs
 
--- src/check.rt:170:12
 u8-at-requires-4 : tie.Need-u8-at-requires-4 Inv-loop μ-loop
 u8-at-requires-4 c κs = search needs
 
--- src/check.rt:171:13
 returns-5 : tie.Need-returns-5 Inv-loop μ-loop
 unfolding itemChecks
 returns-5 c = refuse (c .before .before .before .before .before .before) 3 (omega (arith, tests, array (c .before .before .before .before), flag (c .before)))
 
--- src/check.rt:173:9
 add-k : tie.Need-add-k Inv-loop μ-loop
 add-k c = omega (arith, (c .before .before .before .before .before .before .before .before .before .before .before) .shared-slice-known .given ((c .before .before .before .before .before .before .before .before .before .before .before .before) .args .at))
 
--- src/check.rt:159:5
 loop-less : tie.Need-loop-less Inv-loop μ-loop
 loop-less c = search needs
 
--- src/check.rt:159:5
 loop-again : tie.Need-loop-again Inv-loop μ-loop
 unfolding itemChecks
 loop-again c = record {
@@ -158,19 +137,15 @@ loop-again c = record {
   fits = one-more ((c .before .before .before .before .before .before .before) .loop .k) (items (c .before .before .before .before .before .before .before .before .before .before .before .before)) ((c .before .before .before .before .before .before .before) .loop .inv .fits) (omega (arith, tests, array (c .before .before .before .before), flag (c .before)));
 }
 
--- src/check.rt:175:16
 add-t8 : tie.Need-add-t8 Inv-loop μ-loop
 add-t8 c = search needs
 
--- src/check.rt:175:25
 mul-t18 : tie.Need-mul-t18 Inv-loop μ-loop
 mul-t18 c = omega (arith, (c .before .before .before .before .before) .shared-slice-known .given ((c .before .before .before .before .before .before) .args .at))
 
--- src/check.rt:175:16
 add-t19 : tie.Need-add-t19 Inv-loop μ-loop
 add-t19 c = omega (arith, (c .before .before .before .before .before) .shared-slice-known .given ((c .before .before .before .before .before .before) .args .at))
 
--- src/check.rt:149:1
 returns-6 : tie.Need-returns-6 Inv-loop μ-loop
 unfolding dimChecks
 returns-6 c =

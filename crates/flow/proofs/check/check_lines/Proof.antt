@@ -1,19 +1,13 @@
 -- `check_lines` meets its contract: the FL records passed are fit, and those of the file are as many as were passed and are left.
 -- The measure is what is left of the file. Assumes nothing.
-use Rattle.flow.proofs.check.check_lines.Statement.{statement}
-use Rattle.flow.proofs.check.check_lines.Tie as tie
-use Rattle.flow.proofs.check.check_lines.Reads as reads
-use Rattle.flow.proofs.check.check_lines.Lts as lts
-use Rattle.flow.proofs.bytes.u16_at.Reads as u16-at-reads
-use Rattle.flow.proofs.check.marked.Reads as marked-reads
-use borrow.Author.Needs.{needs}
-use borrow.Author.Tests.{le-leb, lt-leb}
 use native.Mathlib.Omega.{arith}
 use Prim.Native.Nat.{ℕ, zero, suc, _+_, _-_, _*_, _≤_, _<_}
 use mathlib.Core.Bool.{true, false, _||_}
-use lib.Dec.{eqb, ltb}
 use mathlib.Core.List.{List}
 use mathlib.Core.Path.{_≡_, refl, sym, _∙_, ap, subst}
+use borrow.Author.Needs.{needs}
+use borrow.Author.Tests.{le-leb, lt-leb}
+use lib.Dec.{eqb, ltb}
 use denote.Ref.{now}
 use lib.ListN.{length}
 use Rattle.flow.specs.declared.Passed.the-variants.{To, Unfit}
@@ -26,6 +20,8 @@ use Rattle.flow.proofs.Numbers.{leAt-lt}
 use Rattle.flow.proofs.Tests.{tests, Rises, rises-first, rises-next, marked-within}
 use Rattle.flow.proofs.Verdicts.{StopsAt, refusalAt, stops-at, unfit-at, fit-none}
 use Rattle.flow.proofs.Answers.{refused-by, passed-by, one-more}
+use Rattle.flow.proofs.check.check_lines.Statement.{statement}
+use Rattle.flow.proofs.check.check_lines.Tie as tie
 
 -- the FL records before k are fit, and the rest of them is counted from the place of record k on
 record Passing (s : List ℕ) (least k : ℕ) : Type 0 where
@@ -112,54 +108,42 @@ rising c =
     let high : c .before .before .before .before .before .loop .least ≤ line = omega (arith, number (c .before)) in
     c .before .before .before .before .before .loop .inv .rises .follows line ∙ le-leb _ _ high
 
--- src/check.rt:293:9
 u16-at-requires : tie.Need-u16-at-requires Inv-loop μ-loop
 u16-at-requires c κs = search needs
 
--- src/check.rt:296:5
 loop-holds : tie.Need-loop-holds Inv-loop μ-loop
 loop-holds c =
     let start = (c .before .before) in
     record { counted = none-counted (now (start .args .file)); within = omega arith; fits = fit-none _; rises = rises-first _ }
 
--- src/check.rt:296:29
 mul-marked : tie.Need-mul-marked Inv-loop μ-loop
 mul-marked c = omega arith
 
--- src/check.rt:296:24
 add-marked : tie.Need-add-marked Inv-loop μ-loop
 add-marked c = omega arith
 
--- src/check.rt:296:11
 marked-requires : tie.Need-marked-requires Inv-loop μ-loop
 marked-requires c κs = omega arith
 
--- src/check.rt:297:22
-mul-p : tie.Need-mul-p Inv-loop μ-loop
-mul-p c = omega (arith, there c, in-file c)
+mul-q : tie.Need-mul-q Inv-loop μ-loop
+mul-q c = omega (arith, there c, in-file c)
 
--- src/check.rt:297:17
-add-p : tie.Need-add-p Inv-loop μ-loop
-add-p c = omega (arith, there c, in-file c)
+add-q : tie.Need-add-q Inv-loop μ-loop
+add-q c = omega (arith, there c, in-file c)
 
--- src/check.rt:298:25
 add-if2 : tie.Need-add-if2 Inv-loop μ-loop
 add-if2 c = omega (arith, there c, in-file c)
 
--- src/check.rt:299:13
 returns : tie.Need-returns Inv-loop μ-loop
 unfolding lineRecordChecks
 returns c = refuse (c .before) 0 Record refl (omega (arith, tests, there (c .before)))
 
--- src/check.rt:301:33
 add-u16-at : tie.Need-add-u16-at Inv-loop μ-loop
 add-u16-at c = omega (arith, there (c .before), in-file (c .before))
 
--- src/check.rt:301:13
 u16-at-requires-2 : tie.Need-u16-at-requires-2 Inv-loop μ-loop
 u16-at-requires-2 c κs = omega (arith, there (c .before), in-file (c .before))
 
--- src/check.rt:303:13
 returns-2 : tie.Need-returns-2 Inv-loop μ-loop
 unfolding lineRecordChecks
 returns-2 c =
@@ -168,41 +152,32 @@ returns-2 c =
     let low : line < (c .before .before .before .before .before) .loop .least = omega (arith, number (c .before)) in
     refuse (c .before .before .before) 1 Order refl (omega (arith, tests, there (c .before .before .before)), inv .rises .follows line ∙ lt-leb _ _ low)
 
--- src/check.rt:305:25
 add-if4 : tie.Need-add-if4 Inv-loop μ-loop
 add-if4 c = omega (arith, there (c .before .before .before), in-file (c .before .before .before))
 
--- src/check.rt:306:13
 returns-3 : tie.Need-returns-3 Inv-loop μ-loop
 unfolding lineRecordChecks
 returns-3 c = refuse (c .before .before .before .before) 2 Record refl (omega (arith, tests, there (c .before .before .before .before)), (rising (c .before), omega (arith, tests, there (c .before .before .before .before))))
 
--- src/check.rt:308:25
 add-u16-at-2 : tie.Need-add-u16-at-2 Inv-loop μ-loop
 add-u16-at-2 c = omega (arith, there (c .before .before .before .before), in-file (c .before .before .before .before))
 
--- src/check.rt:308:12
 u16-at-requires-3 : tie.Need-u16-at-requires-3 Inv-loop μ-loop
 u16-at-requires-3 c κs = omega (arith, there (c .before .before .before .before), in-file (c .before .before .before .before))
 
--- src/check.rt:309:13
 returns-4 : tie.Need-returns-4 Inv-loop μ-loop
 unfolding lineRecordChecks
 returns-4 c = refuse (c .before .before .before .before .before .before) 3 Target refl (omega (arith, tests, there (c .before .before .before .before .before .before)), (rising (c .before .before .before), omega (arith, tests, there (c .before .before .before .before .before .before), first (c .before), (c .before .before .before .before .before .before .before .before .before) .u16-at .ensures)))
 
--- src/check.rt:311:17
 add-least : tie.Need-add-least Inv-loop μ-loop
 add-least c = omega (arith, (c .before .before .before .before) .u16-at2 .ensures, leAt-lt 2 (file (c .before .before .before .before .before .before)) ((c .before .before .before .before .before .before .before .before .before .before .before) .args .at + 6 * index (c .before .before .before .before .before .before) + 2) ((c .before .before .before .before .before .before .before .before .before .before) .shared-slice-known .given))
 
--- src/check.rt:312:9
 add-k : tie.Need-add-k Inv-loop μ-loop
 add-k c = omega (arith, there (c .before .before .before .before .before .before), in-file (c .before .before .before .before .before .before))
 
--- src/check.rt:296:5
 loop-less : tie.Need-loop-less Inv-loop μ-loop
 loop-less c = omega (arith, there (c .before .before .before .before .before .before), in-file (c .before .before .before .before .before .before))
 
--- src/check.rt:296:5
 loop-again : tie.Need-loop-again Inv-loop μ-loop
 unfolding lineRecordChecks
 loop-again c =
@@ -216,15 +191,12 @@ loop-again c =
       rises = rises-next (lineNumber (file turn)) (index turn) _ (number (c .before .before .before .before));
     }
 
--- src/check.rt:314:21
 mul-t16 : tie.Need-mul-t16 Inv-loop μ-loop
 mul-t16 c = omega arith
 
--- src/check.rt:314:16
 add-t17 : tie.Need-add-t17 Inv-loop μ-loop
 add-t17 c = omega arith
 
--- src/check.rt:289:1
 returns-5 : tie.Need-returns-5 Inv-loop μ-loop
 returns-5 c =
     let start = (c .before .before .before .before .before) in
@@ -249,8 +221,8 @@ check-lines-spec =
     mul-marked
     add-marked
     marked-requires
-    mul-p
-    add-p
+    mul-q
+    add-q
     add-if2
     returns
     add-u16-at

@@ -1,23 +1,18 @@
 -- `check_names` meets its contract: at each return the tests that led there are the checks, up to the first that fails.
 -- Assumes nothing.
-use borrow.Author.Needs.{needs}
-use Rattle.flow.proofs.check.check_names.Statement.{statement}
-use Rattle.flow.proofs.check.check_names.Tie as tie
-use Rattle.flow.proofs.check.check_names.Reads as reads
-use Rattle.flow.proofs.check.check_names.Lts as lts
-use Rattle.flow.proofs.bytes.u64_at.Reads as u64-at-reads
-use Rattle.flow.proofs.bytes.u8_at.Reads as u8-at-reads
-use Rattle.flow.proofs.check.names_fit.Reads as names-fit-reads
 use native.Mathlib.Omega.{arith}
 use Prim.Native.Nat.{_+_, _^_}
 use mathlib.Core.List.{List}
 use mathlib.Core.Path.{_≡_, sym, _∙_, ap, ap₂}
+use borrow.Author.Needs.{needs}
 use borrow.Author.Tests.{not-true, not-false}
 use denote.Ref.{now}
 use lib.Dec.{ltb}
 use Rattle.flow.specs.Format.{Check, nameChecks, namesFit, u64At, writtenAt, readAt}
 use Rattle.flow.proofs.Tests.{tests}
 use Rattle.flow.proofs.Answers.{refused, passed-to}
+use Rattle.flow.proofs.check.check_names.Statement.{statement}
+use Rattle.flow.proofs.check.check_names.Tie as tie
 
 abbrev checks : tie.Start → List Check
 checks c = nameChecks (now (c .args .file)) (c .args .p)
@@ -41,54 +36,42 @@ read c =
     (c .before .u64-at2 .ensures ∙ ap (λ at. u64At (now (start .args .file)) (at + 8)) (start .pre .there))
     (c .before .before .before .before .before .before .before .u8-at .ensures)
 
--- src/check.rt:133:9
 u8-at-requires : tie.Need-u8-at-requires
 u8-at-requires c κs = search needs
 
--- src/check.rt:134:21
 add-if1 : tie.Need-add-if1
 add-if1 c = search needs
 
--- src/check.rt:135:9
 returns : tie.Need-returns
 unfolding nameChecks
 returns c = refused 0 (checks (c .before .before .before)) _ (omega (arith, tests))
 
--- src/check.rt:137:19
 u64-at-requires : tie.Need-u64-at-requires
 u64-at-requires c κs = search needs
 
--- src/check.rt:137:9
 names-fit-requires : tie.Need-names-fit-requires
 names-fit-requires c κs = search needs
 
--- src/check.rt:138:9
 returns-2 : tie.Need-returns-2
 unfolding nameChecks
 returns-2 c = refused 1 (checks (c .before .before .before .before .before .before)) _ (omega (arith, tests), sym (written (c .before)) ∙ not-true _ (c .if2 .taken))
 
--- src/check.rt:140:21
 add-if3 : tie.Need-add-if3
 add-if3 c = search needs
 
--- src/check.rt:141:9
 returns-3 : tie.Need-returns-3
 unfolding nameChecks
 returns-3 c = refused 2 (checks (c .before .before .before .before .before .before .before)) _ (omega (arith, tests), (sym (written (c .before .before)) ∙ not-false _ (c .before .if2 .left), omega (arith, tests)))
 
--- src/check.rt:143:32
 add-u64-at : tie.Need-add-u64-at
 add-u64-at c = search needs
 
--- src/check.rt:143:19
 u64-at-requires-2 : tie.Need-u64-at-requires-2
 u64-at-requires-2 c κs = search needs
 
--- src/check.rt:143:9
 names-fit-requires-2 : tie.Need-names-fit-requires-2
 names-fit-requires-2 c κs = search needs
 
--- src/check.rt:144:9
 returns-4 : tie.Need-returns-4
 unfolding nameChecks
 returns-4 c =
@@ -100,11 +83,9 @@ returns-4 c =
       ),
     )
 
--- src/check.rt:146:16
 add-t6 : tie.Need-add-t6
 add-t6 c = search needs
 
--- src/check.rt:129:1
 returns-5 : tie.Need-returns-5
 unfolding nameChecks
 returns-5 c =

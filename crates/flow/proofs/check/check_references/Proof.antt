@@ -1,27 +1,24 @@
 -- `check_references` meets its contract: the loop's invariant is that the references passed are fit, and its measure what is left of them.
 -- Assumes nothing.
-use Rattle.flow.proofs.check.check_references.Statement.{statement}
-use Rattle.flow.proofs.check.check_references.Tie as tie
-use Rattle.flow.proofs.check.check_references.Reads as reads
-use Rattle.flow.proofs.check.check_references.Lts as lts
-use Rattle.flow.proofs.bytes.u8_at.Reads as u8-at-reads
-use borrow.Author.Needs.{needs}
 use native.Mathlib.Omega.{arith}
 use Prim.Native.Nat.{ℕ, _≤_, _<_, _-_, _+_}
 use mathlib.Core.List.{List, _++_}
 use mathlib.Core.Path.{_≡_, sym, _∙_, ap, subst}
+use mathlib.Core.Bool.{not, or-true as or-true′}
+use borrow.Author.Needs.{needs}
 use denote.Ref.{now}
+use borrow.Author.Tests.{le-leb, lt-leb, eq-eqb, ne-eqb}
+use lib.Dec.{eqb}
+use lib.ListN.{length}
 use Rattle.flow.specs.Format.{Check, verdict, fit, unfit, each, kindAt, referencesPlace, u8At, referenceCountChecks, referenceChecks, referenceCount, referenceAt, namesPlace}
 use Rattle.flow.specs.declared.Passed.the-variants.{Unfit}
 use Rattle.flow.specs.Answers.{passedOf}
 use Rattle.flow.proofs.Tests.{tests, Rises, rises-first, rises-next}
 use Rattle.flow.proofs.Verdicts.{StopsAt, refusalAt, all-fit, stops-at, fit-none}
 use Rattle.flow.proofs.Answers.{refused-first, refused-element, passed-elements, one-more}
-use borrow.Author.Tests.{le-leb, lt-leb, eq-eqb, ne-eqb}
-use lib.Dec.{eqb}
-use lib.ListN.{length}
-use mathlib.Core.Bool.{not, or-true as or-true′}
 use Rattle.flow.specs.declared.Refusal.the-variants.{ReturnReference}
+use Rattle.flow.proofs.check.check_references.Statement.{statement}
+use Rattle.flow.proofs.check.check_references.Tie as tie
 
 -- the references before k are fit, and the next must be `least` or more
 record Passing (s : List ℕ) (p count least k : ℕ) : Type 0 where
@@ -90,20 +87,16 @@ element c =
     let start = in-loop (c .before .before) in
     c .u8-at4 .ensures ∙ ap (λ at. u8At (file start) (at + 1 + c .before .before .before .loop .k)) (start .pre .there)
 
--- src/check.rt:95:9
 returns : tie.Need-returns Inv-loop μ-loop
 unfolding referenceCountChecks
 returns c = refused-first (referenceCountChecks (file (c .before .before)) ((c .before .before) .args .p)) _ _ (stops-at 0 (referenceCountChecks (file (c .before .before)) ((c .before .before) .args .p)) (omega (arith, tests)))
 
--- src/check.rt:97:9
 u8-at-requires : tie.Need-u8-at-requires Inv-loop μ-loop
 u8-at-requires c κs = search needs
 
--- src/check.rt:99:27
 add-t13 : tie.Need-add-t13 Inv-loop μ-loop
 add-t13 c = search needs
 
--- src/check.rt:99:9
 returns-2 : tie.Need-returns-2 Inv-loop μ-loop
 returns-2 c =
     let start = c .before .before .before .before in
@@ -112,15 +105,12 @@ returns-2 c =
     (omega arith) (no-references (file start) (start .args .p) (omega arith) none)
     (subst (λ n. verdict (each n (referenceChecks (file start) (start .args .p))) ≡ fit) (sym none) (fit-none _))
 
--- src/check.rt:101:20
 add-u8-at : tie.Need-add-u8-at Inv-loop μ-loop
 add-u8-at c = search needs
 
--- src/check.rt:101:8
 u8-at-requires-2 : tie.Need-u8-at-requires-2 Inv-loop μ-loop
 u8-at-requires-2 c κs = search needs
 
--- src/check.rt:102:9
 returns-3 : tie.Need-returns-3 Inv-loop μ-loop
 returns-3 c =
     let start = c .before .before .before .before .before .before in
@@ -128,37 +118,29 @@ returns-3 c =
     (return-refers (file start) (start .args .p) (omega arith) (sym (c .before .u8-at2 .ensures) ∙ c .if3 .taken)
     (λ e. c .before .before .if2 .left (counted (c .before .before .before) ∙ e)))
 
--- src/check.rt:104:9
 u8-at-requires-3 : tie.Need-u8-at-requires-3 Inv-loop μ-loop
 u8-at-requires-3 c κs = search needs
 
--- src/check.rt:107:5
 loop-holds : tie.Need-loop-holds Inv-loop μ-loop
 loop-holds c = record { bound = search needs; fits = fit-none _; rises = rises-first _ }
 
--- src/check.rt:108:17
 add-q : tie.Need-add-q Inv-loop μ-loop
 add-q c = search needs
 
--- src/check.rt:108:17
 add-q-2 : tie.Need-add-q-2 Inv-loop μ-loop
 add-q-2 c = omega (arith, (c .before .before .before .before .before .before .before .before) .shared-slice-known .given ((c .before .before .before .before .before .before .before .before .before) .args .at))
 
--- src/check.rt:110:13
 returns-4 : tie.Need-returns-4 Inv-loop μ-loop
 unfolding referenceChecks
 returns-4 c = refuse (c .before) 0 (omega (arith, tests))
 
--- src/check.rt:112:13
 u8-at-requires-4 : tie.Need-u8-at-requires-4 Inv-loop μ-loop
 u8-at-requires-4 c κs = search needs
 
--- src/check.rt:114:13
 returns-5 : tie.Need-returns-5 Inv-loop μ-loop
 unfolding referenceChecks
 returns-5 c = refuse (c .before .before .before) 1 (omega (arith, tests, element (c .before)))
 
--- src/check.rt:117:13
 returns-6 : tie.Need-returns-6 Inv-loop μ-loop
 unfolding referenceChecks
 returns-6 c =
@@ -169,19 +151,15 @@ returns-6 c =
     let low : here < c .before .before .before .before .before .loop .least = omega (arith, element (c .before .before)) in
     refuse (c .before .before .before .before) 2 (omega (arith, tests, element (c .before .before)), (omega (arith, tests, element (c .before .before)), follow .follows here ∙ lt-leb _ _ low))
 
--- src/check.rt:119:17
 add-least : tie.Need-add-least Inv-loop μ-loop
 add-least c = search needs
 
--- src/check.rt:120:9
 add-k : tie.Need-add-k Inv-loop μ-loop
 add-k c = search needs
 
--- src/check.rt:107:5
 loop-less : tie.Need-loop-less Inv-loop μ-loop
 loop-less c = search needs
 
--- src/check.rt:107:5
 loop-again : tie.Need-loop-again Inv-loop μ-loop
 unfolding referenceChecks
 loop-again c = let start = (c .before .before .before .before .before .before .before .before .before .before .before .before .before) in let k = (c .before .before .before .before .before) .loop .k in
@@ -194,15 +172,12 @@ loop-again c = let start = (c .before .before .before .before .before .before .b
       rises = rises-next (referenceAt (file start) (start .args .p)) k _ (element (c .before .before));
     }
 
--- src/check.rt:122:16
 add-t10 : tie.Need-add-t10 Inv-loop μ-loop
 add-t10 c = search needs
 
--- src/check.rt:122:16
 add-t14 : tie.Need-add-t14 Inv-loop μ-loop
 add-t14 c = omega (arith, (c .before .before .before .before .before .before .before .before) .shared-slice-known .given ((c .before .before .before .before .before .before .before .before .before) .args .at))
 
--- src/check.rt:90:1
 returns-7 : tie.Need-returns-7 Inv-loop μ-loop
 returns-7 c =
     let start = c .before .before .before .before .before .before .before .before .before in

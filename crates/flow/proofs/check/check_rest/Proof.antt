@@ -1,26 +1,21 @@
 -- `check_rest` meets its contract: what is passed is fit, so the answer is that of what follows, and a refusal on the way is the answer.
 -- Assumes nothing.
-use borrow.Author.Needs.{needs}
-use Rattle.flow.proofs.check.check_rest.Statement.{statement}
-use Rattle.flow.proofs.check.check_rest.Tie as tie
-use Rattle.flow.proofs.check.check_rest.Reads as reads
-use Rattle.flow.proofs.check.check_rest.Lts as lts
-use Rattle.flow.proofs.check.check_data.Reads as check-data-reads
-use Rattle.flow.proofs.check.check_names.Reads as check-names-reads
-use Rattle.flow.proofs.check.check_references.Reads as check-references-reads
 use native.Mathlib.Omega.{arith}
 use mathlib.Core.List.{List, _++_, append-assoc}
-use mathlib.Core.Path.{_≡_, sym, _∙_, ap}
+use mathlib.Core.Path.{_≡_, sym, _∙_}
 use Prim.Native.Nat.{ℕ, _≤_, _+_}
+use borrow.Author.Needs.{needs}
 use borrow.Author.Tests.{leb-true}
 use denote.Ref.{now}
 use lib.ListN.{length}
 use Rattle.flow.specs.declared.Refusal.{Refusal}
-use Rattle.flow.specs.declared.Passed.the-variants.{To, Unfit}
-use Rattle.flow.specs.Format.{Check, verdict, fit, unfit, each, referencesPlace, referenceCountChecks, referenceCount, referenceChecks, nameChecks, dataChecks, restChecks, namesPlace, dataPlace, recordEnd}
+use Rattle.flow.specs.declared.Passed.the-variants.{Unfit}
+use Rattle.flow.specs.Format.{Check, verdict, fit, unfit, each, referencesPlace, referenceCountChecks, referenceCount, referenceChecks, nameChecks, dataChecks, restChecks, namesPlace, dataPlace}
 use Rattle.flow.specs.Answers.{passedOf}
 use Rattle.flow.proofs.Verdicts.{all-hold, fit-left, fit-right, elements-within}
 use Rattle.flow.proofs.Answers.{Through, verdict-passed, verdict-refused, refused-first, onward}
+use Rattle.flow.proofs.check.check_rest.Statement.{statement}
+use Rattle.flow.proofs.check.check_rest.Tie as tie
 
 abbrev references : List ℕ → ℕ → List Check
 references s p = referenceCountChecks s p ++ each (referenceCount s p) (referenceChecks s p)
@@ -64,25 +59,20 @@ named : (c : tie.After-q2)
     Through (verdict (nameChecks (file start) (start .args .p))) (c .q2 .given .0 .0) (dataPlace (file start) (start .args .p))
 named c = verdict-passed _ _ _ (sym (c .q2 .given .1) ∙ c .before .before .check-names .ensures)
 
--- src/check.rt:243:26
 check-references-requires : tie.Need-check-references-requires
 check-references-requires c κs = search needs
 
--- src/check.rt:244:20
 enum-known-q : tie.Need-enum-known-q
 enum-known-q c = search needs
 
--- src/check.rt:245:23
 enum-known-r : tie.Need-enum-known-r
 enum-known-r c = search needs
 
--- src/check.rt:245:29
 returns : tie.Need-returns
 returns c =
     let start = (c .before .before .before .before .before) in
     in-references (file start) (start .args .p) _ (verdict-refused _ _ (sym ((c .before) .r .given .1) ∙ (c .before .before .before) .check-references .ensures))
 
--- src/check.rt:247:25
 check-names-requires : tie.Need-check-names-requires
 check-names-requires c κs =
     let start = (c .before .before .before .before .before) in
@@ -94,15 +84,12 @@ check-names-requires c κs =
       there = before .place;
     }
 
--- src/check.rt:248:20
 enum-known-q-2 : tie.Need-enum-known-q-2
 enum-known-q-2 c = search needs
 
--- src/check.rt:249:23
 enum-known-r-2 : tie.Need-enum-known-r-2
 enum-known-r-2 c = search needs
 
--- src/check.rt:249:29
 returns-2 : tie.Need-returns-2
 returns-2 c =
     let start = (c .before .before .before .before .before .before .before .before .before) in
@@ -111,7 +98,6 @@ returns-2 c =
     refused-first (nameChecks s p) (dataChecks s p) _ (verdict-refused _ _ (sym ((c .before) .r2 .given .1) ∙ (c .before .before .before) .check-names .ensures))
     ∙ after-references s p _ (referred (c .before .before .before .before .before) .is-fit)
 
--- src/check.rt:251:5
 check-data-requires : tie.Need-check-data-requires
 check-data-requires c κs =
     let start = (c .before .before .before .before .before .before .before .before .before) in
@@ -123,7 +109,6 @@ check-data-requires c κs =
       there = before .place;
     }
 
--- src/check.rt:239:1
 returns-3 : tie.Need-returns-3
 returns-3 c =
     let start = (c .before .before .before .before .before .before .before .before .before .before) in

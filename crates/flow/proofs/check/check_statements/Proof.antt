@@ -1,36 +1,27 @@
 -- `check_statements` meets its contract. What is passed is fit: the records before i, and the successors before k of the record at p.
 -- The first unfit field leaves both loops, and its refusal is that of all records. The measures are what is left of each. Assumes nothing.
-use Rattle.flow.proofs.check.check_statements.Statement.{statement}
-use Rattle.flow.proofs.check.check_statements.Tie as tie
-use Rattle.flow.proofs.check.check_statements.Reads as reads
-use Rattle.flow.proofs.check.check_statements.Lts as lts
-use Rattle.flow.proofs.bytes.u16_at.Reads as u16-at-reads
-use Rattle.flow.proofs.bytes.u8_at.Reads as u8-at-reads
-use Rattle.flow.proofs.check.check_rest.Reads as check-rest-reads
-use Rattle.flow.proofs.check.check_start.Reads as check-start-reads
-use borrow.Author.Needs.{needs}
 use native.Mathlib.Omega.{arith}
 use native.Mathlib.Numerals.{add-one}
-use Prim.Native.Nat.{ℕ, _+_, _-_, _*_, _≤_, _<_}
+use Prim.Native.Nat.{ℕ, _+_, _-_, _*_, _≤_}
 use mathlib.Core.List.{List}
 use mathlib.Core.Logic.{_⊎_, inl, inr, ⊎-elim}
 use mathlib.Core.Path.{_≡_, refl, sym, _∙_, ap, subst}
+use borrow.Author.Needs.{needs}
 use denote.Ref.{now}
 use lib.ListN.{length}
-use Rattle.flow.specs.declared.Refusal.{Refusal}
-use Rattle.flow.specs.declared.Refusal.the-variants.{Record, Target}
 use mir.Syntax.{w8}
 use mir.Val.{Fits}
-use Rattle.flow.specs.Format.{Check, verdict, fit, unfit, each, startChecks, successorChecks, restChecks, recordChecks, statementChecks, recordPlace, recordEnd, successorsPlace, successorCount, successorAt, linesPlace, u16At}
-use Rattle.flow.specs.Fields.{FitRecord}
-use Rattle.flow.specs.Answers.{passedOf}
+use Rattle.flow.specs.declared.Refusal.{Refusal}
+use Rattle.flow.specs.declared.Refusal.the-variants.{Record, Target}
+use Rattle.flow.specs.Format.{Check, verdict, fit, unfit, each, startChecks, successorChecks, restChecks, recordChecks, statementChecks, recordPlace, recordEnd, successorsPlace, successorCount, successorAt, linesPlace, u16At, statementsOf}
 use Rattle.flow.proofs.Records.{end-fits}
 use Rattle.flow.proofs.Tests.{tests}
 use Rattle.flow.proofs.Verdicts.{StopsAt, refusalAt, unfit-at, fit-none, fit-more}
 use Rattle.flow.proofs.Answers.{Through, verdict-passed, verdict-refused, refused-by, passed-by, one-more}
 use Rattle.flow.proofs.RecordVerdict.{successors, start-within, successors-within, in-start, in-successors, after-successors}
 use Rattle.flow.specs.declared.Passed.the-variants.{To}
-use Rattle.flow.specs.Format.{statementsOf}
+use Rattle.flow.proofs.check.check_statements.Statement.{statement}
+use Rattle.flow.proofs.check.check_statements.Tie as tie
 
 abbrev recordsOf : List ℕ → ℕ → List Check
 recordsOf s i = recordChecks s (recordPlace s i)
@@ -141,95 +132,102 @@ left : (c : tie.Left-records Inv-loop μ-loop Inv-records μ-records)
     → let start = c .before .before .before .before in
     (c .before .before .u16-at .result ≤ c .before .records .i) ⊎ (verdict (statementChecks (now (start .args .file))) ≡ unfit (c .records-test .refusal))
 left c =
+    let s = now (c .before .before .before .before .args .file) in
     ⊎-elim (λ w. inl (w .0 .left))
     (λ ways. inr (⊎-elim
-    (λ w.
-    let records : tie.In-records Inv-loop μ-loop Inv-records μ-records = record { before = c .before; records-test = w .0 } in
-    let start : tie.After-check-start Inv-loop μ-loop Inv-records μ-records = record { before = records; check-start = w .1 } in
-    let is : tie.At-match-keys1 Inv-loop μ-loop Inv-records μ-records = record { before = start; match = w .2 } in
-    let q : tie.After-q Inv-loop μ-loop Inv-records μ-records = record { before = is; q = w .3 } in
-    let told : tie.After-known-told Inv-loop μ-loop Inv-records μ-records = record { before = q; known-told = w .4 } in
-    let count : tie.After-u8-at Inv-loop μ-loop Inv-records μ-records = record { before = told; u8-at = w .5 } in
-    let loop : tie.At-loop Inv-loop μ-loop Inv-records μ-records = record { before = count; loop = w .6 } in
-    let turn : tie.In-loop Inv-loop μ-loop Inv-records μ-records = record { before = loop; loop-test = w .7 } in
-    short (record { before = turn; if1 = w .8 }) ∙ ap unfit (sym (w .9)))
-    (λ w.
-    let records : tie.In-records Inv-loop μ-loop Inv-records μ-records = record { before = c .before; records-test = w .0 } in
-    let start : tie.After-check-start Inv-loop μ-loop Inv-records μ-records = record { before = records; check-start = w .1 } in
-    let is : tie.At-match-keys1 Inv-loop μ-loop Inv-records μ-records = record { before = start; match = w .2 } in
-    let q : tie.After-q Inv-loop μ-loop Inv-records μ-records = record { before = is; q = w .3 } in
-    let told : tie.After-known-told Inv-loop μ-loop Inv-records μ-records = record { before = q; known-told = w .4 } in
-    let count : tie.After-u8-at Inv-loop μ-loop Inv-records μ-records = record { before = told; u8-at = w .5 } in
-    let loop : tie.At-loop Inv-loop μ-loop Inv-records μ-records = record { before = count; loop = w .6 } in
-    let turn : tie.In-loop Inv-loop μ-loop Inv-records μ-records = record { before = loop; loop-test = w .7 } in
-    let there : tie.Else1 Inv-loop μ-loop Inv-records μ-records = record { before = turn; if1 = w .8 } in
-    let value : tie.After-u16-at2 Inv-loop μ-loop Inv-records μ-records = record { before = there; u16-at2 = w .9 } in
-    stray (record { before = value; if2 = w .10 }) ∙ ap unfit (sym (w .11)))
+    (λ w. subst (λ r. verdict (statementChecks s) ≡ unfit r) (sym (w .9)) (short (record {
+      before = record {
+        before = record {
+          before = record {
+            before = record {
+              before = record {
+                before = record { before = record { before = record { before = c .before; records-test = w .0 }; check-start = w .1 }; match = w .2 };
+                q = w .3;
+              };
+              known-told = w .4;
+            };
+            u8-at = w .5;
+          };
+          loop = w .6;
+        };
+        loop-test = w .7;
+      };
+      if1 = w .8;
+    })))
+    (λ w. subst (λ r. verdict (statementChecks s) ≡ unfit r) (sym (w .11)) (stray (record {
+      before = record {
+        before = record {
+          before = record {
+            before = record {
+              before = record {
+                before = record {
+                  before = record {
+                    before = record { before = record { before = record { before = c .before; records-test = w .0 }; check-start = w .1 }; match = w .2 };
+                    q = w .3;
+                  };
+                  known-told = w .4;
+                };
+                u8-at = w .5;
+              };
+              loop = w .6;
+            };
+            loop-test = w .7;
+          };
+          if1 = w .8;
+        };
+        u16-at2 = w .9;
+      };
+      if2 = w .10;
+    })))
     ways))
     (c .records-test .came)
 
--- src/check.rt:263:9
 u16-at-requires : tie.Need-u16-at-requires Inv-loop μ-loop Inv-records μ-records
 u16-at-requires c κs = search needs
 
--- src/check.rt:267:5
 records-holds : tie.Need-records-holds Inv-loop μ-loop Inv-records μ-records
 unfolding recordPlace
 records-holds c = record { bound = search needs; place = refl; within = search needs; fits = fit-none _ }
 
--- src/check.rt:268:32
 check-start-requires : tie.Need-check-start-requires Inv-loop μ-loop Inv-records μ-records
 check-start-requires c κs = search needs
 
--- src/check.rt:269:24
 enum-known-q : tie.Need-enum-known-q Inv-loop μ-loop Inv-records μ-records
 enum-known-q c = search needs
 
--- src/check.rt:270:27
 enum-known-r : tie.Need-enum-known-r Inv-loop μ-loop Inv-records μ-records
 enum-known-r c = search needs
 
--- src/check.rt:270:33
 returns : tie.Need-returns Inv-loop μ-loop Inv-records μ-records
 returns c = refused-by (statementChecks (file (c .before .before .before .before))) _ (refuse (c .before .before .before .before) (in-start (file (c .before .before .before .before)) (at (c .before .before .before .before)) (verdict-refused _ _ (sym ((c .before) .r .given .1) ∙ (c .before .before .before) .check-start .ensures))))
 
--- src/check.rt:272:33
 add-u8-at : tie.Need-add-u8-at Inv-loop μ-loop Inv-records μ-records
 add-u8-at c = search needs
 
--- src/check.rt:272:13
 u8-at-requires : tie.Need-u8-at-requires Inv-loop μ-loop Inv-records μ-records
 u8-at-requires c κs = omega (arith, begun (c .before))
 
--- src/check.rt:274:9
 loop-holds : tie.Need-loop-holds Inv-loop μ-loop Inv-records μ-records
 loop-holds c = record { bound = search needs; fits = fit-none _ }
 
--- src/check.rt:275:34
 mul-q : tie.Need-mul-q Inv-loop μ-loop Inv-records μ-records
 mul-q c = omega (arith, begun (c .before .before .before .before), started (c .before .before .before .before) .place, few c, (c .before .before) .u8-at .ensures)
 
--- src/check.rt:275:21
 add-q : tie.Need-add-q Inv-loop μ-loop Inv-records μ-records
 add-q c = omega (arith, begun (c .before .before .before .before), started (c .before .before .before .before) .place, few c, (c .before .before) .u8-at .ensures)
 
--- src/check.rt:276:29
 add-if1 : tie.Need-add-if1 Inv-loop μ-loop Inv-records μ-records
 add-if1 c = omega (arith, begun (c .before .before .before .before), started (c .before .before .before .before) .place, few c, (c .before .before) .u8-at .ensures)
 
--- src/check.rt:280:16
 u16-at-requires-2 : tie.Need-u16-at-requires-2 Inv-loop μ-loop Inv-records μ-records
 u16-at-requires-2 c κs = search needs
 
--- src/check.rt:284:13
 add-k : tie.Need-add-k Inv-loop μ-loop Inv-records μ-records
 add-k c = omega (arith, few (c .before .before .before))
 
--- src/check.rt:274:9
 loop-less : tie.Need-loop-less Inv-loop μ-loop Inv-records μ-records
 loop-less c = search needs
 
--- src/check.rt:274:9
 loop-again : tie.Need-loop-again Inv-loop μ-loop Inv-records μ-records
 unfolding successorChecks
 loop-again c =
@@ -239,15 +237,12 @@ loop-again c =
           (omega (arith, tests, started (c .before .before .before .before .before .before .before) .place, element (c .before), outer (c .before .before .before) .before .before .u16-at .ensures));
     }
 
--- src/check.rt:286:48
 mul-check-rest : tie.Need-mul-check-rest Inv-loop μ-loop Inv-records μ-records
 mul-check-rest c = omega (arith, begun (c .before .before .before .before), started (c .before .before .before .before) .place, (c .before .before) .u8-at .ensures, (of-record c) .before .before .before .shared-slice-known .given (at (of-record c) + 5))
 
--- src/check.rt:286:35
 add-check-rest : tie.Need-add-check-rest Inv-loop μ-loop Inv-records μ-records
 add-check-rest c = omega (arith, begun (c .before .before .before .before), started (c .before .before .before .before) .place, (c .before .before) .u8-at .ensures, (of-record c) .before .before .before .shared-slice-known .given (at (of-record c) + 5))
 
--- src/check.rt:286:15
 check-rest-requires : tie.Need-check-rest-requires Inv-loop μ-loop Inv-records μ-records
 check-rest-requires c κs =
     let s = file (of-record c) in
@@ -259,30 +254,24 @@ check-rest-requires c κs =
       there = omega (arith, started (c .before .before .before .before) .place, (c .before .before) .u8-at .ensures);
     }
 
--- src/check.rt:287:24
 enum-known-q-2 : tie.Need-enum-known-q-2 Inv-loop μ-loop Inv-records μ-records
 enum-known-q-2 c = search needs
 
--- src/check.rt:288:27
 enum-known-r-2 : tie.Need-enum-known-r-2 Inv-loop μ-loop Inv-records μ-records
 enum-known-r-2 c = search needs
 
--- src/check.rt:288:33
 returns-2 : tie.Need-returns-2 Inv-loop μ-loop Inv-records μ-records
 returns-2 c =
     let here = of-record (c .before .before .before .before) in
     refused-by (statementChecks (file here)) _
     (refuse here (left-to-rest (c .before .before .before .before) ∙ verdict-refused _ _ (sym ((c .before) .r2 .given .1) ∙ (c .before .before .before) .check-rest .ensures)))
 
--- src/check.rt:290:9
 add-i : tie.Need-add-i Inv-loop μ-loop Inv-records μ-records
 add-i c = search needs
 
--- src/check.rt:267:5
 records-less : tie.Need-records-less Inv-loop μ-loop Inv-records μ-records
 records-less c = search needs
 
--- src/check.rt:267:5
 records-again : tie.Need-records-again Inv-loop μ-loop Inv-records μ-records
 unfolding recordPlace
 records-again c =
@@ -298,11 +287,9 @@ records-again c =
       fits = fit-more _ (recordsOf (file here)) (inv .fits) (subst (λ x. verdict (recordChecks (file here) x) ≡ fit) (inv .place) whole);
     }
 
--- src/check.rt:293:9
 returns-3 : tie.Need-returns-3 Inv-loop μ-loop Inv-records μ-records
 returns-3 c = ⊎-elim (λ w. absurd (omega arith)) (λ h. refused-by (statementChecks (now ((c .before .before .before .before .before) .args .file))) _ h) (left (c .before))
 
--- src/check.rt:259:1
 returns-4 : tie.Need-returns-4 Inv-loop μ-loop Inv-records μ-records
 unfolding statementChecks
 returns-4 c =

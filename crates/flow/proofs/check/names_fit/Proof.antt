@@ -1,25 +1,20 @@
 -- `names_fit` meets its contract: every word is below 2 ^ 64, and shifting a word right leaves 0 exactly where it is below the power.
 -- Assumes nothing.
-use borrow.Author.Needs.{needs}
-use Rattle.flow.proofs.check.names_fit.Statement.{statement}
-use Rattle.flow.proofs.check.names_fit.Tie as tie
-use Rattle.flow.proofs.check.names_fit.Reads as reads
-use Rattle.flow.proofs.check.names_fit.Lts as lts
-use mathlib.Core.Path.{_≡_, sym}
+use mathlib.Core.Path.{sym}
 use native.Mathlib.Nat.{lt-of-lt-of-le}
+use borrow.Author.Needs.{needs}
 use borrow.Author.Tests.{lt-ltb}
 use lib.Pow.{pow-mono, pow-pos}
 use Rattle.flow.proofs.Numbers.{div-is-zero}
+use Rattle.flow.proofs.check.names_fit.Statement.{statement}
+use Rattle.flow.proofs.check.names_fit.Tie as tie
 
--- src/check.rt:124:9
 returns : tie.Need-returns
 returns c = sym (lt-ltb _ _ (lt-of-lt-of-le (c .before .fits .w .fits) (pow-mono (c .if1 .taken))))
 
--- src/check.rt:126:5
 shr-result : tie.Need-shr-result
 shr-result c = search needs
 
--- src/check.rt:120:1
 returns-2 : tie.Need-returns-2
 returns-2 c = div-is-zero (c .before .args .w) _ (pow-pos (c .before .args .names))
 

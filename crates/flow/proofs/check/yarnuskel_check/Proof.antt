@@ -1,47 +1,35 @@
 -- `yarnuskel_check` meets its contract: the answer of `check_file` says the verdict, and the number and the place are the verdict's.
 -- Assumes nothing.
+use mathlib.Core.Path.{sym, _∙_, ap}
 use borrow.Author.Needs.{needs}
-use Rattle.flow.proofs.check.yarnuskel_check.Statement.{statement}
-use Rattle.flow.proofs.check.yarnuskel_check.Tie as tie
-use Rattle.flow.proofs.check.yarnuskel_check.Reads as reads
-use Rattle.flow.proofs.check.yarnuskel_check.Lts as lts
-use Rattle.flow.proofs.check.check_file.Reads as check-file-reads
-use Rattle.flow.proofs.check.number.Reads as number-reads
-use Rattle.flow.proofs.check.place.Reads as place-reads
-use mathlib.Core.Path.{_≡_, sym, _∙_, ap}
 use denote.Ref.{now}
 use Rattle.flow.specs.Format.{verdict, fileChecks}
 use Rattle.flow.specs.Answers.{headerOf, verdictNumber, verdictPlace}
 use Rattle.flow.proofs.Reading.{fit-answer, unfit-answer}
+use Rattle.flow.proofs.check.yarnuskel_check.Statement.{statement}
+use Rattle.flow.proofs.check.yarnuskel_check.Tie as tie
 
--- src/check.rt:410:11
 check-file-requires : tie.Need-check-file-requires
 check-file-requires c κs = search needs
 
--- src/check.rt:412:13
 enum-told : tie.Need-enum-told
 enum-told c = search needs
 
--- src/check.rt:415:24
 enum-known-refusal : tie.Need-enum-known-refusal
 enum-known-refusal c = search needs
 
--- src/check.rt:416:22
 place-requires : tie.Need-place-requires
 place-requires c κs = search needs
 
--- src/check.rt:417:13
 number-requires : tie.Need-number-requires
 number-requires c κs = search needs
 
--- src/check.rt:405:1
 returns : tie.Need-returns
 returns c =
     let s = now ((c .before .before .before .before) .args .file) in
     let v = fit-answer (verdict (fileChecks s)) (headerOf s) _ (sym ((c .before .before) .check-file .ensures) ∙ c .enum-told .given .1) in
     (ap verdictNumber (sym v), ap verdictPlace (sym v))
 
--- src/check.rt:405:1
 returns-2 : tie.Need-returns-2
 returns-2 c =
     let s = now ((c .before .before .before .before .before .before .before) .args .file) in

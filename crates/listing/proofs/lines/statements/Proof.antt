@@ -10,7 +10,7 @@ use denote.Ref.{now}
 use lib.ListN.{length}
 use Rattle.flow.specs.Format.{recordPlace, statementsOf, arraysOf}
 use Rattle.flow.specs.Fields.{FitRecord}
-use Rattle.fields.proofs.Files.{record-fit}
+use Rattle.records.proofs.Files.{record-fit}
 use borrow.Author.Needs.{needs}
 use Rattle.listing.proofs.lines.statements.Statement.{statement}
 use Rattle.listing.proofs.lines.statements.Tie as tie

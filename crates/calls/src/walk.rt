@@ -1,0 +1,52 @@
+// The body walk of an entry, into its row of the matrix. The queue's words serve as a stack.
+ghost use Prim.Native.Nat.{_<_};
+ghost use mathlib.Core.Path.{_≡_};
+ghost use Rattle.flow.specs.Format.{flowOf};
+ghost use Rattle.statements.specs.Ready.{Ready};
+ghost use Rattle.calls.specs.Held.{EmptyRow, Walked};
+use statements::fields;
+use statements::layout;
+
+// Puts i into the row of e and on the stack, unless it was met before. The height of the stack comes back.
+fn meet(work: &mut [u64], n: usize, e: usize, top: usize, i: usize) -> usize {
+    if words::insert(work, layout::row(n, e), i) {
+        work[layout::queue(n) + top] = i as u64;
+        return top + 1;
+    }
+    top
+}
+
+fn meet_successors(file: &[u8], work: &mut [u64], n: usize, e: usize, top: usize, i: usize) -> usize {
+    let count = fields::successor_count(file, work, n, i);
+    let mut height = top;
+    let mut k = 0;
+    while k < count {
+        let j = fields::successor(file, work, n, i, k);
+        height = meet(work, n, e, height, j.0);
+        k += 1;
+    }
+    height
+}
+
+// Where a body walk goes on from i: nowhere at RETURN, to the continuation only at a call with one, else to the successors.
+fn meet_next(file: &[u8], work: &mut [u64], n: usize, e: usize, top: usize, i: usize) -> usize {
+    if fields::is_return(file, work, n, i) {
+        return top;
+    }
+    match fields::continuation(file, work, n, i) {
+        flow::Continuation::To(k) => meet(work, n, e, top, k.0),
+        flow::Continuation::None => meet_successors(file, work, n, e, top, i),
+    }
+}
+
+pub fn walk(file: &[u8], work: &mut [u64], n: usize, e: usize)
+    requires { ⌜ Ready (now file) (now work) n × (e < n) × EmptyRow (now work) n e ⌝ }
+    ensures { λ _. ⌜ Walked (flowOf (now (file .entry))) (now (work .entry)) (now (work .exit)) n e ⌝ }
+{
+    let mut top = meet(work, n, e, 0, e);
+    while 0 < top {
+        top -= 1;
+        let i = work[layout::queue(n) + top] as usize;
+        top = meet_next(file, work, n, e, top, i);
+    }
+}

@@ -1,0 +1,3 @@
+pub mod Promised
+pub mod Judging
+pub mod NotedRows

@@ -1,0 +1,3 @@
+pub mod Promise
+pub mod Phases
+pub mod Bytes

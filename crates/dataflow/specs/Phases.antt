@@ -1,0 +1,41 @@
+-- What the phases start from, and what they leave together: the file is fit, its header is known, the areas have room and the work area is zero; after them the masks, the
+-- live words and the count are those of the definitions.
+use Prim.Native.Nat.{ℕ, _*_, _+_, _<_, _≤_}
+use mathlib.Core.List.{List}
+use mathlib.Core.Path.{_≡_}
+use lib.ListN.{length, getD, replicate}
+use Rattle.flow.specs.declared.Header.{Header}
+use Rattle.flow.specs.Flow.{Flow, size}
+use Rattle.flow.specs.Limits.{workWords}
+use Rattle.flow.specs.Fields.{FitFile}
+use Rattle.flow.specs.Answers.{headerOf}
+use Rattle.words.specs.Byte.{byteAt}
+use Rattle.theory.specs.Masks.{nodeMask, maskOf, visitsOf}
+use Rattle.theory.specs.Live.{liveInWord, liveOutWord}
+use Rattle.statements.specs.Layout.{maskRowAt, queueAt, areaEnd}
+use Rattle.statements.specs.Ready.{Keeps}
+use Rattle.dataflow.specs.Promise.{Written}
+
+pub record Blank (s : List ℕ) (h : Header) (masks liveIn liveOut work : List ℕ) : Type 0 where
+  pub fit : FitFile s
+  pub header : h ≡ headerOf s
+  pub some : 0 < h .statements
+  pub masks-room : h .statements * (h .arrays) ≤ length masks
+  pub in-room : h .statements ≤ length liveIn
+  pub out-room : h .statements ≤ length liveOut
+  pub work-room : workWords (h .statements) ≤ length work
+  pub zero : (x : ℕ) → getD work x 0 ≡ 0
+
+pub record Solved (f : Flow) (masks masks′ liveIn liveIn′ liveOut liveOut′ : List ℕ) (visits : ℕ) : Type 0 where
+  pub mask-bytes : (i a : ℕ) → i < size f → a < f .arrays → getD masks′ (i * (f .arrays) + a) 0 ≡ maskOf f i a
+  pub masks-size : length masks′ ≡ length masks
+  pub masks-kept : (x : ℕ) → size f * (f .arrays) ≤ x → getD masks′ x 0 ≡ getD masks x 0
+  pub live-in : Written (size f) (liveInWord f) liveIn liveIn′
+  pub live-out : Written (size f) (liveOutWord f) liveOut liveOut′
+  pub count : visits ≡ visitsOf f
+
+-- the forward solver has ended: its visits, and the masks of each doubled number in its row
+pub record Arrayed (f : Flow) (n : ℕ) (ws vs : List ℕ) (visits : ℕ) : Type 0 where
+  pub visited : visits ≡ visitsOf f
+  pub rows : (d a : ℕ) → d < 2 * n → a < f .arrays → byteAt vs (maskRowAt n d) a ≡ nodeMask f d a
+  pub kept : Keeps (queueAt n) (areaEnd n) ws vs

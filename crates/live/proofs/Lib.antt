@@ -1,0 +1,11 @@
+pub mod Facts
+pub mod Noting
+pub mod Spread
+pub mod Pushing
+pub mod Bits
+pub mod Solving
+pub mod Solved
+pub mod Visits
+pub mod Beginning
+pub mod Finishing
+pub mod Blank

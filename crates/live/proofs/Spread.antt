@@ -1,0 +1,118 @@
+-- One word joined, and the queue after it: a word that grew has a bit more, so the number that joins the queue is paid for.
+-- Changes one after another are one change. Assumes nothing.
+use Prim.Native.Nat.{ℕ, _+_, _*_, _-_, _/_, _%_, _^_, _<_, _≤_}
+use mathlib.Core.Bool.{Bool, true, false, not}
+use mathlib.Core.List.{List}
+use mathlib.Core.Logic.{_⊎_, inl, inr, ⊎-elim}
+use mathlib.Core.Path.{_≡_, refl, sym, _∙_, ap, subst}
+use native.Mathlib.Decide.{ℕ-discrete}
+use native.Mathlib.Nat.{le-refl, le-of-eq, zero-add}
+use native.Mathlib.Omega.{arith}
+use borrow.Author.Tests.{eqb-true, eqb-false, not-true, not-false}
+use lib.Bits.{bitOr}
+use lib.ListN.{length, getD, set}
+use lib.Seq.{set-getD}
+use Rattle.words.specs.Row.{Words, bit, has, members}
+use Rattle.words.specs.Change.{Joined, joined, differs}
+use Rattle.words.proofs.Bit.{bit-or}
+use Rattle.words.proofs.Row.{members-le}
+use Rattle.words.proofs.Rewritten.{differs-false, differs-members}
+use Rattle.words.proofs.Inserted.{joined-word, joined-other, words-joined}
+use Rattle.theory.specs.Lists.{In}
+use Rattle.theory.proofs.Enqueue.{join, join-keeps, join-adds, join-cases, join-length}
+use Rattle.solve.specs.declared.Queue.{Queue}
+use Rattle.solve.specs.Waiting.{Enqueued}
+use Rattle.solve.proofs.Waiting.{rest-refl, rest-trans}
+use Rattle.live.specs.Spread.{missing, Follows, Spread, PushedTo}
+
+pub follows-refl : {n : ℕ} {before w : List ℕ} → Follows n before before w w
+follows-refl = record { stays = λ k m. m; comes = λ k m. inl m; grows = λ k l. inr refl; falls = le-refl _ }
+
+pub follows-trans : {n : ℕ} {a b c u v w : List ℕ} → Follows n a b u v → Follows n b c v w → Follows n a c u w
+follows-trans {n} {a} {b} {c} {u} {v} {w} p q = record {
+  stays = λ k m. q .stays k (p .stays k m);
+  comes = λ k m. ⊎-elim (p .comes k) (λ l. inr l) (q .comes k m);
+  grows = λ k l. ⊎-elim (λ m. inl m) (λ e. ⊎-elim (λ m. inl (q .stays k m)) (λ d. inr (e ∙ d)) (p .grows k l)) (q .grows k l);
+  falls = let x = p .falls in let y = q .falls in omega arith;
+}
+
+pub spread-refl : {ws before : List ℕ} {n : ℕ} {q : Queue} → Spread ws ws before before n q q
+spread-refl = record { waits = λ w h. (w, h, follows-refl); kept = rest-refl }
+
+pub spread-trans : {ws vs us a b c : List ℕ} {n : ℕ} {o p q : Queue} → Spread ws vs a b n o p → Spread vs us b c n p q → Spread ws us a c n o q
+spread-trans s t = record {
+  waits = λ w h.
+      let first = s .waits w h in
+      let then = t .waits (first .0) (first .1) in
+      (then .0, then .1, follows-trans (first .2) (then .2));
+  kept = rest-trans (s .kept) (t .kept);
+}
+
+-- a word that grew
+
+module _ {before after : List ℕ} {n i live : ℕ} {r : Bool} (j : Joined before after i live r) (words : Words before) (fits : live < 2 ^ 64) (l : i < n) (room : n ≤ length before) where
+  more-bits : (m : ℕ) → m < 64 * n → has before 0 m ≤ has (joined before i live) 0 m
+  unfolding has
+  more-bits m b = go (ℕ-discrete (0 + m / 64) i)
+    where
+      go : Dec (0 + m / 64 ≡ i) → bit (getD before (0 + m / 64) 0) (m % 64) ≤ bit (getD (joined before i live) (0 + m / 64) 0) (m % 64)
+      go (yes e) =
+          let word : getD (joined before i live) (0 + m / 64) 0 ≡ bitOr (getD before (0 + m / 64) 0) live =
+          ap (λ z. getD (joined before i live) z 0) e ∙ joined-word before i live (omega arith) ∙ ap (λ z. bitOr (getD before z 0) live) (sym e) in
+          let joins = ap (λ z. bit z (m % 64)) word ∙ bit-or (getD before (0 + m / 64) 0) live (m % 64) in
+          omega arith
+      go (no d) = le-of-eq (sym (ap (λ z. bit z (m % 64)) (joined-other before i live (0 + m / 64) d)))
+
+  grew-differs : r ≡ true → differs before (joined before i live) 0 n ≡ true
+  grew-differs e = go (differs before (joined before i live) 0 n) refl
+    where
+      go : (b : Bool) → differs before (joined before i live) 0 n ≡ b → b ≡ true
+      go true d = refl
+      go false d =
+          let same : getD (joined before i live) i 0 ≡ getD before i 0 = subst (λ z. getD (joined before i live) z 0 ≡ getD before z 0) (zero-add i) (differs-false before (joined before i live) 0 n d i l) in
+          absurd
+          (eqb-false (bitOr (getD before i 0) live) (getD before i 0) (not-true _ (sym (j .grew) ∙ e)) (sym (joined-word before i live (omega arith)) ∙ same))
+
+  pub grew-falls : r ≡ true → missing after n < missing before n
+  unfolding missing
+  grew-falls e =
+      subst (λ z. 64 * n - members z 0 n < 64 * n - members before 0 n) (sym (j .slice))
+      (let more : members before 0 n < members (joined before i live) 0 n =
+      differs-members before (joined before i live) 0 n words (words-joined before i live words fits) more-bits (grew-differs e) in
+      omega (arith, members-le (joined before i live) 0 n))
+
+-- a word that did not grow
+pub not-grown : {before after : List ℕ} {i live : ℕ} {r : Bool} → Joined before after i live r → r ≡ false → after ≡ before
+unfolding joined
+not-grown {before} {after} {i} {live} j e =
+    let same : bitOr (getD before i 0) live ≡ getD before i 0 = eqb-true _ _ (not-false _ (sym (j .grew) ∙ e)) in
+    j .slice ∙ ap (set before i) same ∙ set-getD before i 0
+
+pub pushed-waits : {ws vs before after : List ℕ} {n i live : ℕ} {q p : Queue} {r : Bool} → Joined before after i live r → r ≡ true → Words before → live < 2 ^ 64 → i < n → n ≤ length before
+    → Enqueued ws vs n q i p → PushedTo ws vs before after n q p i live
+pushed-waits {ws} {vs} {before} {after} {n} {i} {live} {q} {p} j e words fits l room s = record {
+  word = j .slice;
+  spread = record {
+    waits = λ w h. (
+      join w i,
+      s .waits w h,
+      record {
+        stays = λ k m. join-keeps w i m;
+        comes = λ k m. ⊎-elim (λ x. inl x) (λ x. inr (rw x l)) (join-cases w i m);
+        grows = λ k b. grown w k (ℕ-discrete k i);
+        falls = omega (arith, join-length w i, grew-falls j words fits l room e);
+      },
+    );
+    kept = s .kept;
+  };
+}
+  where
+    grown : (w : List ℕ) (k : ℕ) → Dec (k ≡ i) → In k (join w i) ⊎ (getD after k 0 ≡ getD before k 0)
+    grown w k (yes d) = inl (subst (λ z. In z (join w i)) (sym d) (join-adds w i))
+    grown w k (no d) = inr (ap (λ z. getD z k 0) (j .slice) ∙ joined-other before i live k d)
+
+pub pushed-same : {ws before after : List ℕ} {n i live : ℕ} {q : Queue} {r : Bool} → Joined before after i live r → r ≡ false → PushedTo ws ws before after n q q i live
+pushed-same {ws} {before} {after} {n} {i} {live} {q} j e = record {
+  word = j .slice;
+  spread = subst (λ z. Spread ws ws before z n q q) (sym (not-grown j e)) spread-refl;
+}

@@ -1,0 +1,4 @@
+pub mod Predecessors
+pub mod Spread
+pub mod Solving
+pub mod LiveNames

@@ -1,0 +1,131 @@
+// Live names, backward over the listed graph: what is live at a statement's start is pushed to its predecessors.
+ghost use mathlib.Core.List.{List, []};
+ghost use Prim.Native.Nat.{ℕ, _<_, _≤_};
+ghost use lib.ListN.{length};
+ghost use Rattle.flow.specs.Format.{flowOf};
+ghost use Rattle.statements.specs.Layout.{visitedAt};
+ghost use Rattle.statements.specs.Ready.{Ready};
+ghost use Rattle.solve.specs.Waiting.{Waits};
+ghost use Rattle.live.specs.Predecessors.{Column, Noted, Predecessors};
+ghost use Rattle.live.specs.Spread.{PushedTo, PushedLive};
+ghost use Rattle.live.specs.Solving.{Held, Visited};
+ghost use Rattle.live.specs.LiveNames.{Blank, Begun, LiveNames};
+use solve::Queue;
+use solve::ring;
+use statements::fields;
+use statements::layout;
+
+// Row j of the matrix gets i as a predecessor, for each successor j of i.
+fn note_predecessors(file: &[u8], work: &mut [u64], n: usize, i: usize)
+    requires { ⌜ Ready (now file) (now work) n × (i < n) × Column (now work) n i [] ⌝ }
+    ensures { λ _. ⌜ Noted (flowOf (now (file .entry))) (now (work .entry)) (now (work .exit)) n i ⌝ }
+{
+    let count = fields::successor_count(file, work, n, i);
+    let mut k = 0;
+    while k < count {
+        let j = fields::successor(file, work, n, i, k);
+        words::insert(work, layout::row(n, j.0), i);
+        k += 1;
+    }
+}
+
+// A set joined to the live-out of i; if that grew, i waits.
+fn push_to(
+    work: &mut [u64],
+    live_out: &mut [u64],
+    n: usize,
+    queue: Queue,
+    i: usize,
+    live: u64,
+) -> Queue
+    requires { ⌜ (n ≤ 2048) × (visitedAt n ≤ length (now work)) × (n ≤ length (now «live_out»)) × (i < n) × ((w : List ℕ) × Waits (now work) n queue w) ⌝ }
+    ensures { λ r. ⌜ PushedTo (now (work .entry)) (now (work .exit)) (now («live_out» .entry)) (now («live_out» .exit)) n queue r i live ⌝ }
+{
+    if words::union_word(live_out, i, live) {
+        return ring::enqueue(work, n, queue, i);
+    }
+    queue
+}
+
+// What is live at j's start is live after each predecessor.
+fn push_live(
+    work: &mut [u64],
+    live_out: &mut [u64],
+    n: usize,
+    start: Queue,
+    j: usize,
+    live: u64,
+) -> Queue
+    requires { ⌜ (n ≤ 2048) × (visitedAt n ≤ length (now work)) × (n ≤ length (now «live_out»)) × (j < n) × ((w : List ℕ) × Waits (now work) n start w) ⌝ }
+    ensures { λ r. ⌜ PushedLive (now (work .entry)) (now (work .exit)) (now («live_out» .entry)) (now («live_out» .exit)) n start r j live ⌝ }
+{
+    let row = layout::row(n, j);
+    let mut queue = start;
+    let mut i = words::next(work, row, 0, n);
+    while i < n {
+        queue = push_to(work, live_out, n, queue, i, live);
+        i = words::next(work, row, i + 1, n);
+    }
+    queue
+}
+
+// The front is taken: its live-in follows from its live-out, and goes to its predecessors.
+fn visit(
+    file: &[u8],
+    work: &mut [u64],
+    live_in: &mut [u64],
+    live_out: &mut [u64],
+    n: usize,
+    r: Queue,
+) -> Queue
+    requires { ⌜ Ready (now file) (now work) n × (n ≤ length (now «live_in»)) × (n ≤ length (now «live_out»)) × Predecessors (flowOf (now file)) (now work) n × Held (flowOf (now file)) n (now work) (now «live_in») (now «live_out») r × (0 < r .len) ⌝ }
+    ensures { λ q. ⌜ Visited (flowOf (now (file .entry))) n (now (work .entry)) (now (work .exit)) (now («live_in» .entry)) (now («live_in» .exit)) (now («live_out» .entry)) (now («live_out» .exit)) r q ⌝ }
+{
+    let j = ring::take(work, n, r);
+    let queue = ring::rest(n, r);
+    let reads = fields::read(file, work, n, j);
+    let writes = fields::written(file, work, n, j);
+    let live = reads | words::difference(live_out[j], writes);
+    live_in[j] = live;
+    push_live(work, live_out, n, queue, j, live)
+}
+
+// The last statement waits first: most walks go forward, so their sets are complete before they are asked for.
+fn begin(
+    file: &[u8],
+    work: &mut [u64],
+    live_in: &mut [u64],
+    live_out: &mut [u64],
+    n: usize,
+) -> Queue
+    requires { ⌜ Blank (now file) (now work) (now «live_in») (now «live_out») n ⌝ }
+    ensures { λ q. ⌜ Begun (flowOf (now (file .entry))) n (now (work .entry)) (now (work .exit)) (now («live_in» .entry)) (now («live_in» .exit)) (now («live_out» .entry)) (now («live_out» .exit)) q ⌝ }
+{
+    let mut queue = Queue { head: 0, len: 0 };
+    let mut i = n;
+    while 0 < i {
+        i -= 1;
+        live_in[i] = 0;
+        live_out[i] = 0;
+        note_predecessors(file, work, n, i);
+        queue = ring::enqueue(work, n, queue, i);
+    }
+    queue
+}
+
+// Word i of live_in and of live_out is the set of names that are live before and after statement i.
+pub fn live_names(
+    file: &[u8],
+    work: &mut [u64],
+    live_in: &mut [u64],
+    live_out: &mut [u64],
+    n: usize,
+)
+    requires { ⌜ Blank (now file) (now work) (now «live_in») (now «live_out») n ⌝ }
+    ensures { λ _. ⌜ LiveNames (flowOf (now (file .entry))) n (now (work .entry)) (now (work .exit)) (now («live_in» .entry)) (now («live_in» .exit)) (now («live_out» .entry)) (now («live_out» .exit)) ⌝ }
+{
+    let mut queue = begin(file, work, live_in, live_out, n);
+    while 0 < queue.len {
+        queue = visit(file, work, live_in, live_out, n, queue);
+    }
+}

@@ -1,0 +1,71 @@
+-- What a fit file gives its readers: its header is within the limits, each statement's record is fit, and its FL records lie within the file,
+-- rise strictly and name statements. By the checks of each of its parts, which all hold.
+use Prim.Native.Nat.{ℕ, _+_, _≤_, _<_}
+use native.Mathlib.Omega.{arith}
+use mathlib.Core.Bool.{Bool, true, false, _||_}
+use mathlib.Core.List.{List, _++_}
+use mathlib.Core.Path.{_≡_}
+use lib.ListN.{length}
+use lib.Dec.{eqb, ltb}
+use borrow.Author.Tests.{leb-true, ltb-true, ne-eqb}
+use Rattle.flow.specs.Limits.{maxFile, maxStatements, maxArrays, maxNames}
+use Rattle.flow.specs.Format.{verdict, fit, each, headerChecks, statementChecks, lineRecordChecks, endChecks, fileChecks, recordChecks, recordPlace, statementsOf, arraysOf, namesOf, entryOf, lineCount, linePlace, lineNumber, lineFirst}
+use Rattle.flow.specs.Fields.{FitFile, FitRecord}
+use Rattle.records.proofs.Rising.{Rising, rising, risesAt, or-second}
+use Rattle.flow.proofs.Verdicts.{all-hold, fit-left, fit-right, fit-at}
+
+-- the header is within the limits
+
+pub record Limited (s : List ℕ) : Type 0 where
+  pub file : length s ≤ maxFile
+  pub statements : statementsOf s ≤ maxStatements
+  pub arrays : arraysOf s ≤ maxArrays
+  pub names : namesOf s ≤ maxNames
+  pub entry : 0 < statementsOf s → entryOf s < statementsOf s
+
+pub limited : {s : List ℕ} → FitFile s → Limited s
+unfolding fileChecks headerChecks
+limited {s} h =
+    let lines = each (lineCount s) (lineRecordChecks s) in
+    let header = all-hold (headerChecks s) (fit-left (headerChecks s) (statementChecks s ++ (lines ++ endChecks s)) (h .checked)) in
+    record {
+      file = omega (arith, leb-true);
+      statements = omega (arith, leb-true);
+      arrays = omega (arith, leb-true);
+      names = omega (arith, leb-true);
+      entry = λ l. ltb-true _ _
+          (or-second (eqb (statementsOf s) 0) _ (ne-eqb (statementsOf s) 0 (λ e. omega arith)) (header .1 .1 .1 .1 .1 .1 .1 .1 .1 .0));
+    }
+
+after-header : {s : List ℕ} → FitFile s → verdict (statementChecks s ++ (each (lineCount s) (lineRecordChecks s) ++ endChecks s)) ≡ fit
+unfolding fileChecks
+after-header {s} h =
+    fit-right (headerChecks s) (statementChecks s ++ (each (lineCount s) (lineRecordChecks s) ++ endChecks s)) (h .checked)
+
+-- each statement's record is fit
+pub record-fit : {s : List ℕ} → FitFile s → (i : ℕ) → i < statementsOf s → FitRecord s (recordPlace s i)
+unfolding statementChecks
+record-fit {s} h i l =
+    let lines = each (lineCount s) (lineRecordChecks s) in
+    let statements = fit-left (statementChecks s) (lines ++ endChecks s) (after-header h) in
+    record { checked = fit-at (statementsOf s) (λ j. recordChecks s (recordPlace s j)) statements i l }
+
+-- the FL records
+
+line-fit : {s : List ℕ} → FitFile s → (k : ℕ) → k < lineCount s → verdict (lineRecordChecks s k) ≡ fit
+line-fit {s} h k l =
+    let lines = each (lineCount s) (lineRecordChecks s) in
+    let after-statements = fit-right (statementChecks s) (lines ++ endChecks s) (after-header h) in
+    fit-at (lineCount s) (lineRecordChecks s) (fit-left lines (endChecks s) after-statements) k l
+
+pub line-fits : {s : List ℕ} → FitFile s → (k : ℕ) → k < lineCount s → linePlace s k + 6 ≤ length s
+unfolding lineRecordChecks
+line-fits {s} h k l = let checks = all-hold (lineRecordChecks s k) (line-fit h k l) in omega (arith, leb-true)
+
+pub line-first : {s : List ℕ} → FitFile s → (k : ℕ) → k < lineCount s → lineFirst s k < statementsOf s
+unfolding lineRecordChecks
+line-first {s} h k l = ltb-true _ _ (all-hold (lineRecordChecks s k) (line-fit h k l) .1 .1 .1 .0)
+
+pub lines-rise : {s : List ℕ} → FitFile s → Rising (lineNumber s) (lineCount s)
+unfolding lineRecordChecks
+lines-rise {s} h = rising (lineNumber s) (lineCount s) (λ k l. all-hold (lineRecordChecks s k) (line-fit h k l) .1 .0)

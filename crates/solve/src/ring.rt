@@ -1,0 +1,52 @@
+// The queue of waiting numbers, a ring in the work area, with a word for each number that says whether it waits.
+ghost use mathlib.Core.Path.{_≡_};
+ghost use mathlib.Core.List.{List};
+ghost use Prim.Native.Nat.{ℕ, _*_, _<_, _≤_};
+ghost use lib.ListN.{length};
+ghost use Rattle.statements.specs.Layout.{visitedAt};
+ghost use Rattle.solve.specs.Waiting.{wrapped, Waits, Enqueued, restOf, Taken};
+use crate::Queue;
+use statements::layout;
+
+fn wrap(i: usize, capacity: usize) -> usize
+    ensures { λ r. ⌜ r ≡ wrapped capacity i ⌝ }
+{
+    if i < capacity { i } else { i - capacity }
+}
+
+// d joins the back unless it waits.
+pub fn enqueue(work: &mut [u64], n: usize, queue: Queue, d: usize) -> Queue
+    requires { ⌜ (n ≤ 2048) × (visitedAt n ≤ length (now work)) × (d < 2 * n) × ((w : List ℕ) × Waits (now work) n queue w) ⌝ }
+    ensures { λ r. ⌜ Enqueued (now (work .entry)) (now (work .exit)) n queue d r ⌝ }
+{
+    if work[layout::waiting(n) + d] == 1 {
+        return queue;
+    }
+    let head = queue.head;
+    let len = queue.len;
+    work[layout::waiting(n) + d] = 1;
+    work[layout::queue(n) + wrap(head + len, 2 * n)] = d as u64;
+    Queue { head, len: len + 1 }
+}
+
+// The front, which waits no more.
+pub fn take(work: &mut [u64], n: usize, queue: Queue) -> usize
+    requires { ⌜ (n ≤ 2048) × (visitedAt n ≤ length (now work)) × (0 < queue .len) × ((w : List ℕ) × Waits (now work) n queue w) ⌝ }
+    ensures { λ r. ⌜ Taken (now (work .entry)) (now (work .exit)) n queue r ⌝ }
+{
+    let head = queue.head;
+    let d = work[layout::queue(n) + head] as usize;
+    work[layout::waiting(n) + d] = 0;
+    d
+}
+
+// What waits behind the front.
+pub fn rest(n: usize, queue: Queue) -> Queue
+    requires { ⌜ (n ≤ 2048) × (0 < queue .len) × (queue .head < 2 * n) ⌝ }
+    ensures { λ r. ⌜ r ≡ restOf n queue ⌝ }
+{
+    Queue {
+        head: wrap(queue.head + 1, 2 * n),
+        len: queue.len - 1,
+    }
+}

@@ -1,0 +1,104 @@
+-- A statement's record is found by its number: the noted place is that of a fit record, and what it says is the statement of the flow.
+-- By what a fit file gives its readers; the tests of a kind go by its number.
+use Prim.Native.Nat.{ℕ, zero, suc, _<_, _≤_}
+use native.Mathlib.Omega.{arith}
+use mathlib.Core.Bool.{Bool, true, false, _||_}
+use mathlib.Core.List.{List, [], _∷_}
+use mathlib.Core.Option.{Option}
+use mathlib.Core.Path.{_≡_, refl, sym, ap, _∙_, subst}
+use borrow.Author.Tests.{lt-ltb}
+use lib.Dec.{eqb, ltb}
+use lib.ListN.{length, getD}
+use Rattle.flow.specs.Limits.{maxKind}
+use Rattle.flow.specs.Flow.{Kind, Item, statement, items}
+use Rattle.flow.specs.Format.{flowOf, tabulate, recordPlace, statementsOf, kindAt, kindOf, byData, plainKind, successorCount, successorAt, referenceCount, referenceAt, writtenAt, readAt, itemAt}
+use Rattle.flow.specs.Fields.{FitRecord, itemCount, callLineCount, callLineAt, continuationIn}
+use Rattle.records.proofs.Files.{record-fit}
+use Rattle.records.proofs.Values.{in-range}
+use Rattle.records.proofs.Statements.{Says, says}
+use Rattle.records.proofs.Tabulated.{length-tabulate, getD-tabulate}
+use Rattle.theory.specs.Body.{kind, successors, references, callLines, continuationOf, isReturn, counts, wipes}
+use Rattle.theory.specs.Runs.{empties}
+use Rattle.statements.specs.Ready.{Ready}
+
+-- the elements of l are f 0, f 1, .. of n elements
+pub record Elements {A : Type 0} (l : List A) (n : ℕ) (f : ℕ → A) : Type 0 where
+  pub list : l ≡ tabulate n f
+  pub count : length l ≡ n
+  pub at : (k : ℕ) (d : A) → k < length l → getD l k d ≡ f k
+
+elements : {A : Type 0} {l : List A} (n : ℕ) (f : ℕ → A) → l ≡ tabulate n f → Elements l n f
+elements n f e = record {
+  list = e;
+  count = ap length e ∙ length-tabulate f n;
+  at = λ k d b. ap (λ x. getD x k d) e ∙ getD-tabulate f n k d (subst (λ (m : ℕ). k < m) (ap length e ∙ length-tabulate f n) b);
+}
+
+-- the tests of a kind go by its number
+
+record Tests (k : ℕ) (x : Kind) : Type 0 where
+  return : eqb k 1 ≡ isReturn x
+  empties : (eqb k 2 || eqb k 3) ≡ empties x
+
+module _ (is : List Item) (l : ℕ) (c : Option ℕ) (ls : List ℕ) (c′ : Option ℕ) where
+  tests : (k : ℕ) → k ≤ maxKind → Tests k (byData k (Kind.dim is) (Kind.gosub l c) (Kind.onGosub ls c′) (plainKind k))
+  tests zero h = record { return = refl; empties = refl }
+  tests (suc zero) h = record { return = refl; empties = refl }
+  tests (suc (suc zero)) h = record { return = refl; empties = refl }
+  tests (suc (suc (suc zero))) h = record { return = refl; empties = refl }
+  tests (suc (suc (suc (suc zero)))) h = record { return = refl; empties = refl }
+  tests (suc (suc (suc (suc (suc zero))))) h = record { return = refl; empties = refl }
+  tests (suc (suc (suc (suc (suc (suc zero)))))) h = record { return = refl; empties = refl }
+  tests (suc (suc (suc (suc (suc (suc (suc k))))))) h = absurd (omega arith)
+
+kind-tests : (s : List ℕ) (p : ℕ) → kindAt s p ≤ maxKind → Tests (kindAt s p) (kindOf s p)
+unfolding kindOf
+kind-tests s p h = tests _ _ _ _ _ (kindAt s p) h
+
+counts-items : (is : List Item) → counts is ≡ ltb 0 (length is)
+counts-items [] = refl
+counts-items (x ∷ xs) = sym (lt-ltb 0 (length (x ∷ xs)) (omega arith))
+
+-- a DIM that counts has items
+pub wipes-is : (x : Kind) → wipes x ≡ (empties x || ltb 0 (length (items x)))
+wipes-is Kind.other = refl
+wipes-is Kind.return = refl
+wipes-is Kind.clr = refl
+wipes-is Kind.run = refl
+wipes-is (Kind.dim is) = counts-items is
+wipes-is (Kind.gosub l c) = refl
+wipes-is (Kind.onGosub ls c) = refl
+
+-- the record at p is fit, and what it says is statement i of the flow
+pub record RecordOf (s : List ℕ) (i p : ℕ) : Type 0 where
+  pub fit : FitRecord s p
+  pub return : eqb (kindAt s p) 1 ≡ isReturn (kind (flowOf s) i)
+  pub empties : (eqb (kindAt s p) 2 || eqb (kindAt s p) 3) ≡ empties (kind (flowOf s) i)
+  pub successors : Elements (successors (flowOf s) i) (successorCount s p) (successorAt s p)
+  pub references : Elements (references (flowOf s) i) (referenceCount s p) (referenceAt s p)
+  pub written : statement (flowOf s) i .written ≡ writtenAt s p
+  pub read : statement (flowOf s) i .read ≡ readAt s p
+  pub items : Elements (items (kind (flowOf s) i)) (itemCount s p) (itemAt s p)
+  pub lines : Elements (callLines (kind (flowOf s) i)) (callLineCount s p) (callLineAt s p)
+  pub continuation : continuationOf (kind (flowOf s) i) ≡ continuationIn s p
+
+record-said : {s : List ℕ} {i p : ℕ} → FitRecord s p → Says s p (statement (flowOf s) i) → RecordOf s i p
+record-said {s} {i} {p} h t =
+    let number = kind-tests s p (in-range h .kind) in
+    record {
+      fit = h;
+      return = number .return ∙ ap isReturn (sym (t .kind));
+      empties = number .empties ∙ ap empties (sym (t .kind));
+      successors = elements (successorCount s p) (successorAt s p) (t .successors);
+      references = elements (referenceCount s p) (referenceAt s p) (t .references);
+      written = t .written;
+      read = t .read;
+      items = elements (itemCount s p) (itemAt s p) (t .items);
+      lines = elements (callLineCount s p) (callLineAt s p) (t .lines);
+      continuation = t .continuation;
+    }
+
+pub record-of : {s ws : List ℕ} {n i p : ℕ} → Ready s ws n → i < n → p ≡ recordPlace s i → RecordOf s i p
+record-of {s} {ws} {n} {i} {p} r l e =
+    let within : i < statementsOf s = subst (λ (m : ℕ). i < m) (r .count) l in
+    subst (λ (q : ℕ). RecordOf s i q) (sym e) (record-said (record-fit (r .fit) i within) (says s i within))

@@ -1,0 +1,103 @@
+-- What a phase keeps: a change of words within a run, one after another, and a wider run. So the noted places stay, and so do rows outside the run.
+-- By the words that a change leaves. Assumes nothing.
+use Prim.Native.Nat.{ℕ, _+_, _/_, _≤_, _<_}
+use native.Mathlib.Omega.{arith}
+use native.Mathlib.Decide.{decLt}
+use mathlib.Core.List.{List}
+use mathlib.Core.Path.{_≡_, refl, _∙_}
+use lib.ListN.{length, getD, set, length-set}
+use lib.Seq.{getD-set-other}
+use Rattle.words.specs.Row.{has}
+use Rattle.words.specs.Change.{joined, inserted, rewritten, unioned, cleared}
+use Rattle.words.specs.Byte.{byteSet}
+use Rattle.words.proofs.Row.{has-cong}
+use Rattle.words.proofs.Rewritten.{length-rewritten, rewritten-other}
+use Rattle.flow.specs.Limits.{maxStatements}
+use Rattle.records.proofs.Files.{limited}
+use Rattle.statements.specs.Layout.{areaEnd}
+use Rattle.statements.specs.Ready.{Ready, Keeps}
+use Rattle.statements.proofs.WorkArea.{area-fits}
+
+pub keeps-refl : {lo hi : ℕ} {ws : List ℕ} → Keeps lo hi ws ws
+keeps-refl = record { size = refl; below = λ x l. refl; above = λ x l. refl }
+
+pub keeps-trans : {lo hi : ℕ} {ws vs us : List ℕ} → Keeps lo hi ws vs → Keeps lo hi vs us → Keeps lo hi ws us
+keeps-trans a b = record {
+  size = b .size ∙ a .size;
+  below = λ x l. b .below x l ∙ a .below x l;
+  above = λ x l. b .above x l ∙ a .above x l;
+}
+
+pub keeps-widen : {lo hi lo′ hi′ : ℕ} {ws vs : List ℕ} → lo′ ≤ lo → hi ≤ hi′ → Keeps lo hi ws vs → Keeps lo′ hi′ ws vs
+keeps-widen l h k = record {
+  size = k .size;
+  below = λ x m. k .below x (omega arith);
+  above = λ x m. k .above x (omega arith);
+}
+
+-- a part of the area that is kept, read by its words
+module _ {lo hi : ℕ} {ws vs : List ℕ} (k : Keeps lo hi ws vs) where
+  pub keeps-word : (x : ℕ) → (lo ≤ x → x < hi → ⊥) → getD vs x 0 ≡ getD ws x 0
+  keeps-word x out = go (decLt x lo) (decLt x hi)
+    where
+      go : Dec (x < lo) → Dec (x < hi) → getD vs x 0 ≡ getD ws x 0
+      go (yes l) h = k .below x l
+      go (no l) (yes h) = absurd (out (omega (arith, l)) h)
+      go (no l) (no h) = k .above x (omega (arith, h))
+
+  pub keeps-has : (base i : ℕ) → (lo ≤ base + i / 64 → base + i / 64 < hi → ⊥) → has vs base i ≡ has ws base i
+  keeps-has base i out = has-cong vs ws base i (keeps-word (base + i / 64) out)
+
+-- the words' changes
+
+module _ (ws : List ℕ) {lo hi : ℕ} where
+  pub keeps-set : (x v : ℕ) → lo ≤ x → x < hi → Keeps lo hi ws (set ws x v)
+  keeps-set x v l h = record {
+    size = length-set ws x v;
+    below = λ y m. getD-set-other ws x y v 0 (λ e. omega arith);
+    above = λ y m. getD-set-other ws x y v 0 (λ e. omega arith);
+  }
+
+  pub keeps-joined : (x bits : ℕ) → lo ≤ x → x < hi → Keeps lo hi ws (joined ws x bits)
+  unfolding joined
+  keeps-joined x bits l h = keeps-set x _ l h
+
+  pub keeps-inserted : (base i : ℕ) → lo ≤ base → base + i / 64 < hi → Keeps lo hi ws (inserted ws base i)
+  unfolding inserted
+  keeps-inserted base i l h = keeps-joined (base + i / 64) _ (omega arith) h
+
+  pub keeps-byte : (base k v : ℕ) → lo ≤ base → base + k / 8 < hi → Keeps lo hi ws (byteSet ws base k v)
+  unfolding byteSet
+  keeps-byte base k v l h = keeps-set (base + k / 8) _ (omega arith) h
+
+  pub keeps-rewritten : (f : List ℕ → ℕ → ℕ) (base width : ℕ) → lo ≤ base → base + width ≤ hi → Keeps lo hi ws (rewritten f ws base width)
+  keeps-rewritten f base width l h = record {
+    size = length-rewritten f ws base width;
+    below = λ x m. rewritten-other f ws base width x (λ k b e. omega arith);
+    above = λ x m. rewritten-other f ws base width x (λ k b e. omega arith);
+  }
+
+  pub keeps-unioned : (to from width : ℕ) → lo ≤ to → to + width ≤ hi → Keeps lo hi ws (unioned ws to from width)
+  unfolding unioned
+  keeps-unioned to from width l h = keeps-rewritten _ to width l h
+
+  pub keeps-cleared : (base width : ℕ) → lo ≤ base → base + width ≤ hi → Keeps lo hi ws (cleared ws base width)
+  unfolding cleared
+  keeps-cleared base width l h = keeps-rewritten _ base width l h
+
+-- a phase that writes above the noted places keeps them
+pub ready-keeps : {s ws vs : List ℕ} {n lo hi : ℕ} → Ready s ws n → Keeps lo hi ws vs → n ≤ lo → Ready s vs n
+ready-keeps r k l = record {
+  fit = r .fit;
+  count = r .count;
+  room = let room = r .room in let size = k .size in omega arith;
+  offsets = λ i m. k .below _ (omega arith) ∙ r .offsets i m;
+}
+
+-- a fit file has few enough statements for the layout, and their parts lie within the area
+
+pub ready-most : {s ws : List ℕ} {n : ℕ} → Ready s ws n → n ≤ maxStatements
+ready-most {s} r = let most = limited (r .fit) .statements in let count = r .count in omega arith
+
+pub ready-room : {s ws : List ℕ} {n : ℕ} → Ready s ws n → 0 < n → areaEnd n ≤ length ws
+ready-room r p = let room = r .room in omega (arith, area-fits p (ready-most r))

@@ -1,0 +1,5 @@
+pub mod WorkArea
+pub mod Keeps
+pub mod ByNumber
+pub mod MembersWord
+pub mod WellFormed

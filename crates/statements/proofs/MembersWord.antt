@@ -1,0 +1,75 @@
+-- The references of a statement as a word: bit a of it is 1 when array a is among them.
+-- By induction on the number of elements; each joins one bit.
+use Prim.Native.Nat.{ℕ, zero, suc, _/_, _%_, _^_, _<_, max}
+use native.Mathlib.Decide.{ℕ-discrete}
+use native.Mathlib.Omega.{arith}
+use mathlib.Core.Bool.{Bool, true, false, cond, _||_}
+use mathlib.Core.List.{List, [], _∷_, _++_}
+use mathlib.Core.Path.{_≡_, refl, sym, ap, ap₂, _∙_}
+use borrow.Author.Tests.{eq-eqb, ne-eqb, eqb-true}
+use lib.Bits.{or-lt}
+use lib.Dec.{eqb}
+use lib.Pow.{pow-pos, pow-lt}
+use Rattle.words.specs.Row.{bit}
+use Rattle.words.proofs.Bit.{bit-of-zero, bit-or, bit-pow-same, bit-pow-other}
+use Rattle.flow.specs.Format.{tabulate}
+use Rattle.flow.specs.Fields.{bitIn, wordOf}
+use Rattle.theory.specs.Lists.{has}
+use Rattle.statements.specs.Ready.{MembersWord}
+
+or-swap : (b : Bool) → (b || false) ≡ b
+or-swap true = refl
+or-swap false = refl
+
+or-regroup : (a b c : Bool) → (a || (b || c)) ≡ ((a || b) || c)
+or-regroup true b c = refl
+or-regroup false b c = refl
+
+has-last : (a x : ℕ) (l : List ℕ) → has a (l ++ (x ∷ [])) ≡ (has a l || eqb a x)
+unfolding has
+has-last a x [] = or-swap (eqb a x)
+has-last a x (y ∷ l) = ap (λ t. eqb a y || t) (has-last a x l) ∙ or-regroup (eqb a y) (has a l) (eqb a x)
+
+bit-in-lt : (x : ℕ) → bitIn 0 x < 2 ^ 64
+bit-in-lt x = go (eqb (x / 64) 0)
+  where
+    go : (low : Bool) → cond low (2 ^ (x % 64)) 0 < 2 ^ 64
+    go true = pow-lt {j = 64} (omega arith)
+    go false = pow-pos 64
+
+bit-in : (a x : ℕ) → a < 64 → bit (bitIn 0 x) a ≡ cond (eqb a x) 1 0
+bit-in a x l = go (ℕ-discrete a x)
+  where
+    other : (a ≡ x → ⊥) → (low : Bool) → eqb (x / 64) 0 ≡ low → bit (cond low (2 ^ (x % 64)) 0) a ≡ 0
+    other d true e = let low : x / 64 ≡ 0 = eqb-true (x / 64) 0 e in bit-pow-other (x % 64) a (omega (arith, d))
+    other d false e = bit-of-zero a
+
+    go : Dec (a ≡ x) → bit (bitIn 0 x) a ≡ cond (eqb a x) 1 0
+    go (yes e) =
+        let low : x / 64 ≡ 0 = omega arith in
+        let place : a ≡ x % 64 = omega arith in
+        rw (eq-eqb a x e, eq-eqb (x / 64) 0 low) (ap (bit (2 ^ (x % 64))) place ∙ bit-pow-same (x % 64))
+    go (no d) = rw (ne-eqb a x d) (other d (eqb (x / 64) 0) refl)
+
+max-or : (b c : Bool) → max (cond b 1 0) (cond c 1 0) ≡ cond (b || c) 1 0
+max-or true true = refl
+max-or true false = refl
+max-or false true = refl
+max-or false false = refl
+
+module _ (f : ℕ → ℕ) where
+  word-lt : (n : ℕ) → wordOf n f 0 < 2 ^ 64
+  unfolding wordOf
+  word-lt zero = pow-pos 64
+  word-lt (suc n) = or-lt 64 (wordOf n f 0) (bitIn 0 (f n)) (word-lt n) (bit-in-lt (f n))
+
+  word-bit : (n a : ℕ) → a < 64 → bit (wordOf n f 0) a ≡ cond (has a (tabulate n f)) 1 0
+  unfolding wordOf tabulate has
+  word-bit zero a l = bit-of-zero a
+  word-bit (suc n) a l =
+      bit-or (wordOf n f 0) (bitIn 0 (f n)) a ∙ ap₂ max (word-bit n a l) (bit-in a (f n) l)
+      ∙ max-or (has a (tabulate n f)) (eqb a (f n))
+      ∙ ap (λ t. cond t 1 0) (sym (has-last a (f n) (tabulate n f)))
+
+  pub members-word : (n : ℕ) → MembersWord (wordOf n f 0) (λ a. has a (tabulate n f))
+  members-word n = record { word = word-lt n; member = word-bit n }

@@ -1,0 +1,82 @@
+-- The parts of the work area: rows of the matrix lie apart and within it, a row has a word for each of its numbers, and all fits into 64 × n words.
+-- By the bound on n, which makes a row at most 32 words.
+use Prim.Native.Nat.{ℕ, suc, _+_, _*_, _/_, _≤_, _<_}
+use native.Mathlib.Omega.{arith}
+use native.Mathlib.Decide.{decLt}
+use native.Mathlib.Nat.{le-refl, mul-suc, mul-le-mul-left, mul-le-mul-right}
+use mathlib.Core.List.{List}
+use mathlib.Core.Logic.{_≢_}
+use mathlib.Core.Path.{_≡_}
+use lib.ListN.{getD}
+use Rattle.flow.specs.Limits.{maxStatements, workWords}
+use Rattle.words.specs.Row.{has}
+use Rattle.words.specs.Change.{inserted}
+use Rattle.words.proofs.Row.{has-cong}
+use Rattle.words.proofs.Inserted.{insert-else}
+use Rattle.statements.specs.Layout.{rowWords, rowAt, matrixAt, queueAt, areaEnd}
+
+-- Words of a row
+
+-- the word of a member lies in its row
+pub member-word : {n i : ℕ} → i < n → i / 64 < rowWords n
+unfolding rowWords
+member-word l = omega arith
+
+pub row-holds : (n : ℕ) → n ≤ 64 * rowWords n
+unfolding rowWords
+row-holds n = omega arith
+
+pub row-words-le : (n : ℕ) → rowWords n ≤ n
+unfolding rowWords
+row-words-le n = omega arith
+
+pub row-words-most : {n : ℕ} → n ≤ maxStatements → rowWords n ≤ 32
+unfolding rowWords
+row-words-most h = omega arith
+
+-- Rows of the matrix
+
+pub row-from : (n i : ℕ) → matrixAt n ≤ rowAt n i
+unfolding rowAt
+row-from n i = omega arith
+
+pub rows-apart : (n : ℕ) {i j : ℕ} → i < j → rowAt n i + rowWords n ≤ rowAt n j
+unfolding rowAt
+rows-apart n {i} {j} l = omega (arith, mul-suc (rowWords n) i, mul-le-mul-left (rowWords n) l)
+
+-- a row ends where the queue begins, or before
+pub row-fits : (n : ℕ) {i : ℕ} → i < n → rowAt n i + rowWords n ≤ queueAt n
+row-fits n l = rows-apart n l
+
+pub row-below : {n i : ℕ} → n ≤ maxStatements → i ≤ n → rowAt n i ≤ 37 * n
+unfolding rowAt
+row-below {n} {i} h l =
+    omega (arith, mul-le-mul-right i (row-words-most h), mul-le-mul-left 32 l)
+
+one-word : {n : ℕ} → n < 8 → rowAt n n ≤ 6 * n
+unfolding rowAt rowWords
+one-word {n} l = let one : (n + 63) / 64 ≤ 1 = omega arith in omega (arith, mul-le-mul-right n one)
+
+-- of a flow with statements, the parts fit into the work area that refusal 10 asks for
+pub area-fits : {n : ℕ} → 0 < n → n ≤ maxStatements → areaEnd n ≤ workWords n
+area-fits {n} p h = go (decLt n 8)
+  where
+    go : Dec (n < 8) → areaEnd n ≤ workWords n
+    go (yes l) = omega (arith, one-word l)
+    go (no l) = omega (arith, l, row-below h (le-refl n))
+
+-- Members of rows
+
+-- a row has what the words that hold it have
+pub same-row : (ws vs : List ℕ) (base width i : ℕ) → i < 64 * width
+    → ((x : ℕ) → base ≤ x → x < base + width → getD vs x 0 ≡ getD ws x 0) → has vs base i ≡ has ws base i
+same-row ws vs base width i l h = has-cong vs ws base i (h (base + i / 64) (omega arith) (omega arith))
+
+-- a number inserted into a row of the matrix leaves the other rows
+pub insert-row : (ws : List ℕ) {n i j a b : ℕ} → j ≢ i → a < n → b < n
+    → has (inserted ws (rowAt n i) a) (rowAt n j) b ≡ has ws (rowAt n j) b
+insert-row ws {n} {i} {j} {a} {b} d la lb = insert-else ws (rowAt n i) a (rowAt n j) b (go (decLt i j))
+  where
+    go : Dec (i < j) → rowAt n j + b / 64 ≢ rowAt n i + a / 64
+    go (yes l) e = omega (arith, rows-apart n l, member-word la)
+    go (no l) e = let less : j < i = omega (arith, l, d) in omega (arith, rows-apart n less, member-word lb)

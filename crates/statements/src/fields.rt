@@ -1,0 +1,145 @@
+// The fields of statement i, each equal to the field of the flow that the file stands for.
+ghost use mathlib.Core.Path.{_≡_};
+ghost use mathlib.Core.Bool.{Bool};
+ghost use Prim.Native.Nat.{_<_, _≤_};
+ghost use lib.ListN.{length, getD};
+ghost use Rattle.flow.specs.Flow.{statement, enters, items};
+ghost use Rattle.flow.specs.Format as format;
+ghost use Rattle.flow.specs.Format.{flowOf, recordPlace};
+ghost use Rattle.flow.specs.Fields.{continuationTo, enteredAt};
+ghost use Rattle.flow.specs.Answers.{headerOf};
+ghost use Rattle.theory.specs.Body as body;
+ghost use Rattle.theory.specs.Body.{kind, successors, references, callLines, continuationOf, isReturn};
+ghost use Rattle.theory.specs.Runs.{empties};
+ghost use Rattle.theory.specs.Lists as lists;
+ghost use Rattle.statements.specs.Ready.{Ready, MembersWord, noItem};
+
+// The place of statement i's record.
+pub fn offset(file: &[u8], work: &[u64], n: usize, i: usize) -> usize
+    requires { ⌜ Ready (now file) (now work) n × (i < n) ⌝ }
+    ensures { λ r. ⌜ r ≡ recordPlace (now (file .entry)) i ⌝ }
+{
+    work[i] as usize
+}
+
+pub fn is_return(file: &[u8], work: &[u64], n: usize, i: usize) -> bool
+    requires { ⌜ Ready (now file) (now work) n × (i < n) ⌝ }
+    ensures { λ r. ⌜ r ≡ isReturn (kind (flowOf (now (file .entry))) i) ⌝ }
+{
+    records::kind(file, offset(file, work, n, i)) == 1
+}
+
+// CLR and RUN: every array becomes NONE.
+pub fn clears(file: &[u8], work: &[u64], n: usize, i: usize) -> bool
+    requires { ⌜ Ready (now file) (now work) n × (i < n) ⌝ }
+    ensures { λ r. ⌜ r ≡ empties (kind (flowOf (now (file .entry))) i) ⌝ }
+{
+    let kind = records::kind(file, offset(file, work, n, i));
+    kind == 2 || kind == 3
+}
+
+// CLR, RUN and a DIM that counts.
+pub fn wipes(file: &[u8], work: &[u64], n: usize, i: usize) -> bool
+    requires { ⌜ Ready (now file) (now work) n × (i < n) ⌝ }
+    ensures { λ r. ⌜ r ≡ body.wipes (kind (flowOf (now (file .entry))) i) ⌝ }
+{
+    if clears(file, work, n, i) {
+        return true;
+    }
+    0 < records::item_count(file, offset(file, work, n, i))
+}
+
+pub fn continuation(file: &[u8], work: &[u64], n: usize, i: usize) -> flow::Continuation
+    requires { ⌜ Ready (now file) (now work) n × (i < n) ⌝ }
+    ensures { λ r. ⌜ r ≡ continuationTo (continuationOf (kind (flowOf (now (file .entry))) i)) ⌝ }
+{
+    records::continuation(file, offset(file, work, n, i))
+}
+
+pub fn successor_count(file: &[u8], work: &[u64], n: usize, i: usize) -> usize
+    requires { ⌜ Ready (now file) (now work) n × (i < n) ⌝ }
+    ensures { λ r. ⌜ r ≡ length (successors (flowOf (now (file .entry))) i) ⌝ }
+{
+    records::successor_count(file, offset(file, work, n, i))
+}
+
+pub fn successor(file: &[u8], work: &[u64], n: usize, i: usize, k: usize) -> flow::StmtId
+    requires { ⌜ Ready (now file) (now work) n × (i < n) × (k < length (successors (flowOf (now file)) i)) ⌝ }
+    ensures { λ r. ⌜ r .0 ≡ getD (successors (flowOf (now (file .entry))) i) k 0 ⌝ }
+{
+    records::successor(file, offset(file, work, n, i), k)
+}
+
+pub fn reference_count(file: &[u8], work: &[u64], n: usize, i: usize) -> usize
+    requires { ⌜ Ready (now file) (now work) n × (i < n) ⌝ }
+    ensures { λ r. ⌜ r ≡ length (references (flowOf (now (file .entry))) i) ⌝ }
+{
+    records::reference_count(file, offset(file, work, n, i))
+}
+
+pub fn reference(file: &[u8], work: &[u64], n: usize, i: usize, k: usize) -> usize
+    requires { ⌜ Ready (now file) (now work) n × (i < n) × (k < length (references (flowOf (now file)) i)) ⌝ }
+    ensures { λ r. ⌜ r ≡ getD (references (flowOf (now (file .entry))) i) k 0 ⌝ }
+{
+    records::reference(file, offset(file, work, n, i), k)
+}
+
+// The references as a set: array a is bit a of the word.
+pub fn references_word(file: &[u8], work: &[u64], n: usize, i: usize) -> u64
+    requires { ⌜ Ready (now file) (now work) n × (i < n) ⌝ }
+    ensures { λ r. ⌜ MembersWord r (λ a. lists.has a (references (flowOf (now (file .entry))) i)) ⌝ }
+{
+    records::references_word(file, offset(file, work, n, i), 0)
+}
+
+pub fn written(file: &[u8], work: &[u64], n: usize, i: usize) -> u64
+    requires { ⌜ Ready (now file) (now work) n × (i < n) ⌝ }
+    ensures { λ r. ⌜ r ≡ statement (flowOf (now (file .entry))) i .written ⌝ }
+{
+    records::written(file, offset(file, work, n, i))
+}
+
+pub fn read(file: &[u8], work: &[u64], n: usize, i: usize) -> u64
+    requires { ⌜ Ready (now file) (now work) n × (i < n) ⌝ }
+    ensures { λ r. ⌜ r ≡ statement (flowOf (now (file .entry))) i .read ⌝ }
+{
+    records::read(file, offset(file, work, n, i))
+}
+
+pub fn item_count(file: &[u8], work: &[u64], n: usize, i: usize) -> usize
+    requires { ⌜ Ready (now file) (now work) n × (i < n) ⌝ }
+    ensures { λ r. ⌜ r ≡ length (items (kind (flowOf (now (file .entry))) i)) ⌝ }
+{
+    records::item_count(file, offset(file, work, n, i))
+}
+
+pub fn item(file: &[u8], work: &[u64], n: usize, i: usize, k: usize) -> flow::Item
+    requires { ⌜ Ready (now file) (now work) n × (i < n) × (k < length (items (kind (flowOf (now file)) i))) ⌝ }
+    ensures { λ r. ⌜ (r .array ≡ getD (items (kind (flowOf (now (file .entry))) i)) k noItem .array) × (r .flag ≡ getD (items (kind (flowOf (now (file .entry))) i)) k noItem .flag) ⌝ }
+{
+    records::item(file, offset(file, work, n, i), k)
+}
+
+// The lines that a call names.
+pub fn line_count(file: &[u8], work: &[u64], n: usize, i: usize) -> usize
+    requires { ⌜ Ready (now file) (now work) n × (i < n) ⌝ }
+    ensures { λ r. ⌜ r ≡ length (callLines (kind (flowOf (now (file .entry))) i)) ⌝ }
+{
+    records::line_count(file, offset(file, work, n, i))
+}
+
+// The statement that the k-th of them enters, if any.
+pub fn entered(file: &[u8], h: flow::Header, work: &[u64], i: usize, k: usize) -> flow::Entered
+    requires { ⌜ Ready (now file) (now work) (h .statements) × (h ≡ headerOf (now file)) × (i < h .statements) × (k < length (callLines (kind (flowOf (now file)) i))) ⌝ }
+    ensures { λ r. ⌜ r ≡ enteredAt (enters (flowOf (now (file .entry))) (getD (callLines (kind (flowOf (now (file .entry))) i)) k 0)) ⌝ }
+{
+    let n = h.statements;
+    let lines_at = h.lines_at;
+    let lines = h.lines;
+    records::lines::line_entry(
+        file,
+        lines_at,
+        lines,
+        records::call_line(file, offset(file, work, n, i), k),
+    )
+}

@@ -1,0 +1,15 @@
+-- The cases of the paper hold: one table, one theorem, which the checker computes.
+-- Assumes nothing.
+use lib.Dec.{T}
+use Rattle.flow.specs.Flow.{firstOf}
+use Rattle.theory.specs.Lists.{any, has, select, concatMap, optionList, upTo, sumBelow, allBelow, upd}
+use Rattle.theory.specs.Reach.{closure, closureFuel, reached}
+use Rattle.theory.specs.Body.{entered, callees, walkNext, walked, called, bodies, touches, onCycle, opaque, opaqueCall, callTouches}
+use Rattle.theory.specs.Queue.{stepAll, arcCount, brings, unionBelow, pulled, changed, enqueue, visit, visitFront, visitTimes, initial, solved}
+use Rattle.theory.specs.Doubled.{returnsTo, returnEdges, once, callEdges, listedEdges, edgesOf, edges, kindEffects, statementEffects, edgeEffects, boundary, arcsOf, doubled}
+use Rattle.theory.specs.Masks.{nodeMask, maskOf, visitsOf}
+use Rattle.theory.specs.Cases.{cases, allRight}
+
+pub all-right : T (allRight cases)
+unfolding firstOf any has select concatMap optionList upTo sumBelow allBelow upd closure closureFuel reached entered callees walkNext walked called bodies touches onCycle opaque opaqueCall callTouches stepAll arcCount brings unionBelow pulled changed enqueue visit visitFront visitTimes initial solved returnsTo returnEdges once callEdges listedEdges edgesOf edges kindEffects statementEffects edgeEffects boundary arcsOf doubled nodeMask maskOf visitsOf
+all-right = tt

@@ -1,0 +1,66 @@
+-- Runs exist: in P5 one goes through the subroutine and finds AUTO at statement 1; in P8 CLR leaves an empty stack; an ON GOSUB is passed over; and P5 keeps the
+-- premise on listed successors. Each is the run itself, move by move, whose states and stack the checker computes.
+use Prim.Native.Nat.{ℕ, zero, suc}
+use mathlib.Core.List.{List, [], List·Memᴰ·head, List·Memᴰ·not-nil}
+use mathlib.Core.Option.{none, some}
+use mathlib.Core.Path.{_≡_, refl}
+use lib.Dec.{lit<}
+use native.Mathlib.Omega.{arith}
+use Rattle.masks.specs.State.{State}
+use Rattle.flow.specs.Flow.{Kind, firstOf}
+use Rattle.theory.specs.Lists.{In, any, has, concatMap, optionList}
+use Rattle.theory.specs.Body.{kind, successors, entered}
+use Rattle.theory.specs.Doubled.{kindEffects, statementEffects}
+use Rattle.theory.specs.Runs.{Config, config, becomeAll, act, Move, Run, Listed}
+use Rattle.theory.specs.Cases.{p5, p5On, p8}
+
+-- GOSUB 30, its reference, RETURN to statement 1
+pub p5-run : (s : ℕ → State) × Run p5 (config 1 s []) × (s 0 ≡ State.auto)
+unfolding entered concatMap optionList firstOf act becomeAll statementEffects kindEffects has any
+p5-run = (
+  _,
+  Run.move
+      (Run.move (Run.move (Run.start (lit< tt)) (Move.gosub refl (List·Memᴰ·head refl))) (Move.next refl (List·Memᴰ·head refl)))
+      (Move.return refl),
+  refl,
+)
+
+clash : _≡_ {A = ℕ} 0 1 → ⊥
+clash h = omega arith
+
+-- P5 keeps the premise, so term 3 speaks of this run
+pub p5-listed : Listed p5
+unfolding entered concatMap optionList firstOf
+p5-listed = record { enters = entering; after = passing }
+  where
+    entering : (i e : ℕ) → In e (entered p5 i) → In e (successors p5 i)
+    entering zero e m = m
+    entering (suc zero) e m = m
+    entering (suc (suc zero)) e m = absurd (List·Memᴰ·not-nil m)
+    entering (suc (suc (suc zero))) e m = m
+    entering (suc (suc (suc (suc i)))) e m = m
+
+    passing : (i j : ℕ) (ls : List ℕ) → kind p5 i ≡ Kind.onGosub ls (some j) → In j (successors p5 i)
+    passing zero j ls h = absurd (clash (cc))
+    passing (suc zero) j ls h = absurd (clash (cc))
+    passing (suc (suc zero)) j ls h = absurd (clash (cc))
+    passing (suc (suc (suc zero))) j ls h = absurd (clash (cc))
+    passing (suc (suc (suc (suc i)))) j ls h = absurd (clash (cc))
+
+-- ON GOSUB passed over: statement 1 is found with NONE
+pub skip-run : (s : ℕ → State) × Run p5On (config 1 s []) × (s 0 ≡ State.none)
+unfolding act becomeAll statementEffects kindEffects has
+skip-run = (_, Run.move (Run.start (lit< tt)) (Move.skip refl), refl)
+
+-- CLR in the subroutine empties the stack
+pub p8-run : (s : ℕ → State) × Run p8 (config 3 s [])
+unfolding entered concatMap optionList firstOf
+p8-run = (_, Run.move (Run.move (Run.start (lit< tt)) (Move.gosub refl (List·Memᴰ·head refl))) (Move.clear refl (List·Memᴰ·head refl)))
+
+-- and RETURN then ends the run
+pub p8-ends : {s : ℕ → State} {y : Config} → Move p8 (config 3 s []) y → ⊥
+p8-ends (Move.next h m) = clash (cc)
+p8-ends (Move.clear h m) = clash (cc)
+p8-ends (Move.gosub h m) = clash (cc)
+p8-ends (Move.on-gosub h m) = clash (cc)
+p8-ends (Move.skip h) = clash (cc)

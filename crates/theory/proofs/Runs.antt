@@ -1,0 +1,235 @@
+-- Term 3, over any table of (doubled number, array, state) that holds the entry's and is closed under the edges: what a run finds at a statement stands in
+-- the table at one of its two copies, for all arrays at once. By induction on the list of moves, with one invariant on the statement, the states and the stack.
+use Prim.Native.Nat.{ℕ, _<_}
+use mathlib.Core.Bool.{Bool, true, false, _||_, or-true, true≢false}
+use mathlib.Core.List.{List, [], _∷_, List·Memᴰ·head}
+use mathlib.Core.Option.{Option, none, some}
+use mathlib.Core.Path.{_≡_, refl, sym, ap, _∙_}
+use Rattle.masks.specs.State.{State}
+use Rattle.flow.specs.Flow.{Flow, Kind, size}
+use Rattle.theory.specs.Lists.{In}
+use Rattle.theory.specs.Reach.{Reach}
+use Rattle.theory.specs.Body.{kind, successors, continuationOf, entered, callees, isReturn, wipes, walkNext, Walks, Calls, Opaque, OpaqueCall, CallTouches, opaqueCall}
+use Rattle.theory.specs.WellFormed.{WellFormed}
+use Rattle.theory.specs.Doubled.{Base, Node, Edge, at, sameNode, edges, statementEffects, edgeEffects}
+use Rattle.theory.specs.Walks.{Turns}
+use Rattle.theory.specs.Runs.{Frame, back, end, frameOf, Config, act, goesOn, empties, Move, Run, Listed}
+use Rattle.theory.proofs.Edges.{callEdge, node-same, listed-edge, opaque-edge, entered-edge, continuation-edge, return-edge, statement-of}
+use Rattle.theory.proofs.Body.{callees-below, walked-complete, opaqueCall-sound, opaqueCall-complete, callTouches-complete}
+use Rattle.theory.proofs.Acts.{turns-becomeAll, edge-act, edge-kept, Kept, kept-then, kept-nested, act-kept}
+
+-- states of arrays at doubled numbers
+abbrev pub Table : Type 1
+Table = Node → ℕ → State → Type 0
+
+-- it holds NONE of every array at the entry and follows every edge
+pub record Closed (f : Flow) (T : Table) : Type 0 where
+  pub entry : 0 < size f → (a : ℕ) → T (at Base.zero (f .entry)) a State.none
+  pub edge : (v : Node) (x : Edge) (a : ℕ) (s t : State) → T v a s → In x (edges f v) → Turns (edgeEffects f (v .stmt) x a) s t → T (x .to) a t
+
+-- in base 0 a frame that returns was pushed by an opaque call that enters a body on whose walk the run is
+pub data Level (f : Flow) : ℕ → List Frame → Type 0 where
+  bottom : {i : ℕ} → Level f i []
+  ended : {i : ℕ} {k : List Frame} → Level f i (end ∷ k)
+  called : {i c e j : ℕ} {k : List Frame} → continuationOf (kind f c) ≡ some j → opaqueCall f c ≡ true → In e (callees f c) → Walks f e i → Level f c k
+      → Level f i (back j ∷ k)
+
+-- outer: in base 0. last: in base n, in a body that is not opaque, over "end". inner: in base n, in a body that is not opaque, over the frame of the call that
+-- entered it; the invariant holds of that call
+pub data Invariant (f : Flow) (T : Table) : ℕ → (ℕ → State) → List Frame → Type 0 where
+  outer : {i : ℕ} {s : ℕ → State} {k : List Frame} → ((a : ℕ) → T (at Base.zero i) a (s a)) → Level f i k → Invariant f T i s k
+  last : {i e : ℕ} {s : ℕ → State} {k : List Frame} → ((a : ℕ) → T (at Base.n i) a (s a)) → Walks f e i → (Opaque f e → ⊥)
+      → Invariant f T i s (end ∷ k)
+  inner : {i e c j : ℕ} {s t : ℕ → State} {k : List Frame} → ((a : ℕ) → T (at Base.n i) a (s a)) → Walks f e i → (Opaque f e → ⊥)
+      → continuationOf (kind f c) ≡ some j → opaqueCall f c ≡ false → In e (callees f c) → Invariant f T c t k
+      → ((a : ℕ) → Kept f e a (act f c t a) (s a)) → Invariant f T i s (back j ∷ k)
+
+-- all arrays' states stand in the table at one copy
+abbrev pub Found : Table → ℕ → (ℕ → State) → Type 0
+Found T i s = (b : Base) × ((a : ℕ) → T (at b i) a (s a))
+
+pub found : {f : Flow} {T : Table} {i : ℕ} {s : ℕ → State} {k : List Frame} → Invariant f T i s k → Found T i s
+found (Invariant.outer t l) = (Base.zero, t)
+found (Invariant.last t w o) = (Base.n, t)
+found (Invariant.inner t w o c q m v r) = (Base.n, t)
+
+-- classes of kinds
+
+calls-on : (k : Kind) {j : ℕ} → continuationOf k ≡ some j → isReturn k ≡ false
+calls-on Kind.other c = refl
+calls-on Kind.return c = cc
+calls-on Kind.clr c = refl
+calls-on Kind.run c = refl
+calls-on (Kind.dim items) c = refl
+calls-on (Kind.gosub l e) c = refl
+calls-on (Kind.onGosub ls e) c = refl
+
+-- kinds that go on to their listed successors, in the doubled graph and on a body walk
+pub record Listing (k : Kind) : Type 0 where
+  pub alone : continuationOf k ≡ none
+  pub moves : isReturn k ≡ false
+
+listing : (k : Kind) → (goesOn k || empties k) ≡ true → Listing k
+listing Kind.other h = record { alone = refl; moves = refl }
+listing Kind.return h = record { alone = refl; moves = cc }
+listing Kind.clr h = record { alone = refl; moves = refl }
+listing Kind.run h = record { alone = refl; moves = refl }
+listing (Kind.dim items) h = record { alone = refl; moves = refl }
+listing (Kind.gosub l c) h = record { alone = cc; moves = refl }
+listing (Kind.onGosub ls c) h = record { alone = cc; moves = refl }
+
+empties-wipes : (k : Kind) → empties k ≡ true → wipes k ≡ true
+empties-wipes Kind.other h = cc
+empties-wipes Kind.return h = cc
+empties-wipes Kind.clr h = refl
+empties-wipes Kind.run h = refl
+empties-wipes (Kind.dim items) h = cc
+empties-wipes (Kind.gosub l c) h = cc
+empties-wipes (Kind.onGosub ls c) h = cc
+
+level-on : {f : Flow} {i j : ℕ} {k : List Frame} → Level f i k → In j (walkNext f i) → Level f j k
+level-on Level.bottom m = Level.bottom
+level-on Level.ended m = Level.ended
+level-on (Level.called c o b w l) m = Level.called c o b (Reach.on w m) l
+
+-- where the body walk goes on
+walk-listed : (f : Flow) (i : ℕ) {j : ℕ} → continuationOf (kind f i) ≡ none → isReturn (kind f i) ≡ false → In j (successors f i) → In j (walkNext f i)
+unfolding walkNext
+walk-listed f i c r m = rw (r, c) m
+
+walk-continuation : (f : Flow) (i : ℕ) {j : ℕ} → continuationOf (kind f i) ≡ some j → In j (walkNext f i)
+unfolding walkNext
+walk-continuation f i c = rw (calls-on (kind f i) c, c) (List·Memᴰ·head refl)
+
+entered-callee : (f : Flow) (c : ℕ) {e j : ℕ} → continuationOf (kind f c) ≡ some j → In e (entered f c) → In e (callees f c)
+unfolding callees
+entered-callee f c h m = rw h m
+
+module _ (f : Flow) (T : Table) (wf : WellFormed f) (listed : Listed f) (closed : Closed f T) where
+  -- the statement's act is brought along any edge
+  along : (b : Base) (i : ℕ) {s : ℕ → State} (x : Edge) → ((a : ℕ) → T (at b i) a (s a)) → In x (edges f (at b i)) → (a : ℕ) → T (x .to) a (act f i s a)
+  along b i {s} x t m a = closed .edge (at b i) x a (s a) (act f i s a) (t a) m (edge-act f i x a s)
+
+  not-wiping : {e i : ℕ} → Walks f e i → (Opaque f e → ⊥) → wipes (kind f i) ≡ false
+  not-wiping {i = i} w o = go (wipes (kind f i)) refl
+    where
+      go : (t : Bool) → wipes (kind f i) ≡ t → wipes (kind f i) ≡ false
+      go true q = absurd (o (Opaque.own w q))
+      go false q = q
+
+  -- an ordinary move, which stays on the body's walk: it has an edge in either base
+  goes : {i j : ℕ} {s : ℕ → State} {k : List Frame} → ((b : Base) → (c : Bool) × In (record { to = at b j; continues = c }) (edges f (at b i)))
+      → In j (walkNext f i) → Invariant f T i s k → Invariant f T j (act f i s) k
+  goes {i} x w (Invariant.outer t l) = Invariant.outer (along Base.zero i _ t (x Base.zero .1)) (level-on l w)
+  goes {i} x w (Invariant.last t v o) = Invariant.last (along Base.n i _ t (x Base.n .1)) (Reach.on v w) o
+  goes {i} {s = s} x w (Invariant.inner t v o c q m call r) =
+      Invariant.inner (along Base.n i _ t (x Base.n .1)) (Reach.on v w) o c q m call
+      (λ a. kept-then (r a) (act-kept f i a s v (not-wiping v o)))
+
+  -- a move to a listed successor of a statement that is neither RETURN nor a call with a continuation
+  listed-move : {i j : ℕ} {s : ℕ → State} {k : List Frame} → Listing (kind f i) → In j (successors f i) → Invariant f T i s k → Invariant f T j (act f i s) k
+  listed-move {i} g m = goes (λ b. (false, listed-edge f b i (g .alone) (g .moves) m)) (walk-listed f i (g .alone) (g .moves) m)
+
+  -- CLR and RUN empty the stack, and no body that is not opaque meets them
+  clear-move : {i j : ℕ} {s : ℕ → State} {k : List Frame} → empties (kind f i) ≡ true → In j (successors f i) → Invariant f T i s k → Invariant f T j (act f i s) []
+  clear-move {i} h m (Invariant.outer t l) =
+      let g = listing (kind f i) (rw (h, or-true)) in
+      Invariant.outer (along Base.zero i _ t (listed-edge f Base.zero i (g .alone) (g .moves) m)) Level.bottom
+  clear-move {i} h m (Invariant.last t w o) = absurd (o (Opaque.own w (empties-wipes (kind f i) h)))
+  clear-move {i} h m (Invariant.inner t w o c q b call r) = absurd (o (Opaque.own w (empties-wipes (kind f i) h)))
+
+  -- a call without a continuation goes by a listed successor and pushes "end"
+  enter-ending : {i e : ℕ} {s : ℕ → State} {k : List Frame} → Listing (kind f i) → In e (entered f i) → Invariant f T i s k
+      → Invariant f T e (act f i s) (end ∷ k)
+  enter-ending {i} {e} g m inv = go (listed-move g (listed .enters i e m) inv)
+    where
+      go : {s : ℕ → State} {k : List Frame} → Invariant f T e s k → Invariant f T e s (end ∷ k)
+      go (Invariant.outer t l) = Invariant.outer t Level.ended
+      go (Invariant.last t w o) = Invariant.last t w o
+      go (Invariant.inner t w o c q b call r) = Invariant.last t w o
+
+  -- no body that is not opaque meets an opaque call
+  no-opaque-call : {e i : ℕ} → Walks f e i → (Opaque f e → ⊥) → OpaqueCall f i → ⊥
+  no-opaque-call w o (OpaqueCall.enters-opaque m b) = o (Opaque.calls (Calls.calls w m) b)
+
+  -- an opaque call stays in base 0, and its frame asks for the walk of the body that it enters
+  enter-opaque : {i e j : ℕ} {s : ℕ → State} {k : List Frame} → continuationOf (kind f i) ≡ some j → opaqueCall f i ≡ true → In e (entered f i)
+      → Invariant f T i s k → Invariant f T e (act f i s) (back j ∷ k)
+  enter-opaque {i} {e} c q m (Invariant.outer t l) =
+      Invariant.outer (along Base.zero i _ t (opaque-edge f Base.zero i c q (listed .enters i e m)))
+      (Level.called c q (entered-callee f i c m) Reach.here l)
+  enter-opaque {i} c q m (Invariant.last t w o) = absurd (no-opaque-call w o (opaqueCall-sound f i q))
+  enter-opaque {i} c q m (Invariant.inner t w o d p b call r) = absurd (no-opaque-call w o (opaqueCall-sound f i q))
+
+  -- a call that is not opaque goes to base n
+  enter-copy : {i e j : ℕ} {s : ℕ → State} {k : List Frame} → continuationOf (kind f i) ≡ some j → opaqueCall f i ≡ false → In e (entered f i)
+      → Found T i s → Invariant f T i s k → Invariant f T e (act f i s) (back j ∷ k)
+  enter-copy {i} {e} {j} c q m (b, t) inv =
+      Invariant.inner (along b i _ t (entered-edge f b i c q m)) Reach.here not-opaque c q (entered-callee f i c m) inv (λ a. Kept.kept)
+    where
+      not-opaque : Opaque f e → ⊥
+      not-opaque o = true≢false (sym (opaqueCall-complete wf (OpaqueCall.enters-opaque (entered-callee f i c m) o)) ∙ q)
+
+  call-move : {i e : ℕ} {s : ℕ → State} {k : List Frame} (c : Option ℕ) → continuationOf (kind f i) ≡ c → isReturn (kind f i) ≡ false → In e (entered f i)
+      → Invariant f T i s k → Invariant f T e (act f i s) (frameOf c ∷ k)
+  call-move none h r m inv = enter-ending (record { alone = h; moves = r }) m inv
+  call-move {i} {e} {s} {k} (some j) h r m inv = go (opaqueCall f i) refl
+    where
+      go : (t : Bool) → opaqueCall f i ≡ t → Invariant f T e (act f i s) (back j ∷ k)
+      go true q = enter-opaque h q m inv
+      go false q = enter-copy h q m (found inv) inv
+
+  -- ON GOSUB goes to its continuation instead: listed, or the continuation edge, in either base
+  skip-move : {i j : ℕ} {s : ℕ → State} {k : List Frame} {ls : List ℕ} → kind f i ≡ Kind.onGosub ls (some j) → Invariant f T i s k → Invariant f T j (act f i s) k
+  skip-move {i} {j} {ls = ls} h = goes (go (opaqueCall f i) refl) (walk-continuation f i c)
+    where
+      c : continuationOf (kind f i) ≡ some j
+      c = ap continuationOf h
+
+      go : (t : Bool) → opaqueCall f i ≡ t → (b : Base) → (x : Bool) × In (record { to = at b j; continues = x }) (edges f (at b i))
+      go true q b = (false, opaque-edge f b i c q (listed .after i j ls h))
+      go false q b = (sameNode (at b j) (at b j), continuation-edge f b i c q)
+
+  -- RETURN from a body that is not opaque: the continuation edge of its call brings what the body made of the call's act
+  module _ {c e j : ℕ} {s t : ℕ → State} (h : continuationOf (kind f c) ≡ some j) (q : opaqueCall f c ≡ false) (m : In e (callees f c))
+      (r : (a : ℕ) → Kept f e a (act f c t a) (s a)) where
+    brought : (b : Base) → ((a : ℕ) → T (at b c) a (t a)) → (a : ℕ) → T (at b j) a (s a)
+    unfolding act
+    brought b u a =
+        closed .edge (at b c) (callEdge (at b j) (at b j)) a (t a) (s a) (u a) (continuation-edge f b c h q)
+        (edge-kept f c (callEdge (at b j) (at b j)) a (node-same (at b j)) (λ p. callTouches-complete wf (CallTouches.enters-touching m p))
+        (turns-becomeAll (statementEffects f c a) (t a)) (r a))
+
+    resumed : {k : List Frame} → Invariant f T c t k → Invariant f T j s k
+    resumed (Invariant.outer u l) = Invariant.outer (brought Base.zero u) (level-on l (walk-continuation f c h))
+    resumed (Invariant.last u w o) = Invariant.last (brought Base.n u) (Reach.on w (walk-continuation f c h)) o
+    resumed (Invariant.inner u w o d p b call v) =
+        Invariant.inner (brought Base.n u) (Reach.on w (walk-continuation f c h)) o d p b call
+        (λ a. kept-then (v a) (kept-then (act-kept f c a t w (not-wiping w o)) (kept-nested (Calls.calls w m) (r a))))
+
+  return-move : {i j : ℕ} {s : ℕ → State} {k : List Frame} → kind f i ≡ Kind.return → Invariant f T i s (back j ∷ k) → Invariant f T j (act f i s) k
+  return-move {i} {j} h (Invariant.outer t (Level.called {c = c} {e = e} d q m w l)) =
+      Invariant.outer
+      (along Base.zero i _ t
+      (return-edge f i (ap continuationOf h) (ap isReturn h) (statement-of f c d) (wf .continuation c j d) d q m
+      (walked-complete wf (callees-below wf c e m) w)))
+      (level-on l (walk-continuation f c d))
+  return-move {i} {s = s} h (Invariant.inner t w o d q m call r) =
+      resumed d q m (λ a. kept-then (r a) (act-kept f i a s w (not-wiping w o))) call
+
+  moved : {x y : Config} → Move f x y → Invariant f T (x .stmt) (x .states) (x .stack) → Invariant f T (y .stmt) (y .states) (y .stack)
+  moved (Move.next {i = i} h m) inv = listed-move (listing (kind f i) (rw h)) m inv
+  moved (Move.clear h m) inv = clear-move h m inv
+  moved (Move.gosub {c = c} h m) inv = call-move c (ap continuationOf h) (ap isReturn h) m inv
+  moved (Move.on-gosub {c = c} h m) inv = call-move c (ap continuationOf h) (ap isReturn h) m inv
+  moved (Move.skip h) inv = skip-move h inv
+  moved (Move.return h) inv = return-move h inv
+
+  -- the invariant holds wherever a run has come
+  pub holds-of : {x : Config} → Run f x → Invariant f T (x .stmt) (x .states) (x .stack)
+  holds-of (Run.start h) = Invariant.outer (closed .entry h) Level.bottom
+  holds-of (Run.move r m) = moved m (holds-of r)
+
+  -- Term 3: what a run finds stands in the table
+  pub run-found : {x : Config} → Run f x → Found T (x .stmt) (x .states)
+  run-found r = found (holds-of r)

@@ -1,0 +1,100 @@
+-- Term 3 at doubled numbers: whatever holds the boundary at the entry and follows every arc of the doubled graph holds what a run finds at a statement, at one of its
+-- two numbers. The walks are such, and so is every closed table of masks; the union of a statement's two masks then holds what a run finds.
+use Prim.Native.Nat.{ℕ, _+_, _-_, _<_, _≤_}
+use mathlib.Core.Bool.{true}
+use mathlib.Core.List.{map, Memᴰ·map}
+use mathlib.Core.Path.{_≡_, refl, sym, subst}
+use lib.Bits.{bitOr}
+use native.Mathlib.Nat.{zero-add}
+use native.Mathlib.Omega.{arith}
+use borrow.Author.Tests.{lt-ltb, le-ltb}
+use Rattle.masks.specs.State.{State, holds}
+use Rattle.flow.specs.Flow.{Flow, size}
+use Rattle.theory.specs.Lists.{In}
+use Rattle.theory.specs.WellFormed.{WellFormed}
+use Rattle.theory.specs.Queue.{Arc, Graph}
+use Rattle.theory.specs.Walks.{Turns, Brings}
+use Rattle.theory.specs.Doubled.{Base, Node, Edge, at, number, node, edges, edgeEffects, boundary, arcsOf, doubled}
+use Rattle.theory.specs.Runs.{Config, Run, Listed}
+use Rattle.theory.proofs.MaskLaws.{or-holds-left, or-holds-right}
+use Rattle.theory.proofs.Edges.{edge-below}
+use Rattle.theory.proofs.Runs.{Table, Closed, run-found}
+
+-- a doubled number's node
+pub node-number : (f : Flow) (v : Node) → v .stmt < size f → node f (number f v) ≡ v
+node-number f v h = go (v .base) (v .stmt) h
+  where
+    go : (b : Base) (i : ℕ) → i < size f → node f (number f (at b i)) ≡ at b i
+    go Base.zero i h = rw (zero-add i, lt-ltb i (size f) h)
+    go Base.n i h =
+        let e : size f + i - size f ≡ i = omega arith in
+        let above : size f ≤ size f + i = omega arith in
+        rw (le-ltb (size f + i) (size f) above, e)
+
+pub number-below : (f : Flow) (v : Node) → v .stmt < size f → number f v < size f + size f
+number-below f v h = go (v .base) (v .stmt) h
+  where
+    go : (b : Base) (i : ℕ) → i < size f → number f (at b i) < size f + size f
+    go Base.zero i h = omega arith
+    go Base.n i h = omega arith
+
+-- an edge of a node is an arc of its number
+pub arc-in : (f : Flow) (v : Node) {x : Edge} → v .stmt < size f → In x (edges f v)
+    → In {A = Arc} (record { to = number f (x .to); effects = edgeEffects f (v .stmt) x }) (doubled f .arcs (number f v))
+unfolding doubled arcsOf
+arc-in f v {x} h m =
+    subst (λ w. In {A = Arc} (record { to = number f (x .to); effects = edgeEffects f (v .stmt) x }) (map (λ e. record { to = number f (e .to); effects = edgeEffects f (w .stmt) e }) (edges f w)))
+    (sym (node-number f v h)) (Memᴰ·map (λ e. record { to = number f (e .to); effects = edgeEffects f (v .stmt) e }) m)
+
+-- it holds the boundary at the entry and follows every arc
+pub record Follows (g : Graph) (P : ℕ → ℕ → State → Type 0) : Type 0 where
+  pub entry : 0 < g .nodes → (a : ℕ) (s : State) → holds (g .boundary a) s ≡ true → P (g .entry) a s
+  pub arc : (d : ℕ) (x : Arc) (a : ℕ) (s t : State) → d < g .nodes → In x (g .arcs d) → P d a s → Turns (x .effects a) s t → P (x .to) a t
+
+-- as a table over nodes, within the statements
+abbrev tableOf : (f : Flow) → (ℕ → ℕ → State → Type 0) → Table
+tableOf f P v a s = (v .stmt < size f) × P (number f v) a s
+
+table-closed : (f : Flow) (P : ℕ → ℕ → State → Type 0) → WellFormed f → Follows (doubled f) P → Closed f (tableOf f P)
+unfolding doubled boundary
+table-closed f P wf follows = record {
+  entry = λ h a. (wf .entry h, follows .entry (omega arith) a State.none refl);
+  edge = λ v x a s t held m turn. (
+    edge-below f wf v m,
+    follows .arc (number f v) (record { to = number f (x .to); effects = edgeEffects f (v .stmt) x }) a s t (number-below f v (held .0)) (arc-in f v (held .0) m) (held .1) turn,
+  );
+}
+
+-- Term 3, for every list of moves and all arrays at once
+pub run-follows : (f : Flow) (P : ℕ → ℕ → State → Type 0) {x : Config} → WellFormed f → Listed f → Follows (doubled f) P → Run f x
+    → (x .stmt < size f) × ((b : Base) × ((a : ℕ) → P (number f (at b (x .stmt))) a (x .states a)))
+run-follows f P wf listed follows r =
+    let q = run-found f (tableOf f P) wf listed (table-closed f P wf follows) r in
+    (q .1 0 .0, (q .0, λ a. q .1 a .1))
+
+-- the walks of a graph follow its arcs
+walks-follow : (g : Graph) → Follows g (λ d a s. Brings g a d s)
+walks-follow g = record { entry = λ h a s held. Brings.empty held; arc = λ d x a s t h m walk turn. Brings.along walk m turn }
+
+-- a walk of the doubled graph brings what a run finds, all arrays in the same copy
+pub run-brings : (f : Flow) {x : Config} → WellFormed f → Listed f → Run f x
+    → (x .stmt < size f) × ((b : Base) × ((a : ℕ) → Brings (doubled f) a (number f (at b (x .stmt))) (x .states a)))
+run-brings f wf listed r = run-follows f (λ d a s. Brings (doubled f) a d s) wf listed (walks-follow (doubled f)) r
+
+-- the mask at a number holds the state, for the arrays that there are
+abbrev pub Held : ℕ → (ℕ → ℕ → ℕ) → ℕ → ℕ → State → Type 0
+Held arrays m d a s = a < arrays → holds (m d a) s ≡ true
+
+-- Term 3 over any closed table of masks: the union over both copies holds what a run finds
+pub run-masked : (f : Flow) (m : ℕ → ℕ → ℕ) {x : Config} → WellFormed f → Listed f → Follows (doubled f) (Held (f .arrays) m) → Run f x
+    → (a : ℕ) → a < f .arrays → holds (bitOr (m (number f (at Base.zero (x .stmt))) a) (m (number f (at Base.n (x .stmt))) a)) (x .states a) ≡ true
+run-masked f m {x} wf listed follows r a h =
+    let q = run-follows f (Held (f .arrays) m) wf listed follows r in
+    either (q .1 .0) (q .1 .1 a h)
+  where
+    mask : Base → ℕ
+    mask b = m (number f (at b (x .stmt))) a
+
+    either : (b : Base) → holds (mask b) (x .states a) ≡ true → holds (bitOr (mask Base.zero) (mask Base.n)) (x .states a) ≡ true
+    either Base.zero e = or-holds-left (mask Base.zero) (mask Base.n) (x .states a) e
+    either Base.n e = or-holds-right (mask Base.zero) (mask Base.n) (x .states a) e

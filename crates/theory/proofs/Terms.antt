@@ -1,0 +1,94 @@
+-- Terms 1, 2 and 3 for a flow: the queue rule over its doubled graph ends within the bound, a statement's mask holds a state exactly when a walk brings
+-- it to one of the two copies, and what a run finds is in it. The doubled graph is well formed, and the theorems over any graph apply. Assumes nothing.
+use Prim.Native.Nat.{ℕ, _+_, _≤_, _<_}
+use mathlib.Core.Bool.{true}
+use mathlib.Core.List.{[]}
+use mathlib.Core.Logic.{⊎-elim}
+use mathlib.Core.Path.{_≡_, sym, ap, ap₂, subst}
+use native.Mathlib.Omega.{arith}
+use lib.Bits.{bitOr, or-lt}
+use lib.Dec.{lit<}
+use Rattle.masks.specs.State.{State, holds}
+use Rattle.flow.specs.Flow.{Flow, size}
+use Rattle.theory.specs.WellFormed.{WellFormed}
+use Rattle.theory.specs.Queue.{Arc, Solver, solved, initial, visitBound}
+use Rattle.theory.specs.Doubled.{Base, Edge, at, number, node, edges, edgeEffects, boundary, arcsOf, doubled}
+use Rattle.theory.specs.Masks.{nodeMask, maskOf, visitsOf, BringsTo, copy}
+use Rattle.theory.specs.Runs.{Config, Run, Listed}
+use Rattle.theory.proofs.Lists.{In-map}
+use Rattle.theory.proofs.MaskLaws.{or-held, or-holds-left, or-holds-right}
+use Rattle.theory.proofs.Invariant.{WellFormedGraph}
+use Rattle.theory.proofs.Ends.{solved-ends, solved-visits, no-visits}
+use Rattle.theory.proofs.Exact.{solved-below, solved-unreached, solved-brought, solved-holds}
+use Rattle.theory.proofs.Edges.{edge-below}
+use Rattle.theory.proofs.Term3.{number-below, run-brings}
+
+pub doubled-well-formed : (f : Flow) → WellFormed f → WellFormedGraph (doubled f)
+unfolding doubled arcsOf boundary
+doubled-well-formed f wf = record {
+  entry = λ h. number-below f (at Base.zero (f .entry)) (wf .entry (omega arith));
+  target = λ d e m.
+      let r = In-map (λ (x : Edge). record { to = number f (x .to); effects = edgeEffects f (node f d .stmt) x }) (edges f (node f d)) m in
+      subst (λ (t : ℕ). t < size f + size f) (sym (ap (λ (x : Arc). x .to) (r .2))) (number-below f (r .0 .to) (edge-below f wf (node f d) (r .1)));
+  boundary = λ a. record { pos = lit< tt; below = lit< tt };
+}
+
+-- Term 1
+
+pub term-1-ends : (f : Flow) → WellFormed f → solved (doubled f) .waiting ≡ []
+term-1-ends f wf = solved-ends (doubled f) (doubled-well-formed f wf)
+
+-- at most 1 + edges × (1 + 2 × arrays) visits, edges counted with repeats
+pub term-1 : (f : Flow) → WellFormed f → visitsOf f ≤ visitBound (doubled f)
+unfolding visitsOf
+term-1 f wf = solved-visits (doubled f) (doubled-well-formed f wf)
+
+-- with n 0 there are no visits
+pub term-1-empty : (f : Flow) → size f ≡ 0 → visitsOf f ≡ 0
+unfolding visitsOf doubled initial
+term-1-empty f e = ap (λ (st : Solver). st .visits) (no-visits (doubled f) (let h = e in omega arith))
+
+-- Term 2
+
+module _ (f : Flow) (wf : WellFormed f) where
+  nodes-exist : {i : ℕ} → i < size f → 0 < doubled f .nodes
+  unfolding doubled
+  nodes-exist h = omega arith
+
+  -- every state of a statement's mask is brought by a walk
+  pub term-2-sound : {a i : ℕ} {s : State} → holds (maskOf f i a) s ≡ true → BringsTo f a i s
+  unfolding maskOf nodeMask
+  term-2-sound {a} {i} {s} h = ⊎-elim (of Base.zero) (of Base.n) (or-held (nodeMask f (number f (at Base.zero i)) a) (nodeMask f (number f (at Base.n i)) a) s h)
+    where
+      of : (b : Base) → holds (nodeMask f (number f (at b i)) a) s ≡ true → BringsTo f a i s
+      of b k = copy b (solved-brought (doubled f) (doubled-well-formed f wf) (number f (at b i)) a s k)
+
+  -- and every state that a walk brings is in it
+  pub term-2-complete : {a i : ℕ} {s : State} → i < size f → a < f .arrays → BringsTo f a i s → holds (maskOf f i a) s ≡ true
+  unfolding maskOf nodeMask doubled
+  term-2-complete {a} {i} {s} h l (copy b w) = join b (solved-holds (doubled f) (doubled-well-formed f wf) (nodes-exist h) l w)
+    where
+      join : (b : Base) → holds (nodeMask f (number f (at b i)) a) s ≡ true → holds (maskOf f i a) s ≡ true
+      join Base.zero k = or-holds-left (nodeMask f (number f (at Base.zero i)) a) (nodeMask f (number f (at Base.n i)) a) s k
+      join Base.n k = or-holds-right (nodeMask f (number f (at Base.zero i)) a) (nodeMask f (number f (at Base.n i)) a) s k
+
+  -- a mask is a union of states, 0 to 7
+  pub term-2-below : (i a : ℕ) → maskOf f i a < 8
+  unfolding maskOf nodeMask
+  term-2-below i a =
+      or-lt 3 (nodeMask f (number f (at Base.zero i)) a) (nodeMask f (number f (at Base.n i)) a) (below Base.zero) (below Base.n)
+    where
+      below : (b : Base) → nodeMask f (number f (at b i)) a < 8
+      below b = solved-below (doubled f) (doubled-well-formed f wf) (number f (at b i)) a
+
+  -- unreached: 0
+  pub term-2-unreached : (i a : ℕ) → ((s : State) → BringsTo f a i s → ⊥) → maskOf f i a ≡ 0
+  unfolding maskOf nodeMask
+  term-2-unreached i a h = ap₂ bitOr (none Base.zero) (none Base.n)
+    where
+      none : (b : Base) → nodeMask f (number f (at b i)) a ≡ 0
+      none b = solved-unreached (doubled f) (doubled-well-formed f wf) (number f (at b i)) a (λ s w. h s (copy b w))
+
+  -- Term 3: what a run finds at a statement is in its mask, for every list of moves and every array
+  pub term-3 : Listed f → {x : Config} → Run f x → (a : ℕ) → a < f .arrays → holds (maskOf f (x .stmt) a) (x .states a) ≡ true
+  term-3 listed r a l = let q = run-brings f wf listed r in term-2-complete (q .0) l (copy (q .1 .0) (q .1 .1 a))

@@ -1,0 +1,11 @@
+pub mod Lists
+pub mod Reach
+pub mod Body
+pub mod WellFormed
+pub mod Doubled
+pub mod Queue
+pub mod Walks
+pub mod Masks
+pub mod Live
+pub mod Runs
+pub mod Cases

@@ -1,0 +1,22 @@
+-- A statement's mask is the union over both copies of what the queue rule leaves at them; its visits are the queue rule's.
+-- A state is in it exactly when a walk of the doubled graph brings it to one of the two.
+use Prim.Native.Nat.{ℕ}
+use lib.Bits.{bitOr}
+use Rattle.masks.specs.State.{State}
+use Rattle.flow.specs.Flow.{Flow}
+use Rattle.theory.specs.Queue.{solved}
+use Rattle.theory.specs.Walks.{Brings}
+use Rattle.theory.specs.Doubled.{doubled, number, at, Base}
+
+unfoldable pub nodeMask : Flow → ℕ → ℕ → ℕ
+nodeMask f d a = solved (doubled f) .masks d a
+
+unfoldable pub maskOf : Flow → ℕ → ℕ → ℕ
+maskOf f i a = bitOr (nodeMask f (number f (at Base.zero i)) a) (nodeMask f (number f (at Base.n i)) a)
+
+unfoldable pub visitsOf : Flow → ℕ
+visitsOf f = solved (doubled f) .visits
+
+-- a walk brings state s of array a to statement i, in one of its two copies
+pub data BringsTo (f : Flow) (a i : ℕ) (s : State) : Type 0 where
+  copy : (b : Base) → Brings (doubled f) a (number f (at b i)) s → BringsTo f a i s
