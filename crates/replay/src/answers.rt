@@ -93,7 +93,14 @@ fn accepted(
     written(s, case.answers, sizes, visits, masks, live_in, live_out)
 }
 
-// The lent areas are filled, and no longer than the case says.
+fn fill(masks: &mut [u8], live_in: &mut [u64], live_out: &mut [u64], work: &mut [u64]) {
+    fill_bytes(masks);
+    fill_words(live_in);
+    fill_words(live_out);
+    fill_words(work);
+}
+
+// The lent areas are as long as the case says.
 fn same(
     s: &[u8],
     file: &[u8],
@@ -106,10 +113,7 @@ fn same(
 ) -> bool
     requires { ⌜ case .answers ≤ length (now s) ⌝ }
 {
-    fill_bytes(masks);
-    fill_words(live_in);
-    fill_words(live_out);
-    fill_words(work);
+    fill(masks, live_in, live_out, work);
     match dataflow::door::states(file, masks, live_in, live_out, work) {
         dataflow::Answer::Refused(r) => {
             if refused(case, r) {
