@@ -1,9 +1,9 @@
 -- What the phases leave in the work area of a flow of n statements: the walk of a body in its row, the summary of each call, and the
 -- continuations that each RETURN goes to in its row.
-use Prim.Native.Nat.{ℕ, _+_, _*_, _<_, _≤_}
-use mathlib.Core.Bool.{Bool, true, false, cond}
+use Prim.Native.Nat.{ℕ, _+_, _<_, _≤_}
+use mathlib.Core.Bool.{true, false, cond}
 use mathlib.Core.List.{List}
-use mathlib.Core.Option.{Option, none, some}
+use mathlib.Core.Option.{none, some}
 use mathlib.Core.Path.{_≡_}
 use lib.ListN.{length, getD}
 use Rattle.words.specs.Row.{has}
@@ -12,7 +12,7 @@ use Rattle.theory.specs.Lists as lists
 use Rattle.theory.specs.Lists.{In, any, upTo}
 use Rattle.theory.specs.Body.{kind, continuationOf, isReturn, callees, entered, Walks, opaqueCall, callTouches}
 use Rattle.theory.specs.Doubled.{returnsTo}
-use Rattle.statements.specs.Layout.{callsAt, callTouchedAt, bodiesAt, rowAt, rowWords, queueAt, enteredAt}
+use Rattle.statements.specs.Layout.{callsAt, callTouchedAt, rowAt, rowWords, queueAt, enteredAt}
 use Rattle.statements.specs.Ready.{MembersWord}
 
 -- the states of a body and of a call
@@ -37,13 +37,17 @@ pub record WalkRow (f : Flow) (ws : List ℕ) (n e : ℕ) : Type 0 where
   pub sound : (i : ℕ) → i < n → has ws (rowAt n e) i ≡ 1 → Walks f e i
   pub complete : (i : ℕ) → Walks f e i → has ws (rowAt n e) i ≡ 1
 
--- the walk of e is in its row; the queue's words were used, and every other word is as it was
-pub record Walked (f : Flow) (ws vs : List ℕ) (n e : ℕ) : Type 0 where
-  pub row : WalkRow f vs n e
+-- of the words, only those of row e and of the queue may be others
+pub record OnlyRow (ws vs : List ℕ) (n e : ℕ) : Type 0 where
   pub size : length vs ≡ length ws
   pub below : (x : ℕ) → x < rowAt n e → getD vs x 0 ≡ getD ws x 0
   pub between : (x : ℕ) → rowAt n e + rowWords n ≤ x → x < queueAt n → getD vs x 0 ≡ getD ws x 0
   pub above : (x : ℕ) → enteredAt n ≤ x → getD vs x 0 ≡ getD ws x 0
+
+-- the walk of e is in its row; the queue's words were used, and every other word is as it was
+pub record Walked (f : Flow) (ws vs : List ℕ) (n e : ℕ) : Type 0 where
+  pub row : WalkRow f vs n e
+  pub only : OnlyRow ws vs n e
 
 -- no call and no body has a summary yet, and the matrix is empty
 pub record Fresh (ws : List ℕ) (n : ℕ) : Type 0 where
@@ -68,6 +72,9 @@ pub record Linked (f : Flow) (ws : List ℕ) (n : ℕ) : Type 0 where
 abbrev pub EmptyEntered : List ℕ → ℕ → Type 0
 EmptyEntered ws n = (j : ℕ) → j < n → has ws (enteredAt n) j ≡ 0
 
+abbrev pub EnteredIs : Flow → List ℕ → ℕ → ℕ → Type 0
+EnteredIs f ws n i = (j : ℕ) → j < n → has ws (enteredAt n) j ≡ cond (lists.has j (entered f i)) 1 0
+
 -- where statement i is a call that is not opaque, the row of entered statements is that of i
 pub record EnteredRow (f : Flow) (ws : List ℕ) (n i : ℕ) : Type 0 where
-  pub row : (k : ℕ) → continuationOf (kind f i) ≡ some k → opaqueCall f i ≡ false → (j : ℕ) → j < n → has ws (enteredAt n) j ≡ cond (lists.has j (entered f i)) 1 0
+  pub row : (k : ℕ) → continuationOf (kind f i) ≡ some k → opaqueCall f i ≡ false → EnteredIs f ws n i

@@ -1,2 +1,5 @@
 pub mod Held
+pub mod Walking
+pub mod Summing
 pub mod Slots
+pub mod Joins

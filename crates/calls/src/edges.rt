@@ -1,18 +1,38 @@
 // The edges of a doubled number, in the paper's order, one after the other by a cursor.
-ghost use Prim.Native.Nat.{_+_, _<_};
+ghost use Prim.Native.Nat.{_+_, _-_, _/_, _^_, _≤_, _<_};
+ghost use mathlib.Core.Bool.{false, _||_};
+ghost use mathlib.Core.Option.{some};
 ghost use mathlib.Core.Path.{_≡_};
-ghost use lib.ListN.{drop};
+ghost use lib.Dec.{eqb};
+ghost use lib.ListN.{length, getD, drop};
+ghost use Rattle.words.specs.Row.{has, nextMember};
+ghost use Rattle.flow.specs.Flow.{enters};
+ghost use Rattle.flow.specs.Limits.{workWords};
 ghost use Rattle.flow.specs.Format.{flowOf};
 ghost use Rattle.flow.specs.Answers.{headerOf};
-ghost use Rattle.theory.specs.Doubled.{node};
+ghost use Rattle.theory.specs.Lists.{optionList};
+ghost use Rattle.theory.specs.Body.{kind, callLines, continuationOf};
+ghost use Rattle.theory.specs.Doubled.{at, node, offset};
 ghost use Rattle.statements.specs.Layout.{enteredAt, waitingAt};
 ghost use Rattle.statements.specs.Ready.{Ready, Keeps};
-ghost use Rattle.calls.specs.Held.{Linked, EnteredRow, EmptyEntered};
-ghost use Rattle.calls.specs.Slots.{slots, edgeFrom};
-use crate::summary::CLEAR;
+ghost use Rattle.calls.specs.Held.{Linked, EnteredRow, EnteredIs, EmptyEntered};
+ghost use Rattle.calls.specs.Slots.{slots, listedSlots, callSlots, otherSlots, edgeFrom, copyOf, memberEdge};
+ghost use Rattle.calls.specs.Joins.{Adds};
+use crate::CLEAR;
 use crate::Edge;
 use statements::fields;
 use statements::layout;
+
+// Line l of statement i: the statement that it enters joins the row of entered statements.
+fn note_line(file: &[u8], h: flow::Header, work: &mut [u64], i: usize, l: usize)
+    requires { ⌜ Ready (now file) (now work) (h .statements) × (h ≡ headerOf (now file)) × (i < h .statements) × (l < length (callLines (kind (flowOf (now file)) i))) ⌝ }
+    ensures { λ _. ⌜ Adds (now (work .entry)) (now (work .exit)) (h .statements) (optionList (enters (flowOf (now (file .entry))) (getD (callLines (kind (flowOf (now (file .entry))) i)) l 0))) ⌝ }
+{
+    let n = h.statements;
+    if let flow::Entered::At(b) = fields::entered(file, h, work, i, l) {
+        words::insert(work, layout::entered(n), b.0);
+    }
+}
 
 // Sets the row of entered statements for statement i, which is empty.
 pub fn note_entered(file: &[u8], h: flow::Header, work: &mut [u64], i: usize)
@@ -23,19 +43,31 @@ pub fn note_entered(file: &[u8], h: flow::Header, work: &mut [u64], i: usize)
     let count = fields::line_count(file, work, n, i);
     let mut l = 0;
     while l < count {
-        if let flow::Entered::At(b) = fields::entered(file, h, work, i, l) {
-            words::insert(work, layout::entered(n), b.0);
-        }
+        note_line(file, h, work, i, l);
         l += 1;
     }
 }
 
-pub fn clear_entered(work: &mut [u64], n: usize) {
+pub fn clear_entered(work: &mut [u64], n: usize)
+    requires { ⌜ (0 < n) × (n ≤ 2048) × (workWords n ≤ length (now work)) ⌝ }
+    ensures { λ _. ⌜ EmptyEntered (now (work .exit)) n × Keeps (enteredAt n) (waitingAt n) (now (work .entry)) (now (work .exit)) ⌝ }
+{
     words::clear(work, layout::entered(n), layout::row_words(n));
 }
 
 // A call that is not opaque, with the continuation k: the entered statements, then the continuation, then the other successors.
-fn call_edge(file: &[u8], h: flow::Header, work: &[u64], base: usize, i: usize, k: usize, cursor: usize) -> Edge {
+fn call_edge(
+    file: &[u8],
+    h: flow::Header,
+    work: &[u64],
+    base: usize,
+    i: usize,
+    k: usize,
+    cursor: usize,
+) -> Edge
+    requires { ⌜ Ready (now file) (now work) (h .statements) × (h ≡ headerOf (now file)) × (i < h .statements) × (offset (flowOf (now file)) (copyOf base) ≡ base) × (continuationOf (kind (flowOf (now file)) i) ≡ some k) × EnteredIs (flowOf (now file)) (now work) (h .statements) i ⌝ }
+    ensures { λ r. ⌜ r ≡ edgeFrom (flowOf (now (file .entry))) (drop cursor (callSlots (flowOf (now (file .entry))) (copyOf base) i k)) cursor ⌝ }
+{
     let n = h.statements;
     let lines = fields::line_count(file, work, n, i);
     let mut c = cursor;
@@ -51,35 +83,60 @@ fn call_edge(file: &[u8], h: flow::Header, work: &[u64], base: usize, i: usize, 
     other_edge(file, work, n, base, i, k, lines + 1, c)
 }
 
+// Whether the successor s of such a call is left out: it is the continuation, or entered.
+fn left_out(work: &[u64], n: usize, k: usize, s: usize) -> bool
+    requires { ⌜ (n ≤ 2048) × (waitingAt n ≤ length (now work)) × (s < n) ⌝ }
+    ensures { λ r. ⌜ r ≡ (eqb s k || eqb (has (now (work .entry)) (enteredAt n) s) 1) ⌝ }
+{
+    if s == k {
+        return true;
+    }
+    words::contains(work, layout::entered(n), s)
+}
+
 // The successors of such a call that are neither entered nor the continuation; they stand from the slot `first` on.
-fn other_edge(file: &[u8], work: &[u64], n: usize, base: usize, i: usize, k: usize, first: usize, cursor: usize) -> Edge {
+fn other_edge(
+    file: &[u8],
+    work: &[u64],
+    n: usize,
+    base: usize,
+    i: usize,
+    k: usize,
+    first: usize,
+    cursor: usize,
+) -> Edge
+    requires { ⌜ Ready (now file) (now work) n × (i < n) × (offset (flowOf (now file)) (copyOf base) ≡ base) × EnteredIs (flowOf (now file)) (now work) n i × (first ≤ cursor) × (first < 2 ^ 32) ⌝ }
+    ensures { λ r. ⌜ r ≡ edgeFrom (flowOf (now (file .entry))) (drop (cursor - first) (otherSlots (flowOf (now (file .entry))) (copyOf base) i k)) cursor ⌝ }
+{
     let count = fields::successor_count(file, work, n, i);
     let mut c = cursor;
     while c - first < count {
         let j = fields::successor(file, work, n, i, c - first);
         let s = j.0;
-        if s != k {
-            if !words::contains(work, layout::entered(n), s) {
-                return Edge::To(flow::NodeId(base + s), false, c + 1);
-            }
+        if !left_out(work, n, k, s) {
+            return Edge::To(flow::NodeId(base + s), false, c + 1);
         }
         c += 1;
     }
     Edge::End
 }
 
-// RETURN: base 0 goes to the continuations in its row; base n goes nowhere.
-fn return_edge(work: &[u64], n: usize, base: usize, i: usize, cursor: usize) -> Edge {
-    if base == 0 {
-        let k = words::next(work, layout::row(n, i), cursor, n);
-        if k < n {
-            return Edge::To(flow::NodeId(k), false, k + 1);
-        }
+// The next member of a RETURN's row.
+fn member_edge(work: &[u64], row: usize, n: usize, cursor: usize) -> Edge
+    requires { ⌜ row + (n + 63) / 64 ≤ length (now work) ⌝ }
+    ensures { λ r. ⌜ r ≡ memberEdge n (nextMember (now (work .entry)) row cursor n) ⌝ }
+{
+    let k = words::next(work, row, cursor, n);
+    if k < n {
+        return Edge::To(flow::NodeId(k), false, k + 1);
     }
     Edge::End
 }
 
-fn listed_edge(file: &[u8], work: &[u64], n: usize, base: usize, i: usize, cursor: usize) -> Edge {
+fn listed_edge(file: &[u8], work: &[u64], n: usize, base: usize, i: usize, cursor: usize) -> Edge
+    requires { ⌜ Ready (now file) (now work) n × (i < n) × (offset (flowOf (now file)) (copyOf base) ≡ base) ⌝ }
+    ensures { λ r. ⌜ r ≡ edgeFrom (flowOf (now (file .entry))) (drop cursor (listedSlots (flowOf (now (file .entry))) (copyOf base) i)) cursor ⌝ }
+{
     if cursor < fields::successor_count(file, work, n, i) {
         let j = fields::successor(file, work, n, i, cursor);
         return Edge::To(flow::NodeId(base + j.0), false, cursor + 1);
@@ -87,22 +144,36 @@ fn listed_edge(file: &[u8], work: &[u64], n: usize, base: usize, i: usize, curso
     Edge::End
 }
 
+// The next edge of statement i in the copy that begins at base. RETURN goes on from base 0 only.
+fn edge_of(file: &[u8], h: flow::Header, work: &[u64], base: usize, i: usize, cursor: usize) -> Edge
+    requires { ⌜ Ready (now file) (now work) (h .statements) × (h ≡ headerOf (now file)) × Linked (flowOf (now file)) (now work) (h .statements) × (i < h .statements) × (offset (flowOf (now file)) (copyOf base) ≡ base) × EnteredRow (flowOf (now file)) (now work) (h .statements) i ⌝ }
+    ensures { λ r. ⌜ r ≡ edgeFrom (flowOf (now (file .entry))) (drop cursor (slots (flowOf (now (file .entry))) (at (copyOf base) i))) cursor ⌝ }
+{
+    let n = h.statements;
+    if fields::is_return(file, work, n, i) {
+        if base == 0 {
+            return member_edge(work, layout::row(n, i), n, cursor);
+        }
+        return Edge::End;
+    }
+    if work[layout::calls(n) + i] != CLEAR {
+        return listed_edge(file, work, n, base, i, cursor);
+    }
+    match fields::continuation(file, work, n, i) {
+        flow::Continuation::To(k) => call_edge(file, h, work, base, i, k.0, cursor),
+        flow::Continuation::None => listed_edge(file, work, n, base, i, cursor),
+    }
+}
+
 // The next edge of d at or after the cursor.
 pub fn edge(file: &[u8], h: flow::Header, work: &[u64], d: flow::NodeId, cursor: usize) -> Edge
-    requires { ⌜ Ready (now file) (now work) (h .statements) × (h ≡ headerOf (now file)) × Linked (flowOf (now file)) (now work) (h .statements) × (d .0 < h .statements + h .statements) × EnteredRow (flowOf (now file)) (now work) (h .statements) (node (flowOf (now file)) (d .0) .stmt) × (cursor < 65536) ⌝ }
+    requires { ⌜ Ready (now file) (now work) (h .statements) × (h ≡ headerOf (now file)) × Linked (flowOf (now file)) (now work) (h .statements) × (d .0 < h .statements + h .statements) × EnteredRow (flowOf (now file)) (now work) (h .statements) (node (flowOf (now file)) (d .0) .stmt) ⌝ }
     ensures { λ r. ⌜ r ≡ edgeFrom (flowOf (now (file .entry))) (drop cursor (slots (flowOf (now (file .entry))) (node (flowOf (now (file .entry))) (d .0)))) cursor ⌝ }
 {
     let n = h.statements;
     let at = d.0;
-    let base = if at < n { 0 } else { n };
-    let i = at - base;
-    if fields::is_return(file, work, n, i) {
-        return return_edge(work, n, base, i, cursor);
+    if at < n {
+        return edge_of(file, h, work, 0, at, cursor);
     }
-    if work[layout::calls(n) + i] == CLEAR {
-        if let flow::Continuation::To(k) = fields::continuation(file, work, n, i) {
-            return call_edge(file, h, work, base, i, k.0, cursor);
-        }
-    }
-    listed_edge(file, work, n, base, i, cursor)
+    edge_of(file, h, work, n, at - n, cursor)
 }

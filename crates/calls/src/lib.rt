@@ -6,6 +6,15 @@ pub enum Edge {
     End,
 }
 
+// The states of a body and of a call. An open body is being walked: whoever calls it then lies on a cycle of calls with it.
+pub const UNENTERED: u64 = 0;
+
+pub const OPEN: u64 = 1;
+
+pub const CLEAR: u64 = 2;
+
+pub const OPAQUE: u64 = 3;
+
 pub mod edges;
 pub mod returns;
 pub mod summary;

@@ -1,71 +1,102 @@
 // Summaries: of a body, by its walk and its calls; of a call, by the bodies that it enters. A subroutine's summary needs its
 // calls, and a call's summary needs its subroutines, so the two functions call each other; the number of unentered entries falls.
-ghost use Prim.Native.Nat.{_<_};
+ghost use Prim.Native.Nat.{ℕ, _<_};
 ghost use mathlib.Core.Path.{_≡_};
 ghost use Rattle.flow.specs.Format.{flowOf};
 ghost use Rattle.flow.specs.Answers.{headerOf};
 ghost use Rattle.statements.specs.Layout.{callsAt, enteredAt};
 ghost use Rattle.statements.specs.Ready.{Ready, Keeps};
+ghost use Rattle.theory.specs.Lists.{In};
+ghost use Rattle.theory.specs.Body.{callees};
 ghost use Rattle.calls.specs.Held.{Fresh, Summarized};
+ghost use Rattle.calls.specs.Summing as state;
+ghost use Rattle.calls.specs.Summing.{Area, Summing, Leads, Referred, CallJoined, BodyJoined, BodySummed, CallSummed};
+use crate::CLEAR;
+use crate::OPAQUE;
+use crate::OPEN;
+use crate::UNENTERED;
 use crate::walk::walk;
 use statements::fields;
 use statements::layout;
 
-// The states of a body and of a call. An open body is being walked: whoever calls it then lies on a cycle of calls with it.
-pub const UNENTERED: u64 = 0;
-pub const OPEN: u64 = 1;
-pub const CLEAR: u64 = 2;
-pub const OPAQUE: u64 = 3;
-
-fn settled(opaque: bool) -> u64 {
+fn settled(opaque: bool) -> u64
+    ensures { λ r. ⌜ r ≡ state.settled opaque ⌝ }
+{
     if opaque { OPAQUE } else { CLEAR }
 }
 
-// What the statements on e's walk do by themselves: their references are joined to the touched arrays of e; the
-// answer is whether one of them wipes arrays.
-fn own_effect(file: &[u8], work: &mut [u64], n: usize, e: usize) -> bool {
+// Joins the references of statement i to the touched arrays of body e.
+fn join_references(file: &[u8], work: &mut [u64], n: usize, e: usize, i: usize)
+    requires { ⌜ Ready (now file) (now work) n × (e < n) × (i < n) ⌝ }
+    ensures { λ _. ⌜ Referred (flowOf (now (file .entry))) (now (work .entry)) (now (work .exit)) n e i ⌝ }
+{
+    let refs = fields::references_word(file, work, n, i);
+    words::union_word(work, layout::touched(n) + e, refs);
+}
+
+// Joins what the call c touches to what body e touches, and says whether the call is opaque.
+fn join_call(work: &mut [u64], n: usize, e: usize, c: usize) -> bool
+    requires { ⌜ Area (now work) n × (e < n) × (c < n) ⌝ }
+    ensures { λ r. ⌜ CallJoined (now (work .entry)) (now (work .exit)) n e c r ⌝ }
+{
+    let hidden = work[layout::calls(n) + c] == OPAQUE;
+    let inner = work[layout::call_touched(n) + c];
+    words::union_word(work, layout::touched(n) + e, inner);
+    hidden
+}
+
+// Joins what body b touches to what the call c touches, and says whether the body is not clear: an open one is opaque, since it
+// lies on a cycle of calls.
+fn join_body(work: &mut [u64], n: usize, c: usize, b: usize) -> bool
+    requires { ⌜ Area (now work) n × (c < n) × (b < n) ⌝ }
+    ensures { λ r. ⌜ BodyJoined (now (work .entry)) (now (work .exit)) n c b r ⌝ }
+{
+    let hidden = work[layout::bodies(n) + b] != CLEAR;
+    let inner = work[layout::touched(n) + b];
+    words::union_word(work, layout::call_touched(n) + c, inner);
+    hidden
+}
+
+// The body that starts at e gets its summary, once. A RETURN's walk is itself, and its row is kept for its edges.
+fn sub_effect(file: &[u8], h: flow::Header, work: &mut [u64], e: usize)
+    requires { ⌜ Ready (now file) (now work) (h .statements) × (h ≡ headerOf (now file)) × (e < h .statements) × Summing (flowOf (now file)) (now work) (h .statements) × Leads (flowOf (now file)) (now work) (h .statements) e ⌝ }
+    ensures { λ _. ⌜ BodySummed (flowOf (now (file .entry))) (now (work .entry)) (now (work .exit)) (h .statements) e ⌝ }
+{
+    let n = h.statements;
+    let at = layout::bodies(n) + e;
+    if work[at] != UNENTERED {
+        return;
+    }
+    if fields::is_return(file, work, n, e) {
+        join_references(file, work, n, e, e);
+        work[at] = CLEAR;
+        return;
+    }
+    work[at] = OPEN;
+    walk(file, work, n, e);
     let row = layout::row(n, e);
     let mut opaque = false;
     let mut i = words::next(work, row, 0, n);
     while i < n {
+        join_references(file, work, n, e, i);
         let wiped = fields::wipes(file, work, n, i);
-        opaque = opaque | wiped;
-        let refs = fields::references_word(file, work, n, i);
-        words::union_word(work, layout::touched(n) + e, refs);
-        i = words::next(work, row, i + 1, n);
-    }
-    opaque
-}
-
-// The body that starts at e, which is unentered, gets its summary.
-pub fn sub_effect(file: &[u8], h: flow::Header, work: &mut [u64], e: usize) {
-    let n = h.statements;
-    let at = layout::bodies(n) + e;
-    work[at] = OPEN;
-    if fields::is_return(file, work, n, e) {
-        work[at] = CLEAR;
-        return;
-    }
-    walk(file, work, n, e);
-    let mut opaque = own_effect(file, work, n, e);
-    let row = layout::row(n, e);
-    let mut i = words::next(work, row, 0, n);
-    while i < n {
         call_summary(file, h, work, i);
-        let hidden = work[layout::calls(n) + i] == OPAQUE;
-        opaque = opaque | hidden;
-        let inner = work[layout::call_touched(n) + i];
-        words::union_word(work, layout::touched(n) + e, inner);
+        let hidden = join_call(work, n, e, i);
+        opaque = opaque | wiped | hidden;
         i = words::next(work, row, i + 1, n);
     }
     work[at] = settled(opaque);
 }
 
 // Statement c, if it is a call with a continuation, gets its summary, once: whether a body that it enters is opaque, and the
-// arrays that they touch. An open body counts as opaque, since it lies on a cycle of calls.
-pub fn call_summary(file: &[u8], h: flow::Header, work: &mut [u64], c: usize) {
+// arrays that they touch.
+fn call_summary(file: &[u8], h: flow::Header, work: &mut [u64], c: usize)
+    requires { ⌜ Ready (now file) (now work) (h .statements) × (h ≡ headerOf (now file)) × (c < h .statements) × Summing (flowOf (now file)) (now work) (h .statements) × ((b : ℕ) → In b (callees (flowOf (now file)) c) → Leads (flowOf (now file)) (now work) (h .statements) b) ⌝ }
+    ensures { λ _. ⌜ CallSummed (flowOf (now (file .entry))) (now (work .entry)) (now (work .exit)) (h .statements) c ⌝ }
+{
     let n = h.statements;
-    if work[layout::calls(n) + c] != UNENTERED {
+    let at = layout::calls(n) + c;
+    if work[at] != UNENTERED {
         return;
     }
     let flow::Continuation::To(_) = fields::continuation(file, work, n, c) else {
@@ -76,18 +107,13 @@ pub fn call_summary(file: &[u8], h: flow::Header, work: &mut [u64], c: usize) {
     let mut k = 0;
     while k < count {
         if let flow::Entered::At(b) = fields::entered(file, h, work, c, k) {
-            let e = b.0;
-            if work[layout::bodies(n) + e] == UNENTERED {
-                sub_effect(file, h, work, e);
-            }
-            let hidden = work[layout::bodies(n) + e] != CLEAR;
+            sub_effect(file, h, work, b.0);
+            let hidden = join_body(work, n, c, b.0);
             opaque = opaque | hidden;
-            let inner = work[layout::touched(n) + e];
-            words::union_word(work, layout::call_touched(n) + c, inner);
         }
         k += 1;
     }
-    work[layout::calls(n) + c] = settled(opaque);
+    work[at] = settled(opaque);
 }
 
 // The summary of every call with a continuation.

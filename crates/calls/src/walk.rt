@@ -1,14 +1,19 @@
 // The body walk of an entry, into its row of the matrix. The queue's words serve as a stack.
 ghost use Prim.Native.Nat.{_<_};
-ghost use mathlib.Core.Path.{_≡_};
+ghost use mathlib.Core.List.{_∷_, []};
 ghost use Rattle.flow.specs.Format.{flowOf};
+ghost use Rattle.theory.specs.Body.{successors, walkNext};
 ghost use Rattle.statements.specs.Ready.{Ready};
 ghost use Rattle.calls.specs.Held.{EmptyRow, Walked};
+ghost use Rattle.calls.specs.Walking.{Stack, Met};
 use statements::fields;
 use statements::layout;
 
 // Puts i into the row of e and on the stack, unless it was met before. The height of the stack comes back.
-fn meet(work: &mut [u64], n: usize, e: usize, top: usize, i: usize) -> usize {
+fn meet(work: &mut [u64], n: usize, e: usize, top: usize, i: usize) -> usize
+    requires { ⌜ Stack (now work) n e top × (e < n) × (i < n) ⌝ }
+    ensures { λ r. ⌜ Met (now (work .entry)) (now (work .exit)) n e top r (i ∷ []) ⌝ }
+{
     if words::insert(work, layout::row(n, e), i) {
         work[layout::queue(n) + top] = i as u64;
         return top + 1;
@@ -16,7 +21,10 @@ fn meet(work: &mut [u64], n: usize, e: usize, top: usize, i: usize) -> usize {
     top
 }
 
-fn meet_successors(file: &[u8], work: &mut [u64], n: usize, e: usize, top: usize, i: usize) -> usize {
+fn meet_successors(file: &[u8], work: &mut [u64], n: usize, e: usize, top: usize, i: usize) -> usize
+    requires { ⌜ Ready (now file) (now work) n × Stack (now work) n e top × (e < n) × (i < n) ⌝ }
+    ensures { λ r. ⌜ Met (now (work .entry)) (now (work .exit)) n e top r (successors (flowOf (now (file .entry))) i) ⌝ }
+{
     let count = fields::successor_count(file, work, n, i);
     let mut height = top;
     let mut k = 0;
@@ -29,7 +37,10 @@ fn meet_successors(file: &[u8], work: &mut [u64], n: usize, e: usize, top: usize
 }
 
 // Where a body walk goes on from i: nowhere at RETURN, to the continuation only at a call with one, else to the successors.
-fn meet_next(file: &[u8], work: &mut [u64], n: usize, e: usize, top: usize, i: usize) -> usize {
+fn meet_next(file: &[u8], work: &mut [u64], n: usize, e: usize, top: usize, i: usize) -> usize
+    requires { ⌜ Ready (now file) (now work) n × Stack (now work) n e top × (e < n) × (i < n) ⌝ }
+    ensures { λ r. ⌜ Met (now (work .entry)) (now (work .exit)) n e top r (walkNext (flowOf (now (file .entry))) i) ⌝ }
+{
     if fields::is_return(file, work, n, i) {
         return top;
     }

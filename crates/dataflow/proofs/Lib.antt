@@ -1,3 +1,4 @@
 pub mod Promised
 pub mod Judging
 pub mod NotedRows
+pub mod Phases

@@ -47,6 +47,7 @@ fn marked(file: &[u8], p: usize, letter: usize) -> bool
     false
 }
 
+// The length of the file and its header.
 fn check_header(file: &[u8]) -> Passed
     ensures { λ r. ⌜ r ≡ passedOf (verdict (headerChecks (now (file .entry)))) 8 ⌝ }
 {
@@ -107,7 +108,7 @@ fn check_start(file: &[u8], p: usize) -> Passed
     Passed::To(p + 6)
 }
 
-// The references of the record at p, from their count at at on. They rise: each is at least one more than the one before.
+// The references of the record at p, whose count stands at `at`. `least` is the smallest array number that still rises.
 fn check_references(file: &[u8], p: usize, at: usize) -> Passed
     requires { ⌜ Reached (now file) p at (referencesPlace (now file) p) ⌝ }
     ensures { λ r. ⌜ r ≡ passedOf (verdict (referenceCountChecks (now (file .entry)) p ++ each (referenceCount (now (file .entry)) p) (referenceChecks (now (file .entry)) p))) (namesPlace (now (file .entry)) p) ⌝ }
@@ -153,6 +154,7 @@ fn names_fit(w: u64, names: usize) -> bool
     w >> names == 0
 }
 
+// The names written and the names read by the record at p, which stand at `at`.
 fn check_names(file: &[u8], p: usize, at: usize) -> Passed
     requires { ⌜ Reached (now file) p at (namesPlace (now file) p) ⌝ }
     ensures { λ r. ⌜ r ≡ passedOf (verdict (nameChecks (now (file .entry)) p)) (dataPlace (now (file .entry)) p) ⌝ }
@@ -173,6 +175,7 @@ fn check_names(file: &[u8], p: usize, at: usize) -> Passed
     Passed::To(at + 16)
 }
 
+// The data of a DIM: items of an array and a flag, whose count stands at `at`.
 fn check_items(file: &[u8], p: usize, at: usize) -> Passed
     requires { ⌜ Reached (now file) p at (dataPlace (now file) p) ⌝ }
     ensures { λ r. ⌜ r ≡ passedOf (verdict (dimChecks (now (file .entry)) p)) (elementsEnd (now (file .entry)) p) ⌝ }
@@ -202,8 +205,9 @@ fn check_items(file: &[u8], p: usize, at: usize) -> Passed
     Passed::To(at + 1 + 2 * count)
 }
 
+// A call's continuation: a statement, or none.
 fn check_continuation(file: &[u8], p: usize, at: usize) -> Passed
-    requires { ⌜ Reached (now file) p at (at) ⌝ }
+    requires { ⌜ Reached (now file) p at at ⌝ }
     ensures { λ r. ⌜ r ≡ passedOf (verdict (continuationChecks (now (file .entry)) p at)) (at + 2) ⌝ }
 {
     if file.len() < at + 2 {
@@ -219,6 +223,7 @@ fn check_continuation(file: &[u8], p: usize, at: usize) -> Passed
     Passed::To(at + 2)
 }
 
+// The data of a GOSUB: a line, which may be any, and a continuation.
 fn check_gosub(file: &[u8], p: usize, at: usize) -> Passed
     requires { ⌜ Reached (now file) p at (dataPlace (now file) p) ⌝ }
     ensures { λ r. ⌜ r ≡ passedOf (verdict (gosubChecks (now (file .entry)) p)) (dataPlace (now (file .entry)) p + 4) ⌝ }
@@ -229,7 +234,7 @@ fn check_gosub(file: &[u8], p: usize, at: usize) -> Passed
     check_continuation(file, p, at + 2)
 }
 
-// Any line will do, so all of them are there or the record is short.
+// The data of an ON GOSUB: lines and a continuation. The lines may be any, so it is enough that the last one lies within the file.
 fn check_call_lines(file: &[u8], p: usize, at: usize) -> Passed
     requires { ⌜ Reached (now file) p at (dataPlace (now file) p) ⌝ }
     ensures { λ r. ⌜ r ≡ passedOf (verdict (onGosubChecks (now (file .entry)) p)) (elementsEnd (now (file .entry)) p + 2) ⌝ }
@@ -244,6 +249,7 @@ fn check_call_lines(file: &[u8], p: usize, at: usize) -> Passed
     check_continuation(file, p, end)
 }
 
+// The data of the kind.
 fn check_data(file: &[u8], p: usize, at: usize) -> Passed
     requires { ⌜ Reached (now file) p at (dataPlace (now file) p) ⌝ }
     ensures { λ r. ⌜ r ≡ passedOf (verdict (dataChecks (now (file .entry)) p)) (recordEnd (now (file .entry)) p) ⌝ }
@@ -256,7 +262,7 @@ fn check_data(file: &[u8], p: usize, at: usize) -> Passed
     }
 }
 
-// The rest of the record at p, from its reference count at at on.
+// The rest of the record at p, behind its successors.
 fn check_rest(file: &[u8], p: usize, at: usize) -> Passed
     requires { ⌜ Reached (now file) p at (referencesPlace (now file) p) ⌝ }
     ensures { λ r. ⌜ r ≡ passedOf (verdict (restChecks (now (file .entry)) p)) (recordEnd (now (file .entry)) p) ⌝ }
@@ -312,7 +318,7 @@ fn check_statements(file: &[u8]) -> Passed
     Passed::To(p)
 }
 
-// The FL records from at on.
+// The FL records, of which the first stands at `at`, if there are any.
 fn check_lines(file: &[u8], at: usize) -> Passed
     requires { ⌜ (8 ≤ length (now file)) × (at ≤ length (now file)) × (at ≡ linesPlace (now file)) ⌝ }
     ensures { λ r. ⌜ r ≡ passedOf (verdict (each (lineCount (now (file .entry))) (lineRecordChecks (now (file .entry))))) (endPlace (now (file .entry))) ⌝ }
@@ -341,7 +347,7 @@ fn check_lines(file: &[u8], at: usize) -> Passed
     Passed::To(at + 6 * k)
 }
 
-// The end record at at, and nothing after it.
+// The end record at `at`, and nothing after it.
 fn check_end(file: &[u8], at: usize) -> Passed
     requires { ⌜ (at ≤ length (now file)) × (at ≡ endPlace (now file)) ⌝ }
     ensures { λ r. ⌜ r ≡ passedOf (verdict (endChecks (now (file .entry)))) (endPlace (now (file .entry)) + 2) ⌝ }
@@ -355,6 +361,7 @@ fn check_end(file: &[u8], at: usize) -> Passed
     Passed::To(at + 2)
 }
 
+// A whole file: its header, or why it is refused.
 pub fn check_file(file: &[u8]) -> Checked
     ensures { λ r. ⌜ r ≡ checkedOf (verdict (fileChecks (now (file .entry)))) (headerOf (now (file .entry))) ⌝ }
 {

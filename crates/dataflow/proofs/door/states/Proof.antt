@@ -87,14 +87,15 @@ solve-flow-requires c κs =
     let work = c .before .before .before .before .before .before .before .clear in
     let rooms = judging.rooms _ _ _ _ _ _ (sym (e .before .areas-fit .ensures) ∙ not-false _ (e .if1 .left)) in
     record {
-      fit = fits k;
-      header = header k;
-      some = pos-of-ne-zero (c .before .before .before .before .if2 .left);
+      fresh = record {
+        fit = fits k;
+        header = header k;
+        some = pos-of-ne-zero (c .before .before .before .before .if2 .left);
+        work-room = subst (λ m. workWords (k .before .found .given .0 .0 .statements) ≤ m) (sym (work .kept .0)) (rooms .work-room);
+        zero = λ x. ap (λ l. getD l x 0) (work .ensures ∙ judging.cleared-whole (now (a .work)) _ refl) ∙ judging.zeros (length (now (a .work))) x };
       masks-room = rooms .masks-room;
       in-room = rooms .in-room;
-      out-room = rooms .out-room;
-      work-room = subst (λ m. workWords (k .before .found .given .0 .0 .statements) ≤ m) (sym (work .kept .0)) (rooms .work-room);
-      zero = λ x. ap (λ l. getD l x 0) (work .ensures ∙ judging.cleared-whole (now (a .work)) _ refl) ∙ judging.zeros (length (now (a .work))) x }
+      out-room = rooms .out-room }
 
 clear-requires-2 : tie.Need-clear-requires-2
 clear-requires-2 c κs = search needs

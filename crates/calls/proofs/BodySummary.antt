@@ -1,0 +1,355 @@
+-- The summary of a body, statement by statement of its walk: what was passed by is clear and its arrays are noted, or the body is opaque.
+-- A body with nothing opaque on its walk is clear, since the bodies that its calls enter are; what it touches is then all noted.
+use Prim.Native.Nat.{ℕ, _+_, _<_, _≤_}
+use mathlib.Core.Bool.{Bool, true, false, cond, _||_}
+use mathlib.Core.List.{List, [], List·Memᴰ·not-nil}
+use mathlib.Core.Logic.{_≢_, ⊎-elim}
+use mathlib.Core.Option.{Option, none, some}
+use mathlib.Core.Path.{_≡_, refl, sym, ap, _∙_, subst}
+use native.Mathlib.Decide.{decLt, ℕ-discrete}
+use native.Mathlib.Omega.{arith}
+use borrow.Author.Tests.{eqb-true, eqb-false}
+use lib.ListN.{length, set}
+use Rattle.words.specs.Row.{bit, nextMember}
+use Rattle.words.proofs.NextMember.{first}
+use Rattle.flow.specs.Flow.{Flow, Kind, size}
+use Rattle.theory.specs.Lists as lists
+use Rattle.theory.specs.Lists.{In, any}
+use Rattle.theory.specs.Reach.{Reach}
+use Rattle.theory.specs.Body as theory
+use Rattle.theory.specs.Body.{kind, references, continuationOf, entered, ifSome, callees, isReturn, successors, orElse, walkNext, Walks, Calls, Touches, wipes, Calls⁺, Opaque, OpaqueCall, CallTouches, walked, touches, opaqueCall, callTouches}
+use Rattle.theory.specs.WellFormed.{WellFormed}
+use Rattle.theory.proofs.Lists.{clash, or-cases, any-find, In-has, has-In}
+use Rattle.theory.proofs.Body.{walked-sound, touches-sound, touches-complete, touches-equation, opaque-complete, opaqueCall-sound, callTouches-sound}
+use Rattle.theory.proofs.Clear.{Clear, clear-opaque, callee-clear}
+use Rattle.statements.specs.Layout.{bodiesAt, touchedAt, matrixAt, rowAt}
+use Rattle.statements.specs.Ready.{MembersWord}
+use Rattle.calls.specs.Held.{unentered, opened, clear, opaque, EmptyRow, WalkRow}
+use Rattle.calls.specs.Summing.{body, call, touchedBy, callTouchedBy, settled, Within, Holds, BodyState, CallState, Summing, OnwardBut, Onward, Leads, Referred, CallJoined, BodySummed, CallSummed}
+use Rattle.calls.proofs.Summing.{joined-has, onward-refl, onward-trans, onward-but, onward-all, walk-low, onward-touched, summing-touched, body-set, body-other, onward-body, summing-body, rows-set, walk-kept}
+
+-- Members of a word
+
+pub member-true : {w a : ℕ} {p : ℕ → Bool} → MembersWord w p → a < 64 → bit w a ≡ 1 → p a ≡ true
+member-true {w} {a} {p} m l h = go (p a) refl
+  where
+    go : (b : Bool) → p a ≡ b → p a ≡ true
+    go true q = q
+    go false q = absurd (let z : bit w a ≡ 0 = m .member a l ∙ ap (λ b. cond b 1 0) q in omega (arith, z, h))
+
+pub true-member : {w a : ℕ} {p : ℕ → Bool} → MembersWord w p → a < 64 → p a ≡ true → bit w a ≡ 1
+true-member {w} {a} m l h = m .member a l ∙ ap (λ b. cond b 1 0) h
+
+-- States
+
+-- an open body's row is its walk
+pub open-row : {f : Flow} {ws : List ℕ} {n b : ℕ} → body ws n b ≡ opened → BodyState f ws n b → WalkRow f ws n b
+open-row h (BodyState.is-unentered e r) = absurd (omega (arith, h, e))
+open-row h (BodyState.is-open e r) = r
+open-row h (BodyState.is-clear e o t r) = absurd (omega (arith, h, e))
+open-row h (BodyState.is-opaque e o r) = absurd (omega (arith, h, e))
+
+pub unentered-row : {f : Flow} {ws : List ℕ} {n b : ℕ} → body ws n b ≡ unentered → BodyState f ws n b → EmptyRow ws n b
+unentered-row h (BodyState.is-unentered e r) = r
+unentered-row h (BodyState.is-open e r) = absurd (omega (arith, h, e))
+unentered-row h (BodyState.is-clear e o t r) = absurd (omega (arith, h, e))
+unentered-row h (BodyState.is-opaque e o r) = absurd (omega (arith, h, e))
+
+-- what a call says that is not opaque by its state
+pub record NotHidden (f : Flow) (ws : List ℕ) (n c : ℕ) : Type 0 where
+  pub call : opaqueCall f c ≡ false
+  pub touched : Holds (callTouchedBy ws n c) (callTouches f c)
+
+no-callees : (f : Flow) (c : ℕ) → continuationOf (kind f c) ≡ none → callees f c ≡ []
+unfolding callees
+no-callees f c h = ap (λ o. ifSome o (entered f c) []) h
+
+ordinary : (f : Flow) (ws : List ℕ) (n c : ℕ) → continuationOf (kind f c) ≡ none → NotHidden f ws n c
+unfolding opaqueCall callTouches any
+ordinary f ws n c h = record {
+  call = ap (any (theory.opaque f)) (no-callees f c h);
+  touched = λ a l t. clash (callTouches f c a) t (ap (any (λ b. touches f b a)) (no-callees f c h));
+}
+
+not-hidden : {f : Flow} {ws : List ℕ} {n c : ℕ} → ((k : ℕ) → continuationOf (kind f c) ≡ some k → call ws n c ≢ unentered) → call ws n c ≢ opaque → CallState f ws n c → NotHidden f ws n c
+not-hidden {f} {ws} {n} {c} done d (CallState.is-none e) = go (continuationOf (kind f c)) refl
+  where
+    go : (o : Option ℕ) → continuationOf (kind f c) ≡ o → NotHidden f ws n c
+    go none q = ordinary f ws n c q
+    go (some k) q = absurd (done k q e)
+not-hidden done d (CallState.is-clear e n o t) = record { call = o; touched = t }
+not-hidden done d (CallState.is-opaque e n o) = absurd (d e)
+
+hidden-opaque : {f : Flow} {ws : List ℕ} {n c : ℕ} → call ws n c ≡ opaque → CallState f ws n c → opaqueCall f c ≡ true
+hidden-opaque h (CallState.is-none e) = absurd (omega (arith, h, e))
+hidden-opaque h (CallState.is-clear e n o t) = absurd (omega (arith, h, e))
+hidden-opaque h (CallState.is-opaque e n o) = o
+
+pub settled-not : (b : Bool) (v : ℕ) → opaque ≢ v → clear ≢ v → settled b ≢ v
+settled-not true v h k = h
+settled-not false v h k = k
+
+pub or-first : (a b : Bool) → (a || b) ≡ false → a ≡ false
+or-first true b h = h
+or-first false b h = refl
+
+pub or-second : (a b : Bool) → (a || b) ≡ false → b ≡ false
+or-second true b h = clash true refl h
+or-second false b h = h
+
+-- Calls lead to the bodies that the calls on the walk enter, from every open body
+pub body-leads : {f : Flow} {ws vs : List ℕ} {n e i b : ℕ} → OnwardBut e ws vs n → Leads f ws n e → Walks f e i → In b (callees f i) → Leads f vs n b
+body-leads {f} {ws} {vs} {n} {e} {i} {b} p lead r m o l h = go (ℕ-discrete o e)
+  where
+    go : Dec (o ≡ e) → Calls⁺ f o b
+    go (yes q) = subst (λ z. Calls⁺ f z b) (sym q) (Calls⁺.one (Calls.calls r m))
+    go (no d) = Calls⁺.more (lead o l (p .was-open o l d h)) (Calls.calls r m)
+
+-- RETURN
+
+return-wipes : (k : Kind) → isReturn k ≡ true → wipes k ≡ false
+return-wipes Kind.other h = refl
+return-wipes Kind.return h = refl
+return-wipes Kind.clr h = clash false h refl
+return-wipes Kind.run h = clash false h refl
+return-wipes (Kind.dim items) h = clash false h refl
+return-wipes (Kind.gosub l c) h = refl
+return-wipes (Kind.onGosub ls c) h = refl
+
+return-ordinary : (k : Kind) → isReturn k ≡ true → continuationOf k ≡ none
+return-ordinary Kind.other h = refl
+return-ordinary Kind.return h = refl
+return-ordinary Kind.clr h = refl
+return-ordinary Kind.run h = refl
+return-ordinary (Kind.dim items) h = refl
+return-ordinary (Kind.gosub l c) h = clash false h refl
+return-ordinary (Kind.onGosub ls c) h = clash false h refl
+
+return-stops : (f : Flow) (e j : ℕ) → isReturn (kind f e) ≡ true → In j (walkNext f e) → ⊥
+unfolding walkNext
+return-stops f e j h m = List·Memᴰ·not-nil (subst (λ b. In j (cond b [] (orElse (continuationOf (kind f e)) (successors f e)))) h m)
+
+-- the walk of a RETURN is itself
+return-walk : (f : Flow) {e i : ℕ} → isReturn (kind f e) ≡ true → Walks f e i → i ≡ e
+return-walk f h Reach.here = refl
+return-walk f {e} h (Reach.on {i = i} {j = j} r m) = absurd (return-stops f e j h (subst (λ x. In j (walkNext f x)) (return-walk f h r) m))
+
+-- The walk, statement by statement
+
+pub record Passed (f : Flow) (ws : List ℕ) (n e j : ℕ) : Type 0 where
+  pub keeps : wipes (kind f j) ≡ false
+  pub call : opaqueCall f j ≡ false
+  pub own : Holds (touchedBy ws n e) (λ a. lists.has a (references f j))
+  pub nested : Holds (touchedBy ws n e) (callTouches f j)
+
+-- the statements below i of the walk were passed by; `hidden` says whether one of them is opaque
+pub record PassedBelow (f : Flow) (ws₀ ws : List ℕ) (n e : ℕ) (hidden : Bool) (i : ℕ) : Type 0 where
+  pub summing : Summing f ws n
+  pub onward : Onward ws₀ ws n
+  pub is-open : body ws n e ≡ opened
+  pub passed : (j : ℕ) → j < i → Walks f e j → hidden ≡ false → Passed f ws n e j
+  pub found : hidden ≡ true → theory.opaque f e ≡ true
+
+pub record BodyLoop (f : Flow) (ws₀ ws : List ℕ) (n e : ℕ) (hidden : Bool) (i : ℕ) : Type 0 where
+  pub below : PassedBelow f ws₀ ws n e hidden i
+  pub high : i ≤ n
+  pub member : i < n → Walks f e i
+
+-- to the next statement of the walk
+pub body-next : {f : Flow} {ws₀ ws : List ℕ} {n e from : ℕ} {hidden : Bool} → e < n → from ≤ n → PassedBelow f ws₀ ws n e hidden from → {base i : ℕ} → base ≡ rowAt n e → i ≡ nextMember ws base from n
+    → BodyLoop f ws₀ ws n e hidden i
+body-next {f} {ws₀} {ws} {n} {e} {from} {hidden} le l p {base} {i} q is = record {
+  below = record {
+    summing = p .summing;
+    onward = p .onward;
+    is-open = p .is-open;
+    passed = λ j h r z. passed j h r z (decLt j from);
+    found = p .found;
+  };
+  high = rw is′ (is-first .high);
+  member = λ h. row .sound i h (rw is′ (is-first .member (rw is′ at h)));
+}
+  where
+    row : WalkRow f ws n e
+    row = open-row (p .is-open) (p .summing .bodies e le)
+
+    is′ : i ≡ nextMember ws (rowAt n e) from n
+    is′ = is ∙ ap (λ b. nextMember ws b from n) q
+
+    is-first : Rattle.words.specs.Row.First ws (rowAt n e) from n (nextMember ws (rowAt n e) from n)
+    is-first = first ws (rowAt n e) from n l
+
+    passed : (j : ℕ) → j < i → Walks f e j → hidden ≡ false → Dec (j < from) → Passed f ws n e j
+    passed j h r z (yes k) = p .passed j k r z
+    passed j h r z (no k) = absurd (let w : j < nextMember ws (rowAt n e) from n = rw is′ at h in omega (arith, is-first .none j (omega (arith, k)) w, row .complete j r))
+
+pub next-low : (ws : List ℕ) (base : ℕ) {from n i : ℕ} → from ≤ n → i ≡ nextMember ws base from n → from ≤ i
+next-low ws base {from} {n} l q = rw q (first ws base from n l .low)
+
+pub passed-none : {f : Flow} {ws : List ℕ} {n e : ℕ} → Summing f ws n → body ws n e ≡ opened → PassedBelow f ws ws n e false 0
+passed-none {ws = ws} {n} s h = record {
+  summing = s;
+  onward = onward-refl ws n n;
+  is-open = h;
+  passed = λ j l. absurd (omega arith);
+  found = λ q. clash false q refl;
+}
+
+module _ {f : Flow} {n : ℕ} (w : WellFormed f) (sz : size f ≡ n) where
+  low : {e : ℕ} → e < n → e < size f
+  low {e} l = subst (λ m. e < m) (sym sz) l
+
+  -- what a statement of the walk does belongs to the body
+
+  own-within : {e i word : ℕ} → e < n → Walks f e i → MembersWord word (λ a. lists.has a (references f i)) → Within word (touches f e)
+  own-within {i = i} le r m a l h = touches-complete w (low le) (Touches.own r (has-In a (references f i) (member-true m l h)))
+
+  call-touches : {e i : ℕ} (a : ℕ) → e < n → Walks f e i → callTouches f i a ≡ true → touches f e a ≡ true
+  call-touches {e} {i} a le r h = go (callTouches-sound f i a h)
+    where
+      go : CallTouches f i a → touches f e a ≡ true
+      go (CallTouches.enters-touching m t) = touches-complete w (low le) (Touches.nested (Calls.calls r m) t)
+
+  call-hides : {e i : ℕ} → e < n → Walks f e i → opaqueCall f i ≡ true → theory.opaque f e ≡ true
+  call-hides {e} {i} le r h = go (opaqueCall-sound f i h)
+    where
+      go : OpaqueCall f i → theory.opaque f e ≡ true
+      go (OpaqueCall.enters-opaque m o) = opaque-complete w (low le) (Opaque.calls (Calls.calls r m) o)
+
+  -- the references of a statement on the walk are noted
+  module _ {ws vs : List ℕ} {e i : ℕ} (s : Summing f ws n) (room : matrixAt n ≤ length ws) (le : e < n) (r : Walks f e i) (j : Referred f ws vs n e i) where
+    pub referred-summing : Summing f vs n
+    referred-summing = rw (j .slice) (summing-touched w sz s room le (j .word) (own-within le r (j .set)))
+
+    pub referred-onward : Onward ws vs n
+    referred-onward = rw (j .slice) (onward-touched w sz s room le (j .word))
+
+    pub referred-own : Holds (touchedBy vs n e) (λ a. lists.has a (references f i))
+    referred-own a l h = rw (j .slice) (joined-has ws (touchedAt n + e) (j .word) a (omega arith) (true-member (j .set) l h))
+
+  -- a turn: the references of i, the summary of i, and what i touches as a call
+  module _ {ws₀ ws us vs zs : List ℕ} {e i : ℕ} {before wiped hidden : Bool} (room : matrixAt n ≤ length ws) (le : e < n) (li : i < n) (r : Walks f e i)
+      (p : PassedBelow f ws₀ ws n e before i) (j : Referred f ws us n e i) (k : CallSummed f us vs n i) (q : wiped ≡ wipes (kind f i)) (z : CallJoined vs zs n e i hidden) where
+    room-then : matrixAt n ≤ length vs
+    room-then = omega (arith, room, referred-onward (p .summing) room le r j .keeps .size, k .onward .keeps .size)
+
+    onward-here : Onward us zs n
+    onward-here = onward-trans (k .onward) (rw (z .slice) (onward-touched w sz (k .summing) room-then le (callTouchedBy vs n i)))
+
+    onward-turn : Onward ws zs n
+    onward-turn = onward-trans (referred-onward (p .summing) room le r j) onward-here
+
+    here : hidden ≡ false → wiped ≡ false → Passed f zs n e i
+    here h g =
+        let c = not-hidden (k .done) (eqb-false (call vs n i) opaque (sym (z .state) ∙ h)) (k .summing .calls i li) in
+        record {
+          keeps = sym q ∙ g;
+          call = c .call;
+          own = λ a l t. onward-here .touched e a le (referred-own (p .summing) room le r j a l t);
+          nested = λ a l t. rw (z .slice) (joined-has vs (touchedAt n + e) (callTouchedBy vs n i) a (omega (arith, room-then)) (c .touched a l t));
+        }
+
+    further : {x : ℕ} → Passed f ws n e x → Passed f zs n e x
+    further t = record {
+      keeps = t .keeps;
+      call = t .call;
+      own = λ a l h. onward-turn .touched e a le (t .own a l h);
+      nested = λ a l h. onward-turn .touched e a le (t .nested a l h);
+    }
+
+    pub body-turn : PassedBelow f ws₀ zs n e ((before || wiped) || hidden) (i + 1)
+    body-turn = record {
+      summing = rw (z .slice) (summing-touched w sz (k .summing) room-then le (callTouchedBy vs n i) (λ a l h. call-touches a le r (k .summing .callTouched i li a l h)));
+      onward = onward-trans (p .onward) onward-turn;
+      is-open = onward-turn .still-open e le (λ x. omega arith) (p .is-open);
+      passed = λ x l t h. passed x l t h (ℕ-discrete x i);
+      found = λ h. ⊎-elim (λ g. ⊎-elim (p .found) (λ o. opaque-complete w (low le) (Opaque.own r (sym q ∙ o))) (or-cases before wiped g)) (λ g. call-hides le r (hidden-opaque (eqb-true (call vs n i) opaque (sym (z .state) ∙ g)) (k .summing .calls i li))) (or-cases (before || wiped) hidden h);
+    }
+      where
+        passed : (x : ℕ) → x < i + 1 → Walks f e x → ((before || wiped) || hidden) ≡ false → Dec (x ≡ i) → Passed f zs n e x
+        passed x l t h (yes y) = subst (λ y. Passed f zs n e y) (sym y) (here (or-second (before || wiped) hidden h) (or-second before wiped (or-first (before || wiped) hidden h)))
+        passed x l t h (no d) = further (p .passed x (omega (arith, d)) t (or-first before wiped (or-first (before || wiped) hidden h)))
+
+  -- the walk is passed by: the body is settled
+  module _ {ws₀ ws : List ℕ} {e i : ℕ} {hidden : Bool} (room : matrixAt n ≤ length ws) (le : e < n) (p : PassedBelow f ws₀ ws n e hidden i) (end : n ≤ i) where
+    passed-all : {j : ℕ} → Walks f e j → hidden ≡ false → Passed f ws n e j
+    passed-all {j} r h = p .passed j (let l : j < n = walk-low w sz le j r in omega arith) r h
+
+    is-clear : hidden ≡ false → Clear f e
+    is-clear h = Clear.clear (λ j r. passed-all r h .keeps) (λ b k. go b k)
+      where
+        go : (b : ℕ) → Calls f e b → Clear f b
+        go b (Calls.calls {c = c} r m) = callee-clear w c (passed-all r h .call) m
+
+    all-touched : hidden ≡ false → Holds (touchedBy ws n e) (touches f e)
+    all-touched h a l t =
+        let x = any-find (λ j. lists.has a (references f j) || callTouches f j a) (walked f e) (sym (touches-equation w e a (low le)) ∙ t) in
+        let y = passed-all (walked-sound f e (x .1)) h in
+        ⊎-elim (y .own a l) (y .nested a l) (or-cases (lists.has a (references f (x .0))) (callTouches f (x .0) a) (x .2))
+
+    row : (v : ℕ) → WalkRow f (set ws (bodiesAt n + e) v) n e
+    row v = walk-kept (walk-low w sz le) (λ j m. rows-set ws (bodiesAt n + e) v (omega arith) (omega arith) e j) (open-row (p .is-open) (p .summing .bodies e le))
+
+    state : (b : Bool) → hidden ≡ b → BodyState f (set ws (bodiesAt n + e) (settled b)) n e
+    state true h = BodyState.is-opaque (body-set w sz (p .summing) room le opaque) (p .found h) (row opaque)
+    state false h =
+        BodyState.is-clear (body-set w sz (p .summing) room le clear) (clear-opaque (is-clear h))
+        (λ a l t. ap (λ x. bit x a) (body-other w sz (p .summing) room le clear (touchedAt n + e) (λ q. omega arith)) ∙ all-touched h a l t)
+        (λ g. row clear)
+
+    pub body-done : (v : ℕ) → v ≡ settled hidden → {ws₁ : List ℕ} → OnwardBut e ws₁ ws₀ n → body ws₁ n e ≡ unentered → BodySummed f ws₁ (set ws (bodiesAt n + e) v) n e
+    body-done v q {ws₁} o was = rw q (record {
+      summing = summing-body w sz (p .summing) room le (settled hidden) not-zero (state hidden refl);
+      onward = onward-all (onward-trans o (onward-trans (onward-but e (p .onward)) (onward-body w sz (p .summing) room le (settled hidden)))) was (λ x. not-zero (sym is ∙ x)) (λ x. not-open (sym is ∙ x));
+      done = λ x. not-zero (sym is ∙ x);
+    })
+      where
+        is : body (set ws (bodiesAt n + e) (settled hidden)) n e ≡ settled hidden
+        is = body-set w sz (p .summing) room le (settled hidden)
+
+        not-zero : settled hidden ≢ unentered
+        not-zero = settled-not hidden unentered (λ x. omega arith) (λ x. omega arith)
+
+        not-open : settled hidden ≢ opened
+        not-open = settled-not hidden opened (λ x. omega arith) (λ x. omega arith)
+
+  -- a RETURN touches what it references and calls nothing
+  module _ {ws vs : List ℕ} {e : ℕ} (s : Summing f ws n) (room : matrixAt n ≤ length ws) (le : e < n) (was : body ws n e ≡ unentered) (ret : isReturn (kind f e) ≡ true)
+      (j : Referred f ws vs n e e) where
+    no-call : {c b : ℕ} → Walks f e c → In b (callees f c) → ⊥
+    no-call {c} {b} r m =
+        List·Memᴰ·not-nil (subst (λ l. In b l) (no-callees f e (return-ordinary (kind f e) ret)) (subst (λ x. In b (callees f x)) (return-walk f ret r) m))
+
+    return-clear : Clear f e
+    return-clear = Clear.clear (λ i r. subst (λ x. wipes (kind f x) ≡ false) (sym (return-walk f ret r)) (return-wipes (kind f e) ret)) (λ b k. go b k)
+      where
+        go : (b : ℕ) → Calls f e b → Clear f b
+        go b (Calls.calls r m) = absurd (no-call r m)
+
+    return-touches : (a : ℕ) → Touches f a e → lists.has a (references f e) ≡ true
+    return-touches a t = go e refl t
+      where
+        go : (x : ℕ) → x ≡ e → Touches f a x → lists.has a (references f e) ≡ true
+        go x q (Touches.own {i = i} r m) = In-has (subst (λ y. In a (references f y)) (return-walk f ret (subst (λ y. Walks f y i) q r)) m)
+        go x q (Touches.nested (Calls.calls {c = c} r m) t) = absurd (no-call (subst (λ y. Walks f y c) q r) m)
+
+    vs-summing : Summing f vs n
+    vs-summing = referred-summing s room le Reach.here j
+
+    return-room : matrixAt n ≤ length vs
+    return-room = omega (arith, room, referred-onward s room le Reach.here j .keeps .size)
+
+    pub return-done : BodySummed f ws (set vs (bodiesAt n + e) clear) n e
+    return-done = record {
+      summing = summing-body w sz vs-summing return-room le clear (λ x. omega arith) (BodyState.is-clear is (clear-opaque return-clear) holds (λ h. clash (isReturn (kind f e)) ret h));
+      onward = onward-all (onward-trans (onward-but e (referred-onward s room le Reach.here j)) (onward-body w sz vs-summing return-room le clear)) was (λ x. omega (arith, is, x)) (λ x. omega (arith, is, x));
+      done = λ x. omega (arith, is, x);
+    }
+      where
+        is : body (set vs (bodiesAt n + e) clear) n e ≡ clear
+        is = body-set w sz vs-summing return-room le clear
+
+        holds : Holds (touchedBy (set vs (bodiesAt n + e) clear) n e) (touches f e)
+        holds a l t =
+            ap (λ x. bit x a) (body-other w sz vs-summing return-room le clear (touchedAt n + e) (λ q. omega arith))
+            ∙ referred-own s room le Reach.here j a l (return-touches a (touches-sound f e a t))

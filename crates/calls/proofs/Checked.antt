@@ -1,0 +1,112 @@
+-- A file that was found fit stands for a flow that is well formed and has n statements, at most 2,048.
+-- By what a fit file gives its readers, and what is asked of the work area before statements are read by number.
+use Prim.Native.Nat.{ℕ, zero, suc, _+_, _/_, _≤_, _<_}
+use mathlib.Core.List.{List, [], _∷_, List·Memᴰ·head, List·Memᴰ·tail}
+use mathlib.Core.Option.{Option, none, some}
+use mathlib.Core.Path.{_≡_, refl, sym, ap, _∙_, subst}
+use native.Mathlib.Omega.{arith}
+use lib.ListN.{length, getD}
+use Rattle.flow.specs.Limits.{maxFile, maxStatements}
+use Rattle.flow.specs.Flow.{size}
+use Rattle.flow.specs.declared.StmtId.{StmtId}
+use Rattle.flow.specs.declared.Continuation as C
+use Rattle.flow.specs.declared.Entered as E
+use Rattle.flow.specs.Fields.{FitRecord, callLineCount, callLineAt, continuationTo, enteredAt}
+use Rattle.flow.specs.Format.{flowOf, statementsOf, recordPlace, successorCount, successorAt}
+use Rattle.flow.proofs.Files.{limited, record-fit}
+use Rattle.flow.proofs.Records.{call-line-fits, references-fit}
+use Rattle.flow.proofs.Statements.{says, size-is}
+use Rattle.flow.proofs.Tabulated.{length-tabulate}
+use Rattle.theory.specs.Lists.{In}
+use Rattle.theory.specs.Body.{kind, callLines, successors, walkNext}
+use Rattle.theory.specs.WellFormed.{WellFormed}
+use Rattle.theory.proofs.Body.{walkNext-below}
+use Rattle.statements.specs.Layout as layout
+use Rattle.statements.specs.Layout.{rowAt, rowWords, queueAt, waitingAt, areaEnd}
+use Rattle.statements.specs.Ready.{Ready}
+use Rattle.statements.proofs.WellFormed.{well-formed}
+use Rattle.statements.proofs.WorkArea.{area-fits, member-word, row-words-le, row-fits}
+
+module _ {s ws : List ℕ} {n : ℕ} (r : Ready s ws n) where
+  pub ready-few : n ≤ maxStatements
+  ready-few = let q = r .count in omega (arith, limited (r .fit) .statements)
+
+  pub ready-size : size (flowOf s) ≡ n
+  ready-size = size-is s ∙ sym (r .count)
+
+  pub ready-formed : WellFormed (flowOf s)
+  ready-formed = well-formed (r .fit)
+
+  pub ready-below : {j : ℕ} → j < size (flowOf s) → j < n
+  ready-below {j} l = subst (λ m. j < m) ready-size l
+
+  pub ready-next : (i j : ℕ) → In j (walkNext (flowOf s) i) → j < n
+  ready-next i j m = ready-below (walkNext-below ready-formed i j m)
+
+  pub ready-room : 0 < n → areaEnd n ≤ length ws
+  ready-room p = let h = r .room in omega (arith, area-fits p ready-few)
+
+  module _ {i : ℕ} (l : i < n) where
+    -- a statement has no more lines and successors than its record has room for
+    pub lines-few : length (callLines (kind (flowOf s) i)) ≤ maxFile
+    lines-few =
+        let below : i < statementsOf s = let e = r .count in omega arith in
+        let p = recordPlace s i in
+        go (callLineCount s p) refl (record-fit (r .fit) i below)
+        (ap length (says s i below .lines) ∙ length-tabulate (callLineAt s p) (callLineCount s p))
+      where
+        go : (m : ℕ) → callLineCount s (recordPlace s i) ≡ m → FitRecord s (recordPlace s i) → length (callLines (kind (flowOf s) i)) ≡ callLineCount s (recordPlace s i)
+            → length (callLines (kind (flowOf s) i)) ≤ maxFile
+        go zero e h c = omega arith
+        go (suc m) e h c = omega (arith, call-line-fits h m (omega arith), limited (r .fit) .file)
+
+    pub successors-few : length (successors (flowOf s) i) ≤ maxFile
+    successors-few =
+        let below : i < statementsOf s = let e = r .count in omega arith in
+        let p = recordPlace s i in
+        let counted : length (successors (flowOf s) i) ≡ successorCount s p = ap length (says s i below .successors) ∙ length-tabulate (successorAt s p) (successorCount s p) in
+        omega (arith, references-fit (record-fit (r .fit) i below), limited (r .fit) .file)
+
+    -- the rows of statements, whole and word by word
+    pub row-room : rowAt n i + (n + 63) / 64 ≤ length ws
+    unfolding rowWords
+    row-room = omega (arith, row-fits n l, ready-room (omega arith))
+
+    pub row-word : {j : ℕ} → j < n → rowAt n i + j / 64 < length ws
+    row-word m = omega (arith, member-word m, row-fits n l, ready-room (omega arith))
+
+    pub matrix-room : queueAt n ≤ length ws
+    matrix-room = omega (arith, ready-room (omega arith))
+
+    pub entered-room : waitingAt n ≤ length ws
+    entered-room = omega (arith, ready-room (omega arith))
+
+    pub entered-word : layout.enteredAt n + i / 64 < length ws
+    entered-word = omega (arith, member-word l, row-words-le n, ready-room (omega arith))
+
+-- What a continuation and an entered statement are told as
+
+pub continues-to : (o : Option ℕ) (k : StmtId) → continuationTo o ≡ C.the-variants.To k → o ≡ some (k .0)
+continues-to none k e = let z : _≡_ {A = ℕ} 0 1 = cc in absurd (omega arith)
+continues-to (some t) k e = let q : record { 0 = t } ≡ k = cc in ap (λ (x : StmtId). some (x .0)) q
+
+pub continues-nowhere : (o : Option ℕ) → continuationTo o ≡ C.the-variants.None → o ≡ none
+continues-nowhere none e = refl
+continues-nowhere (some t) e = let z : _≡_ {A = ℕ} 0 1 = cc in absurd (omega arith)
+
+pub enters-at : (o : Option ℕ) (k : StmtId) → enteredAt o ≡ E.the-variants.At k → o ≡ some (k .0)
+enters-at none k e = let z : _≡_ {A = ℕ} 0 1 = cc in absurd (omega arith)
+enters-at (some t) k e = let q : record { 0 = t } ≡ k = cc in ap (λ (x : StmtId). some (x .0)) q
+
+pub enters-nothing : (o : Option ℕ) → enteredAt o ≡ E.the-variants.Nothing → o ≡ none
+enters-nothing none e = refl
+enters-nothing (some t) e = let z : _≡_ {A = ℕ} 0 1 = cc in absurd (omega arith)
+
+-- the element at a place of a list is one of it
+pub getD-In : (l : List ℕ) (k : ℕ) → k < length l → In (getD l k 0) l
+getD-In [] k h = absurd (omega arith)
+getD-In (x ∷ l) zero h = List·Memᴰ·head refl
+getD-In (x ∷ l) (suc k) h = List·Memᴰ·tail (getD-In l k (omega arith))
+
+pub successor-below : {s ws : List ℕ} {n : ℕ} → Ready s ws n → (i k : ℕ) → k < length (successors (flowOf s) i) → getD (successors (flowOf s) i) k 0 < n
+successor-below {s} r i k h = ready-below r (ready-formed r .successor i (getD (successors (flowOf s) i) k 0) (getD-In (successors (flowOf s) i) k h))

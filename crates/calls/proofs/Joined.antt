@@ -1,0 +1,114 @@
+-- Laws of `Joins`, what noting changes in the rows of RETURNs: nothing, one insertion, one change after another, and the same test in other words;
+-- and of `Adds`, the same for the row of entered statements. By the laws of rows.
+use Prim.Native.Nat.{ℕ, _+_, _/_, _≤_, _<_, max}
+use mathlib.Core.Bool.{Bool, true, false, cond, _&&_, _||_, or-assoc, or-false}
+use mathlib.Core.List.{List, [], _∷_, _++_}
+use mathlib.Core.Path.{_≡_, refl, sym, _∙_, ap, subst}
+use native.Mathlib.Omega.{arith}
+use borrow.Author.Tests.{eqb-true, eqb-false}
+use lib.Dec.{eqb}
+use lib.ListN.{length}
+use Rattle.words.specs.Row.{has}
+use Rattle.words.specs.Change.{Inserted, inserted}
+use Rattle.words.proofs.Row.{has-lt}
+use Rattle.words.proofs.Inserted.{insert-same, insert-other}
+use Rattle.flow.specs.Flow.{Flow}
+use Rattle.theory.specs.Lists as lists
+use Rattle.theory.specs.Body.{kind, isReturn, entered}
+use Rattle.theory.proofs.Lists.{clash, not-so}
+use Rattle.statements.specs.Layout.{rowAt, queueAt, enteredAt, waitingAt}
+use Rattle.statements.proofs.WorkArea.{member-word, row-words-le, row-from, row-fits, insert-row}
+use Rattle.statements.proofs.Keeps.{keeps-refl, keeps-trans, keeps-inserted}
+use Rattle.calls.specs.Held.{EmptyEntered, EnteredIs}
+use Rattle.calls.specs.Joins.{Joins, Adds, fromReturn}
+
+max-or : (a : ℕ) (p q : Bool) → max (max a (cond p 1 0)) (cond q 1 0) ≡ max a (cond (p || q) 1 0)
+max-or a true true = omega arith
+max-or a true false = omega arith
+max-or a false true = omega arith
+max-or a false false = omega arith
+
+-- one insertion, among the members of its row
+inserted-bit : (ws : List ℕ) (base i : ℕ) → base + i / 64 < length ws → (j : ℕ) → has (inserted ws base i) base j ≡ max (has ws base j) (cond (eqb j i) 1 0)
+inserted-bit ws base i l j = go (eqb j i) refl
+  where
+    go : (b : Bool) → eqb j i ≡ b → has (inserted ws base i) base j ≡ max (has ws base j) (cond b 1 0)
+    go true e = rw (eqb-true j i e) (insert-same ws base i l ∙ omega (arith, has-lt ws base i))
+    go false e = insert-other ws base i j l (eqb-false j i e) ∙ omega arith
+
+pub joins-none : {f : Flow} {ws : List ℕ} {n : ℕ} → Joins f ws ws n (λ r k. false)
+joins-none = record { kept = keeps-refl; others = λ e i l m h. refl; joined = λ r k l m h. omega arith }
+
+pub joins-then : {f : Flow} {ws vs us : List ℕ} {n : ℕ} {p q : ℕ → ℕ → Bool} → Joins f ws vs n p → Joins f vs us n q → Joins f ws us n (λ r k. p r k || q r k)
+joins-then {ws = ws} {n = n} {p = p} {q = q} a b = record {
+  kept = keeps-trans (a .kept) (b .kept);
+  others = λ e i l m h. b .others e i l m h ∙ a .others e i l m h;
+  joined = λ r k l m h. b .joined r k l m h ∙ ap (λ (x : ℕ). max x (cond (q r k) 1 0)) (a .joined r k l m h) ∙ max-or (has ws (rowAt n r) k) (p r k) (q r k);
+}
+
+pub joins-same : {f : Flow} {ws vs : List ℕ} {n : ℕ} {p q : ℕ → ℕ → Bool} → Joins f ws vs n p
+    → ((r k : ℕ) → r < n → k < n → isReturn (kind f r) ≡ true → p r k ≡ q r k) → Joins f ws vs n q
+joins-same {ws = ws} {n = n} a e = record {
+  kept = a .kept;
+  others = a .others;
+  joined = λ r k l m h. a .joined r k l m h ∙ ap (λ (t : Bool). max (has ws (rowAt n r) k) (cond t 1 0)) (e r k l m h);
+}
+
+-- k joins the row of the RETURN r
+pub joins-insert : {f : Flow} {ws vs : List ℕ} {n r k : ℕ} {b : Bool} → Inserted ws vs (rowAt n r) k b → r < n → k < n → queueAt n ≤ length ws
+    → isReturn (kind f r) ≡ true → Joins f ws vs n (fromReturn r k)
+joins-insert {f} {ws} {vs} {n} {r} {k} i lr lk room is = subst (λ (us : List ℕ). Joins f ws us n (fromReturn r k)) (sym (i .slice)) (record {
+  kept = keeps-inserted ws (rowAt n r) k (row-from n r) (omega (arith, row-fits n lr, member-word lk));
+  others = λ e j le lj no. insert-row ws (λ same. clash (isReturn (kind f r)) is (subst (λ (x : ℕ). isReturn (kind f x) ≡ false) same no)) lk lj;
+  joined = at;
+})
+  where
+    at : (s j : ℕ) → s < n → j < n → isReturn (kind f s) ≡ true
+        → has (inserted ws (rowAt n r) k) (rowAt n s) j ≡ max (has ws (rowAt n s) j) (cond (eqb s r && eqb j k) 1 0)
+    at s j ls lj h = go (eqb s r) refl
+      where
+        go : (t : Bool) → eqb s r ≡ t → has (inserted ws (rowAt n r) k) (rowAt n s) j ≡ max (has ws (rowAt n s) j) (cond (t && eqb j k) 1 0)
+        go true e = rw (eqb-true s r e) (inserted-bit ws (rowAt n r) k (omega (arith, row-fits n lr, member-word lk)) j)
+        go false e = insert-row ws (eqb-false s r e) lk lj ∙ omega arith
+
+-- a statement that is no RETURN has no such row
+pub joins-skip : {f : Flow} {ws : List ℕ} {n : ℕ} (r k : ℕ) → isReturn (kind f r) ≡ false → Joins f ws ws n (fromReturn r k)
+joins-skip {f} r k other = joins-same joins-none (λ s j ls lj is. sym (ap (λ (t : Bool). t && eqb j k) (apart s is)))
+  where
+    apart : (s : ℕ) → isReturn (kind f s) ≡ true → eqb s r ≡ false
+    apart s is = not-so (eqb s r) (λ e. clash (isReturn (kind f r)) (subst (λ (x : ℕ). isReturn (kind f x) ≡ true) (eqb-true s r e) is) other)
+
+-- The row of entered statements
+
+pub adds-none : {ws : List ℕ} {n : ℕ} → Adds ws ws n []
+unfolding lists.has
+adds-none = record { kept = keeps-refl; joined = λ j l. omega arith }
+
+has-append : (j : ℕ) (xs ys : List ℕ) → lists.has j (xs ++ ys) ≡ (lists.has j xs || lists.has j ys)
+unfolding lists.has
+has-append j [] ys = refl
+has-append j (x ∷ xs) ys = ap (λ (t : Bool). eqb j x || t) (has-append j xs ys) ∙ sym (or-assoc (eqb j x) (lists.has j xs) (lists.has j ys))
+
+pub adds-then : {ws vs us : List ℕ} {n : ℕ} {xs ys : List ℕ} → Adds ws vs n xs → Adds vs us n ys → Adds ws us n (xs ++ ys)
+adds-then {ws} {n = n} {xs = xs} {ys = ys} a b = record {
+  kept = keeps-trans (a .kept) (b .kept);
+  joined = λ j l.
+      b .joined j l ∙ ap (λ (x : ℕ). max x (cond (lists.has j ys) 1 0)) (a .joined j l)
+      ∙ max-or (has ws (enteredAt n) j) (lists.has j xs) (lists.has j ys)
+      ∙ ap (λ (t : Bool). max (has ws (enteredAt n) j) (cond t 1 0)) (sym (has-append j xs ys));
+}
+
+pub adds-insert : {ws vs : List ℕ} {n b : ℕ} {t : Bool} → Inserted ws vs (enteredAt n) b t → b < n → waitingAt n ≤ length ws → Adds ws vs n (b ∷ [])
+unfolding lists.has
+adds-insert {ws} {vs} {n} {b} i l room = subst (λ (us : List ℕ). Adds ws us n (b ∷ [])) (sym (i .slice)) (record {
+  kept = keeps-inserted ws (enteredAt n) b (omega arith) (omega (arith, member-word l, row-words-le n));
+  joined = λ j lj. inserted-bit ws (enteredAt n) b (omega (arith, member-word l, row-words-le n)) j
+      ∙ ap (λ (t : Bool). max (has ws (enteredAt n) j) (cond t 1 0)) (sym (or-false (eqb j b)));
+})
+
+-- where the row was empty, it holds what was joined
+pub adds-all : (f : Flow) (i : ℕ) {ws vs : List ℕ} {n : ℕ} → EmptyEntered ws n → Adds ws vs n (entered f i) → EnteredIs f vs n i
+adds-all f i none a j l =
+    let t : ℕ = cond (lists.has j (entered f i)) 1 0 in
+    let only : max 0 t ≡ t = omega arith in
+    a .joined j l ∙ ap (λ (x : ℕ). max x t) (none j l) ∙ only

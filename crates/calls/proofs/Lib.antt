@@ -1,0 +1,12 @@
+pub mod Checked
+pub mod Walking
+pub mod Summing
+pub mod BodySummary
+pub mod CallSummary
+pub mod Summaries
+pub mod Slots
+pub mod Cursor
+pub mod Found
+pub mod Joined
+pub mod Gathered
+pub mod Next

@@ -1,0 +1,77 @@
+-- What holds of the edge that a cursor finds: its target is a doubled number, and it carries the touched step only where the summary says that the call is
+-- clear. By the slots of each kind of statement.
+use Prim.Native.Nat.{ℕ, zero, suc, _+_, _≤_, _<_}
+use mathlib.Core.Bool.{Bool, true, false, cond}
+use mathlib.Core.List.{List, [], _∷_, map, List·Memᴰ·head, List·Memᴰ·tail, List·Memᴰ·not-nil}
+use mathlib.Core.Option.{Option, none, some}
+use mathlib.Core.Path.{_≡_, refl, sym, _∙_, ap, subst}
+use native.Mathlib.Omega.{arith}
+use lib.ListN.{getD, drop}
+use Rattle.flow.specs.declared.NodeId.{NodeId}
+use Rattle.flow.specs.Flow.{Flow, size}
+use Rattle.theory.specs.Lists.{In, any, concatMap, optionList, select, upTo}
+use Rattle.theory.specs.Body.{kind, successors, continuationOf, isReturn, opaqueCall}
+use Rattle.theory.specs.WellFormed.{WellFormed}
+use Rattle.theory.specs.Doubled.{Base, Node, Edge, at, plain, offset, number, returnsTo, returnEdges, listedEdges, edgesOf, edges}
+use Rattle.theory.proofs.Lists.{clash, In-map}
+use Rattle.theory.proofs.Edges.{edge-below}
+use Rattle.statements.specs.Layout.{callsAt}
+use Rattle.calls.specs.Held.{Linked, EnteredRow, clear, opaque}
+use Rattle.calls.specs.Slots.{slots, present}
+use Rattle.calls.proofs.Slots.{slot-edge}
+use Rattle.calls.proofs.Cursor.{NextEdge}
+use Rattle.calls.proofs.Found.{call-opaque}
+
+-- a slot that is left is a slot
+left-In : {x : Edge} (c : ℕ) (xs : List (Option Edge)) → In x (present (drop c xs)) → In x (present xs)
+unfolding present concatMap optionList
+left-In zero xs m = m
+left-In (suc c) [] m = m
+left-In (suc c) (none ∷ xs) m = left-In c xs m
+left-In (suc c) (some y ∷ xs) m = List·Memᴰ·tail (left-In c xs m)
+
+module _ {f : Flow} (v : Node) {cursor : ℕ} {t : NodeId} {c : Bool} {next : ℕ} (x : NextEdge f (slots f v) cursor t c next) where
+  -- it is an edge of the doubled number
+  pub next-edge : In (x .edge) (edges f v)
+  next-edge =
+      slot-edge f v (left-In cursor (slots f v) (subst (λ (es : List Edge). In (x .edge) es) (sym (x .first)) (List·Memᴰ·head refl)))
+
+  pub next-below : WellFormed f → t .0 < size f + size f
+  next-below w = let h = x .target in omega (arith, edge-below f w v next-edge, offset-most f (x .edge .to .base))
+    where
+      offset-most : (f : Flow) (b : Base) → offset f b ≤ size f
+      offset-most f Base.zero = omega arith
+      offset-most f Base.n = omega arith
+
+-- a statement that is no call, and an opaque call, have no edge that carries the touched step
+
+plain-only : {A : Type 0} (g : A → Node) (l : List A) {x : Edge} → In x (map (λ j. plain (g j)) l) → x .continues ≡ false
+plain-only g l m = let r = In-map (λ j. plain (g j)) l m in ap (λ (y : Edge). y .continues) (r .2)
+
+none-continue : (f : Flow) (b : Base) (i : ℕ) {x : Edge} (o : Option ℕ) → ((k : ℕ) → o ≡ some k → opaqueCall f i ≡ true) → In x (edgesOf f b i o) → x .continues ≡ false
+unfolding edgesOf returnEdges listedEdges
+none-continue f b i {x} none h m = go (isReturn (kind f i)) b m
+  where
+    go : (r : Bool) (b : Base) → In x (cond r (returnEdges f b i) (listedEdges f b i)) → x .continues ≡ false
+    go true Base.zero m = plain-only (at Base.zero) (select (λ k. any (returnsTo f i k) (upTo (size f))) (upTo (size f))) m
+    go true Base.n m = absurd (List·Memᴰ·not-nil m)
+    go false b m = plain-only (at b) (successors f i) m
+none-continue f b i {x} (some k) h m = plain-only (at b) (successors f i) (rw (h k refl) at m)
+
+-- where an edge carries the touched step, the call is clear
+pub next-clear : {f : Flow} {ws : List ℕ} {n : ℕ} (v : Node) {cursor : ℕ} {t : NodeId} {next : ℕ} → Linked f ws n → v .stmt < n → NextEdge f (slots f v) cursor t true next
+    → getD ws (callsAt n + v .stmt) 0 ≡ clear
+unfolding edges
+next-clear {f} {ws} {n} v h l x = go (continuationOf (kind f (v .stmt))) refl (opaqueCall f (v .stmt)) refl
+  where
+    still : ((k : ℕ) → continuationOf (kind f (v .stmt)) ≡ some k → opaqueCall f (v .stmt) ≡ true) → getD ws (callsAt n + v .stmt) 0 ≡ clear
+    still op = clash (x .edge .continues) (sym (x .step)) (none-continue f (v .base) (v .stmt) (continuationOf (kind f (v .stmt))) op (next-edge v x))
+
+    go : (o : Option ℕ) → continuationOf (kind f (v .stmt)) ≡ o → (b : Bool) → opaqueCall f (v .stmt) ≡ b → getD ws (callsAt n + v .stmt) 0 ≡ clear
+    go none e b q = still (λ k s. let z : _≡_ {A = ℕ} 0 1 = cc in absurd (omega arith))
+    go (some k) e true q = still (λ m s. q)
+    go (some k) e false q = h .call (v .stmt) k l e ∙ ap (λ (t : Bool). cond t opaque clear) q
+
+-- a statement that is no clear call needs no row of entered statements
+pub entered-vain : {f : Flow} {ws : List ℕ} {n i : ℕ} → Linked f ws n → i < n → (getD ws (callsAt n + i) 0 ≡ clear → ⊥) → EnteredRow f ws n i
+entered-vain {f} {i = i} h l other = record { row = λ k e o. clash (opaqueCall f i) (call-opaque h l other e) o }

@@ -1,0 +1,73 @@
+-- `note_returns` meets its contract. The invariant, `Calling`: the RETURNs go where the calls before c make them go.
+-- The measure is how many statements are left. Assumes nothing.
+use Prim.Native.Nat.{ℕ, _-_}
+use mathlib.Core.Path.{_≡_, subst}
+use native.Mathlib.Omega.{arith}
+use denote.Ref.{now}
+use Rattle.flow.specs.Format.{flowOf}
+use Rattle.theory.specs.Lists.{any, upTo}
+use Rattle.theory.specs.Doubled.{returnsTo}
+use Rattle.statements.proofs.Keeps.{ready-keeps}
+use Rattle.calls.specs.Joins.{Joins}
+use Rattle.calls.proofs.Checked.{ready-formed, ready-size}
+use Rattle.calls.proofs.Gathered.{Calling, calling-start, calling-on, summary-kept, linked}
+use Rattle.calls.proofs.returns.note_returns.Statement.{statement}
+use Rattle.calls.proofs.returns.note_returns.Tie as tie
+
+abbrev Inv-loop : tie.InvT-loop
+Inv-loop file h work₀ n c₀ work c = Calling (flowOf file) work₀ work n c
+
+abbrev μ-loop : tie.MeasureT-loop
+μ-loop file h work₀ n c₀ work c = n - c
+
+loop-holds : tie.Need-loop-holds Inv-loop μ-loop
+loop-holds c = let a = c .before .before .args in calling-start (flowOf (now (a .file))) (now (a .work)) (a .h .statements)
+
+note-call-requires : tie.Need-note-call-requires Inv-loop μ-loop
+note-call-requires c κs =
+    let p = c .before .before .before .before .before .pre in
+    let joins = c .before .before .loop .inv .joins in (
+      ready-keeps (p .0) (joins .kept) (omega arith),
+      p .1,
+      c .before .loop-test .taken,
+      summary-kept (ready-formed (p .0)) (ready-size (p .0)) (p .2) joins (c .before .loop-test .taken),
+    )
+
+add-c : tie.Need-add-c Inv-loop μ-loop
+add-c c = omega arith
+
+loop-less : tie.Need-loop-less Inv-loop μ-loop
+loop-less c = omega arith
+
+loop-again : tie.Need-loop-again Inv-loop μ-loop
+loop-again c = calling-on (c .before .before .before .before .before .loop .inv) (c .before .before .before .before .loop-test .taken) (c .before .before .note-call .ensures)
+
+same-length : tie.Need-same-length Inv-loop μ-loop
+same-length c = c .before .loop .inv .joins .kept .size
+
+returns : tie.Need-returns Inv-loop μ-loop
+returns c =
+    let start = c .before .before .before .before in
+    let a = start .args in
+    let f = flowOf (now (a .file)) in
+    let inv = c .before .loop .inv in
+    let n = a .h .statements in
+    let all : c .before .loop .c ≡ n = omega arith in (
+      linked (ready-size (start .pre .0)) (start .pre .2)
+          (subst (λ (m : ℕ). Joins f (now (a .work)) (c .before .loop .work) n (λ r k. any (returnsTo f r k) (upTo m))) all (inv .joins)),
+      inv .joins .kept,
+    )
+
+pub note-returns-spec : {M : Type 1} → statement M
+note-returns-spec =
+    tie.close
+    (tie.spec
+    Inv-loop
+    μ-loop
+    loop-holds
+    note-call-requires
+    add-c
+    loop-less
+    loop-again
+    same-length
+    returns)

@@ -1,0 +1,77 @@
+-- `calls::summary::join_body` meets its contract: the word of the call is joined with that of the body.
+-- By what joining a word ensures.
+use borrow.Author.Needs.{needs}
+use Prim.Native.Nat.{ℕ, _+_}
+use mathlib.Core.Bool.{not}
+use mathlib.Core.Path.{ap, ap₂, _∙_}
+use denote.Ref.{now}
+use lib.Dec.{eqb}
+use lib.ListN.{getD}
+use Rattle.words.specs.Change.{joined}
+use Rattle.calls.specs.Held.{clear}
+use Rattle.calls.proofs.summary.join_body.Statement.{statement}
+use Rattle.calls.proofs.summary.join_body.Tie as tie
+
+bodies-requires : tie.Need-bodies-requires
+bodies-requires c κs = search needs
+
+add-hidden : tie.Need-add-hidden
+add-hidden c = search needs
+
+mul-hidden : tie.Need-mul-hidden
+mul-hidden c = search needs
+
+slice-read-hidden : tie.Need-slice-read-hidden
+slice-read-hidden c = search needs
+
+touched-requires : tie.Need-touched-requires
+touched-requires c κs = search needs
+
+add-inner : tie.Need-add-inner
+add-inner c = search needs
+
+mul-inner : tie.Need-mul-inner
+mul-inner c = search needs
+
+slice-read-inner : tie.Need-slice-read-inner
+slice-read-inner c = search needs
+
+call-touched-requires : tie.Need-call-touched-requires
+call-touched-requires c κs = search needs
+
+add-union-word : tie.Need-add-union-word
+add-union-word c = search needs
+
+union-word-requires : tie.Need-union-word-requires
+union-word-requires c κs = search needs
+
+same-length : tie.Need-same-length
+same-length c = search needs
+
+returns : tie.Need-returns
+returns c =
+    let a = c .before .before .before .before .before .before .before .before .before .before .args in
+    let ws = now (a .work) in
+    record {
+      slice = c .before .before .union-word .ensures .slice
+          ∙ ap₂ (λ (x y : ℕ). joined ws (x + a .c) (getD ws (y + a .b) 0)) (c .before .before .before .call-touched .ensures) (c .before .before .before .before .before .before .touched .ensures);
+      state = ap (λ (x : ℕ). not (eqb (getD ws (x + a .b) 0) clear)) (c .before .before .before .before .before .before .before .before .bodies .ensures);
+    }
+
+pub join-body-spec : {M : Type 1} → statement M
+join-body-spec =
+    tie.close
+    (tie.spec
+    bodies-requires
+    add-hidden
+    mul-hidden
+    slice-read-hidden
+    touched-requires
+    add-inner
+    mul-inner
+    slice-read-inner
+    call-touched-requires
+    add-union-word
+    union-word-requires
+    same-length
+    returns)

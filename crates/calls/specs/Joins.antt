@@ -1,0 +1,51 @@
+-- What noting changes. Where RETURNs go: the rows of some RETURNs gain a continuation, and every other row and every word outside the matrix stays.
+-- Which statements a call enters: the row of entered statements gains them, and every other word stays.
+use Prim.Native.Nat.{ℕ, _+_, _<_, max}
+use mathlib.Core.Bool.{Bool, true, false, cond, _&&_}
+use mathlib.Core.List.{List}
+use mathlib.Core.Option.{some}
+use mathlib.Core.Path.{_≡_}
+use lib.Dec.{eqb}
+use lib.ListN.{getD}
+use Rattle.words.specs.Row.{has}
+use Rattle.flow.specs.Flow.{Flow}
+use Rattle.theory.specs.Lists as lists
+use Rattle.theory.specs.Lists.{In, any}
+use Rattle.theory.specs.Body.{kind, continuationOf, isReturn, entered, walked, opaqueCall}
+use Rattle.statements.specs.Layout.{callsAt, matrixAt, rowAt, queueAt, enteredAt, waitingAt}
+use Rattle.statements.specs.Ready.{Keeps}
+use Rattle.calls.specs.Held.{WalkRow, clear, opaque}
+
+-- vs is ws with k joined to the row of each RETURN r, for the r and k that pass the test
+pub record Joins (f : Flow) (ws vs : List ℕ) (n : ℕ) (q : ℕ → ℕ → Bool) : Type 0 where
+  pub kept : Keeps (matrixAt n) (queueAt n) ws vs
+  pub others : (e i : ℕ) → e < n → i < n → isReturn (kind f e) ≡ false → has vs (rowAt n e) i ≡ has ws (rowAt n e) i
+  pub joined : (r k : ℕ) → r < n → k < n → isReturn (kind f r) ≡ true → has vs (rowAt n r) k ≡ max (has ws (rowAt n r) k) (cond (q r k) 1 0)
+
+-- the RETURN r goes to k; so do the RETURNs on the walk of e, and those on the walks of the bodies bs
+
+abbrev pub fromReturn : ℕ → ℕ → ℕ → ℕ → Bool
+fromReturn r k s j = eqb s r && eqb j k
+
+abbrev pub fromBody : Flow → ℕ → ℕ → ℕ → ℕ → Bool
+fromBody f e k s j = lists.has s (walked f e) && eqb j k
+
+abbrev pub fromBodies : Flow → List ℕ → ℕ → ℕ → ℕ → Bool
+fromBodies f bs k s j = any (λ e. lists.has s (walked f e)) bs && eqb j k
+
+-- the row of e holds its walk, unless e is a RETURN, whose walk is itself
+abbrev pub BodyRow : Flow → List ℕ → ℕ → ℕ → Type 0
+BodyRow f ws n e = isReturn (kind f e) ≡ false → WalkRow f ws n e
+
+abbrev pub BodyRows : Flow → List ℕ → ℕ → ℕ → Type 0
+BodyRows f ws n c = (b : ℕ) → In b (entered f c) → BodyRow f ws n b
+
+-- what the summary of statement c says, where it is a call with a continuation
+pub record Summary (f : Flow) (ws : List ℕ) (n c : ℕ) : Type 0 where
+  pub call : (k : ℕ) → continuationOf (kind f c) ≡ some k → getD ws (callsAt n + c) 0 ≡ cond (opaqueCall f c) opaque clear
+  pub bodies : (k : ℕ) → continuationOf (kind f c) ≡ some k → BodyRows f ws n c
+
+-- vs is ws with bs joined to the row of entered statements
+pub record Adds (ws vs : List ℕ) (n : ℕ) (bs : List ℕ) : Type 0 where
+  pub kept : Keeps (enteredAt n) (waitingAt n) ws vs
+  pub joined : (j : ℕ) → j < n → has vs (enteredAt n) j ≡ max (has ws (enteredAt n) j) (cond (lists.has j bs) 1 0)
