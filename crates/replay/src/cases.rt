@@ -1,0 +1,75 @@
+// Every stored case in turn.
+ghost use Prim.Native.Nat.{_≤_};
+ghost use lib.ListN.{length};
+use crate::answers;
+use crate::data;
+
+pub struct Counts {
+    pub cases: u64,
+    pub different: u64,
+}
+
+// 1 where the case is answered otherwise, and its number is printed.
+fn told(case: u64, same: bool) -> u64
+    ensures { λ r. ⌜ r ≤ 1 ⌝ }
+{
+    if same {
+        return 0;
+    }
+    io::write_all(1, b"differs: ");
+    io::print_decimal(1, case);
+    io::write_all(1, b"\n");
+    1
+}
+
+// How a case was answered, and where the next one stands.
+struct Replayed {
+    next: usize,
+    different: u64,
+}
+
+fn replay_case(
+    s: &[u8],
+    at: usize,
+    number: u64,
+    file: &mut [u8],
+    masks: &mut [u8],
+    live_in: &mut [u64],
+    live_out: &mut [u64],
+    work: &mut [u64],
+) -> Replayed
+    requires { ⌜ at ≤ length (now s) ⌝ }
+    ensures { λ r. ⌜ (at ≤ r .next) × (r .next ≤ length (now (s .entry))) × (r .different ≤ 1) ⌝ }
+{
+    let case = data::read_case(s, at, file);
+    let sizes = data::answer_sizes(file);
+    let same = answers::lend(s, file, case, sizes, masks, live_in, live_out, work);
+    Replayed {
+        next: data::end(s, case, sizes),
+        different: told(number, same),
+    }
+}
+
+pub fn replay(
+    s: &[u8],
+    file: &mut [u8],
+    masks: &mut [u8],
+    live_in: &mut [u64],
+    live_out: &mut [u64],
+    work: &mut [u64],
+) -> Counts {
+    let mut p = 0;
+    let mut cases = 0u64;
+    let mut different = 0u64;
+    while p < s.len() {
+        // A byte 1 begins a case.
+        if data::byte(s, p) != 1 {
+            break;
+        }
+        let replayed = replay_case(s, p + 1, cases, file, masks, live_in, live_out, work);
+        p = replayed.next;
+        different += replayed.different;
+        cases += 1;
+    }
+    Counts { cases, different }
+}
