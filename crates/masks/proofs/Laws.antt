@@ -1,13 +1,16 @@
 -- The laws of `stepOf` on the masks 0 to 7: it keeps them, preserves union, is monotone and idempotent, and is the union of its steps on single states.
--- Each is a test that antt computes at every effect and every mask. Assumes nothing.
-use mathlib.Core.Path.{_≡_, sym, ap, subst, _∙_}
+-- Each is a test that antt computes at every effect and every mask; that it is idempotent holds of any number. Assumes nothing.
+use mathlib.Core.Path.{_≡_, refl, sym, ap, subst, _∙_}
 use mathlib.Core.Logic.{_⊎_, inl, inr}
-use mathlib.Core.Bool.{Bool, _&&_, _||_}
-use Prim.Native.Nat.{ℕ, _<_}
+use mathlib.Core.Bool.{Bool, true, false, _&&_, _||_}
+use Prim.Native.Nat.{ℕ, _+_, _-_, _*_, _/_, _%_, _<_, max}
+use native.Mathlib.Omega.{arith}
+use borrow.Author.Tests.{eqb-true, eq-eqb, ne-eqb}
 use lib.Dec.{T, eqb, eqb→eq, ltb, ltb→lt, lt→ltb}
-use lib.Bits.{bitOr}
+use lib.Bits.{bitOr, or-step, or-zero-r}
 use Rattle.masks.specs.declared.Effect.{Effect}
-use Rattle.masks.specs.Step.{stepOf}
+use Rattle.masks.specs.declared.Effect.the-variants.{None, Reference, Dim, Clear, Touched}
+use Rattle.masks.specs.Step.{stepOf, pick}
 use Rattle.masks.specs.State.{State, none, auto, dimmed, stateMask, same, holds, turns, brought}
 use Rattle.masks.proofs.Finite.{and-left, and-right, or-cases, all-states, implies, implied, alike, alike→eq, eq→alike, everyBelow, at-below, everyState, at-state, at-mask}
 
@@ -32,8 +35,33 @@ step-or e a b ha hb =
 pub step-mono : (e : Effect) (a b : ℕ) → a < 8 → b < 8 → bitOr a b ≡ b → bitOr (stepOf e a) (stepOf e b) ≡ stepOf e b
 step-mono e a b ha hb h = sym (step-or e a b ha hb) ∙ ap (stepOf e) h
 
-pub step-idem : (e : Effect) (m : ℕ) → m < 8 → stepOf e (stepOf e m) ≡ stepOf e m
-step-idem e m h = eqb→eq (stepOf e (stepOf e m)) (stepOf e m) (at-mask (λ e m. eqb (stepOf e (stepOf e m)) (stepOf e m)) tt e m h)
+-- AUTO joined to a mask, whatever stands above the states
+or-auto : (m : ℕ) → bitOr m 2 ≡ m / 4 * 4 + 2 + m % 2
+or-auto m =
+    let low : bitOr m 2 ≡ bitOr (m / 2) 1 * 2 + m % 2 = or-step m 2 ∙ omega arith in
+    let high : bitOr (m / 2) 1 ≡ m / 2 / 2 * 2 + 1 = or-step (m / 2) 1 ∙ ap (λ x. x * 2 + max (m / 2 % 2) 1) (or-zero-r (m / 2 / 2)) ∙ omega arith in
+    omega arith
+
+-- a step taken twice is one, on any byte
+pub step-idem : (e : Effect) (m : ℕ) → stepOf e (stepOf e m) ≡ stepOf e m
+step-idem None m = refl
+step-idem Reference m = at (eqb (m % 2) 1) refl
+  where
+    at : (b : Bool) → eqb (m % 2) 1 ≡ b → stepOf Reference (pick b (bitOr (m - 1) 2) m) ≡ pick b (bitOr (m - 1) 2) m
+    at true e =
+        let odd : m % 2 ≡ 1 = eqb-true (m % 2) 1 e in
+        let even : eqb (bitOr (m - 1) 2 % 2) 1 ≡ false = ne-eqb (bitOr (m - 1) 2 % 2) 1 (λ q. omega (arith, or-auto (m - 1))) in
+        ap (λ b. pick b (bitOr (bitOr (m - 1) 2 - 1) 2) (bitOr (m - 1) 2)) even
+    at false e = ap (λ b. pick b (bitOr (m - 1) 2) m) e
+step-idem Dim m = refl
+step-idem Clear m = refl
+step-idem Touched m = at (eqb (m % 2) 1) refl
+  where
+    at : (b : Bool) → eqb (m % 2) 1 ≡ b → stepOf Touched (pick b (bitOr m 2) m) ≡ pick b (bitOr m 2) m
+    at true e =
+        let odd : eqb (bitOr m 2 % 2) 1 ≡ true = eq-eqb (bitOr m 2 % 2) 1 (omega (arith, or-auto m, eqb-true (m % 2) 1 e)) in
+        ap (λ b. pick b (bitOr (bitOr m 2) 2) (bitOr m 2)) odd ∙ omega (arith, or-auto m, or-auto (bitOr m 2))
+    at false e = ap (λ b. pick b (bitOr m 2) m) e
 
 -- a stepped mask that was not empty holds exactly what its states turn into
 pub step-holds : (e : Effect) (m : ℕ) (t : State) → m < 8 → 0 < m → holds (stepOf e m) t ≡ brought e m t

@@ -1,7 +1,8 @@
 // Every stored case in turn.
 ghost use Prim.Native.Nat.{_≤_};
+ghost use lib.ListN.{length};
+use crate::answers;
 use crate::data;
-use crate::refusals;
 
 pub struct Counts {
     pub cases: u64,
@@ -21,7 +22,42 @@ fn told(case: u64, same: bool) -> u64
     1
 }
 
-pub fn replay(s: &[u8], file: &mut [u8]) -> Counts {
+// How a case was answered, and where the next one stands.
+struct Replayed {
+    next: usize,
+    different: u64,
+}
+
+fn replay_case(
+    s: &[u8],
+    at: usize,
+    number: u64,
+    file: &mut [u8],
+    masks: &mut [u8],
+    live_in: &mut [u64],
+    live_out: &mut [u64],
+    work: &mut [u64],
+) -> Replayed
+    requires { ⌜ at ≤ length (now s) ⌝ }
+    ensures { λ r. ⌜ (at ≤ r .next) × (r .next ≤ length (now (s .entry))) × (r .different ≤ 1) ⌝ }
+{
+    let case = data::read_case(s, at, file);
+    let sizes = data::answer_sizes(file);
+    let same = answers::lend(s, file, case, sizes, masks, live_in, live_out, work);
+    Replayed {
+        next: data::end(s, case, sizes),
+        different: told(number, same),
+    }
+}
+
+pub fn replay(
+    s: &[u8],
+    file: &mut [u8],
+    masks: &mut [u8],
+    live_in: &mut [u64],
+    live_out: &mut [u64],
+    work: &mut [u64],
+) -> Counts {
     let mut p = 0;
     let mut cases = 0u64;
     let mut different = 0u64;
@@ -30,9 +66,9 @@ pub fn replay(s: &[u8], file: &mut [u8]) -> Counts {
         if data::byte(s, p) != 1 {
             break;
         }
-        let case = data::read_case(s, p + 1, file);
-        different += told(cases, refusals::same(file, case));
-        p = refusals::end(s, file, case);
+        let replayed = replay_case(s, p + 1, cases, file, masks, live_in, live_out, work);
+        p = replayed.next;
+        different += replayed.different;
         cases += 1;
     }
     Counts { cases, different }

@@ -24,6 +24,13 @@ pub struct Blocks {
     pub size: usize,
 }
 
+// How much the answer to an accepted file takes: the words of a live area, and the stored bytes of the masks and of a live area.
+pub struct Sizes {
+    pub statements: usize,
+    pub masks: usize,
+    pub live: usize,
+}
+
 pub fn least(a: usize, b: usize) -> usize
     ensures { λ r. ⌜ r ≡ min a b ⌝ }
 {
@@ -124,4 +131,33 @@ pub fn read_case(s: &[u8], at: usize, file: &mut [u8]) -> Case
         place: number(s, skip(s, p, 17), 4),
         answers: skip(s, p, 21),
     }
+}
+
+fn mask_bytes(n: u64, arrays: u64) -> usize
+    requires { ⌜ (n ≤ 65535) × (arrays ≤ 255) ⌝ }
+    ensures { λ r. ⌜ r ≤ 16711425 ⌝ }
+{
+    (n * arrays) as usize
+}
+
+pub fn answer_sizes(file: &[u8]) -> Sizes
+    ensures { λ r. ⌜ (r .masks ≤ 16711425) × (r .live ≤ 524280) ⌝ }
+{
+    let n = byte(file, 2) + 256 * byte(file, 3);
+    Sizes {
+        statements: n as usize,
+        masks: mask_bytes(n, byte(file, 4)),
+        live: 8 * n as usize,
+    }
+}
+
+// The place after a case. An accepted one has visits, masks, live-in and live-out words too.
+pub fn end(s: &[u8], case: Case, sizes: Sizes) -> usize
+    requires { ⌜ (case .answers ≤ length (now s)) × (sizes .masks ≤ 16711425) × (sizes .live ≤ 524280) ⌝ }
+    ensures { λ r. ⌜ (case .answers ≤ r) × (r ≤ length (now (s .entry))) ⌝ }
+{
+    if case.number != 0 {
+        return case.answers;
+    }
+    skip(s, case.answers, 4 + sizes.masks + 2 * sizes.live)
 }

@@ -1,2 +1,4 @@
+pub mod RowChanges
 pub mod Wrapped
 pub mod Waiting
+pub mod Growing

@@ -9,8 +9,8 @@ use Rattle.masks.specs.State.{State, holds}
 use Rattle.theory.specs.Lists.{In}
 use Rattle.theory.specs.Queue.{Arc, Graph, Solver, pulled, solved}
 use Rattle.theory.specs.Walks.{Turns, Brings, empty, along}
-use Rattle.theory.proofs.MaskLaws.{Within, some-held, all-carries}
-use Rattle.theory.proofs.Pulls.{boundary, arc, Pulls-holds}
+use Rattle.theory.proofs.MaskLaws.{Within, within-eq, zero-holds, some-held, all-carries}
+use Rattle.theory.proofs.Pulls.{Pulls, boundary, arc, Pulls-holds, holds-Pulls, pulled-lt}
 use Rattle.theory.proofs.Invariant.{WellFormedGraph, Invariant, Due, entry, after, Settled, waits, done}
 use Rattle.theory.proofs.Ends.{solved-keeps, solved-ends}
 
@@ -40,6 +40,25 @@ module _ (g : Graph) (st : Solver) (inv : Invariant g st) where
         go : Settled g st d → (st .visited d ≡ true) × ((a : ℕ) → a < g .arrays → Within (pulled g st d a) (st .masks d a))
         go (waits m) = absurd (List·Memᴰ·not-nil (subst (λ l. In d l) still m))
         go (done v f) = (v, f)
+
+    -- a number's masks are what a visit would bring
+    pub pulled-held : WellFormedGraph g → (d a : ℕ) → a < g .arrays → pulled g st d a ≡ st .masks d a
+    pulled-held wf d a l =
+        within-eq (pulled g st d a) (st .masks d a) (pulled-lt g st a d (wf .boundary a .below) (λ p v. inv .visited-proper p a v)) (masks-below d a) brought held
+      where
+        due : {s : State} → Pulls g st a d s → Due g st d
+        due (boundary e h) = entry e
+        due (arc n v m q h) = after v m q
+
+        brought : Within (pulled g st d a) (st .masks d a)
+        brought s h = settled-holds d (due (holds-Pulls g st a d s h)) .1 a l s h
+
+        held : Within (st .masks d a) (pulled g st d a)
+        held s h = go (st .visited d) refl
+          where
+            go : (v : Bool) → st .visited d ≡ v → holds (pulled g st d a) s ≡ true
+            go true v = inv .visited-grows d a v s h
+            go false v = zero-holds s (subst (λ (m : ℕ). holds m s ≡ true) (inv .unvisited-empty d a v) h)
 
     pub brought-held : {a d : ℕ} {s : State} → a < g .arrays → Brings g a d s → (st .visited d ≡ true) × (holds (st .masks d a) s ≡ true)
     brought-held {a} {d} {s} l (empty h) =

@@ -37,7 +37,7 @@ unfoldable pub seek : List ℕ → ℕ → ℕ → ℕ → ℕ
 seek ws base i zero = i
 seek ws base i (suc d) = pick (eqb (has ws base i) 1) i (seek ws base (i + 1) d)
 
--- the first member at or after `from` and below `bound`, or the larger of the two
+-- the first member at or after `from` and below `bound`, or `bound`
 unfoldable pub nextMember : List ℕ → ℕ → ℕ → ℕ → ℕ
 nextMember ws base from bound = seek ws base from (bound - from)
 

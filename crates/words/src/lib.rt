@@ -90,8 +90,7 @@ fn forward(i: usize, step: usize, bound: usize) -> usize
     if bound - i <= step { bound } else { i + step }
 }
 
-// The first member at or after `from` and below `bound`. If there is none, `bound`, or `from` where
-// that lies past it.
+// The first member at or after `from` and below `bound`; `bound` if there is none.
 pub fn next(ws: &[u64], base: usize, from: usize, bound: usize) -> usize
     requires { ⌜ base + (bound + 63) / 64 ≤ length (now ws) ⌝ }
     ensures { λ r. ⌜ r ≡ nextMember (now (ws .entry)) base from bound ⌝ }

@@ -1,0 +1,143 @@
+-- The rows of a number's edges: that of the statement's act, and for the edge to the continuation of a call that is not opaque the one with the touched
+-- step. What the edges carry of these rows is what the doubled graph's edges bring of the number's masks.
+use Prim.Native.Nat.{ℕ, _+_, _-_, _*_, _/_, _%_, _<_, _≤_}
+use mathlib.Core.Bool.{Bool, true, false, cond, _&&_}
+use mathlib.Core.List.{List, [], _∷_, _++_, map, List·Memᴰ·head, List·Memᴰ·tail, List·Memᴰ·not-nil}
+use mathlib.Core.Option.{Option, none, some}
+use mathlib.Core.Path.{_≡_, refl, sym, ap, ap₂, subst, _∙_}
+use native.Mathlib.Decide.{decLt}
+use native.Mathlib.Omega.{arith}
+use borrow.Author.Tests.{lt-ltb, le-ltb}
+use lib.Bits.{bitOr}
+use lib.Dec.{eqb, ltb}
+use lib.ListN.{length, getD}
+use Rattle.words.specs.Row as bits
+use Rattle.masks.specs.declared.Effect.{Effect}
+use Rattle.masks.specs.declared.Effect.the-variants.{Touched}
+use Rattle.masks.specs.Step.{stepOf}
+use Rattle.flow.specs.Flow.{Flow, size}
+use Rattle.flow.specs.Limits.{maxArrays}
+use Rattle.theory.specs.Lists.{In, any, select, upTo}
+use Rattle.theory.specs.Body.{kind, successors, continuationOf, isReturn, opaqueCall, callTouches}
+use Rattle.theory.specs.Doubled.{Base, Node, Edge, at, plain, node, number, edges, edgesOf, listedEdges, returnEdges, callEdges, returnsTo, statementEffects, edgeEffects, doubled}
+use Rattle.theory.specs.Queue.{stepAll, brings}
+use Rattle.theory.proofs.Lists.{In-map, clash}
+use Rattle.statements.specs.Layout.{callTouchedAt, outRow, backRow}
+use Rattle.statements.specs.Ready.{MembersWord}
+use Rattle.calls.specs.Slots.{slots, present, toArc}
+use Rattle.calls.proofs.Slots.{slot-edge, brings-slots}
+use Rattle.solve.specs.Rows.{stepWhere, memberBelow}
+use Rattle.solve.specs.Pushed.{masksAt}
+use Rattle.dataflow.specs.Transfer.{acted}
+use Rattle.dataflow.specs.Sent.{edgeRow, carried, masksBelow}
+use Rattle.dataflow.proofs.Acted.{stepAll-append, stepAll-if}
+
+-- the statement of a doubled number
+pub node-stmt : (f : Flow) {n : ℕ} (d : ℕ) → size f ≡ n → node f d .stmt ≡ cond (ltb d n) d (d - n)
+node-stmt f {n} d e = pick (ltb d (size f)) ∙ ap (λ (k : ℕ). cond (ltb d k) d (d - k)) e
+  where
+    pick : (b : Bool) → (cond b (at Base.zero d) (at Base.n (d - size f))) .stmt ≡ cond b d (d - size f)
+    pick true = refl
+    pick false = refl
+
+pub statement-below : {n d : ℕ} → d < 2 * n → cond (ltb d n) d (d - n) < n
+statement-below {n} {d} l = at (decLt d n)
+  where
+    at : Dec (d < n) → cond (ltb d n) d (d - n) < n
+    at (yes h) = rw (lt-ltb d n h) h
+    at (no h) = rw (le-ltb d n (omega (arith, h))) (omega (arith, h))
+
+-- only a call that is not opaque has an edge that carries the touched step
+
+plain-listed : (f : Flow) (b : Base) (i : ℕ) {x : Edge} → In x (listedEdges f b i) → x .continues ≡ false
+unfolding listedEdges
+plain-listed f b i m = let y = In-map (λ j. plain (at b j)) (successors f i) m in ap (λ (e : Edge). e .continues) (y .2)
+
+plain-return : (f : Flow) (b : Base) (i : ℕ) {x : Edge} → In x (returnEdges f b i) → x .continues ≡ false
+unfolding returnEdges
+plain-return f Base.zero i m = let y = In-map (λ k. plain (at Base.zero k)) (select (λ k. any (returnsTo f i k) (upTo (size f))) (upTo (size f))) m in ap (λ (e : Edge). e .continues) (y .2)
+plain-return f Base.n i m = absurd (List·Memᴰ·not-nil m)
+
+pub plain-edge : (f : Flow) (v : Node) {x : Edge} → ((k : ℕ) → continuationOf (kind f (v .stmt)) ≡ some k → opaqueCall f (v .stmt) ≡ true) → In x (edges f v) → x .continues ≡ false
+unfolding edges edgesOf
+plain-edge f v {x} op m = go (continuationOf (kind f (v .stmt))) refl m
+  where
+    by : (r : Bool) → In x (cond r (returnEdges f (v .base) (v .stmt)) (listedEdges f (v .base) (v .stmt))) → x .continues ≡ false
+    by true m = plain-return f (v .base) (v .stmt) m
+    by false m = plain-listed f (v .base) (v .stmt) m
+
+    go : (o : Option ℕ) → continuationOf (kind f (v .stmt)) ≡ o → In x (edgesOf f (v .base) (v .stmt) o) → x .continues ≡ false
+    go none e m = by (isReturn (kind f (v .stmt))) m
+    go (some k) e m =
+        plain-listed f (v .base) (v .stmt) (subst (λ (b : Bool). In x (cond b (listedEdges f (v .base) (v .stmt)) (callEdges f (v .base) (v .stmt) k))) (op k e) m)
+
+-- a set of one word
+word-has : (ws : List ℕ) (set a : ℕ) → a < maxArrays → bits.has ws set a ≡ bits.bit (getD ws set 0) a
+unfolding bits.has
+word-has ws set a l =
+    let word : set + a / 64 ≡ set = omega arith in
+    let place : a % 64 ≡ a = omega arith in
+    ap₂ (λ (x y : ℕ). bits.bit (getD ws x 0) y) word place
+
+-- the act of the statement, on an edge that carries nothing more
+pub act-row : (f : Flow) (i count : ℕ) (m row : ℕ → ℕ) (x : Edge) (a : ℕ) → row a ≡ masksBelow count m a → x .continues ≡ false
+    → acted count (statementEffects f i) row a ≡ masksBelow count (λ b. stepAll (edgeEffects f i x b) (m b)) a
+unfolding acted masksBelow edgeEffects stepAll
+act-row f i count m row x a is e = at (ltb a count) is
+  where
+    at : (b : Bool) → row a ≡ cond b (m a) 0
+        → cond b (stepAll (statementEffects f i a) (row a)) (row a)
+        ≡ cond b (stepAll (statementEffects f i a ++ cond ((x .continues) && callTouches f i a) (Touched ∷ []) []) (m a)) 0
+    at true q =
+        ap (stepAll (statementEffects f i a)) q
+        ∙ sym (stepAll-append (statementEffects f i a) (cond ((x .continues) && callTouches f i a) (Touched ∷ []) []) (m a)
+        ∙ ap (λ (c : Bool). stepAll (cond (c && callTouches f i a) (Touched ∷ []) []) (stepAll (statementEffects f i a) (m a))) e)
+    at false q = q
+
+-- and with the touched step
+pub back-row : (f : Flow) (ws : List ℕ) (i count set : ℕ) (m row : ℕ → ℕ) (x : Edge) (a : ℕ) → a < maxArrays → row a ≡ masksBelow count m a → x .continues ≡ true
+    → MembersWord (getD ws set 0) (callTouches f i)
+    → stepWhere (memberBelow ws set count) Touched (acted count (statementEffects f i) row) a ≡ masksBelow count (λ b. stepAll (edgeEffects f i x b) (m b)) a
+unfolding acted masksBelow edgeEffects stepAll stepWhere memberBelow
+back-row f ws i count set m row x a l is e touched = at (ltb a count) is
+  where
+    member : eqb (bits.has ws set a) 1 ≡ callTouches f i a
+    member = ap (λ (y : ℕ). eqb y 1) (low ∙ touched .member a l) ∙ one (callTouches f i a)
+      where
+        low : bits.has ws set a ≡ bits.bit (getD ws set 0) a
+        low = word-has ws set a l
+
+        one : (b : Bool) → eqb (cond b 1 0) 1 ≡ b
+        one true = refl
+        one false = refl
+
+    at : (b : Bool) → row a ≡ cond b (m a) 0
+        → cond (b && eqb (bits.has ws set a) 1) (stepOf Touched (cond b (stepAll (statementEffects f i a) (row a)) (row a))) (cond b (stepAll (statementEffects f i a) (row a)) (row a))
+        ≡ cond b (stepAll (statementEffects f i a ++ cond ((x .continues) && callTouches f i a) (Touched ∷ []) []) (m a)) 0
+    at true q =
+        ap₂ (λ (c : Bool) (v : ℕ). cond c (stepOf Touched (stepAll (statementEffects f i a) v)) (stepAll (statementEffects f i a) v)) member q
+        ∙ sym (stepAll-append (statementEffects f i a) (cond ((x .continues) && callTouches f i a) (Touched ∷ []) []) (m a)
+        ∙ ap (λ (c : Bool). stepAll (cond (c && callTouches f i a) (Touched ∷ []) []) (stepAll (statementEffects f i a) (m a))) e
+        ∙ stepAll-if (callTouches f i a) Touched (stepAll (statementEffects f i a) (m a)))
+    at false q = q
+
+module _ (f : Flow) (ws : List ℕ) (n i : ℕ) (m : ℕ → ℕ) (t : ℕ) where
+  -- what the edges carry is what they bring of the masks
+  pub carried-brings : (es : List Edge)
+      → ((x : Edge) → In x es → (a : ℕ) → a < maxArrays → masksAt ws n (edgeRow n (x .continues)) a ≡ masksBelow (f .arrays) (λ b. stepAll (edgeEffects f i x b) (m b)) a)
+      → (a : ℕ) → a < maxArrays → carried f ws n es t a ≡ masksBelow (f .arrays) (λ b. brings t b (m b) (map (toArc f i) es)) a
+  unfolding carried brings masksBelow
+  carried-brings [] h a l = zero (ltb a (f .arrays))
+    where
+      zero : (b : Bool) → _≡_ {A = ℕ} 0 (cond b 0 0)
+      zero true = refl
+      zero false = refl
+  carried-brings (x ∷ xs) h a l =
+      ap₂ (λ (p q : ℕ). bitOr (cond (eqb (number f (x .to)) t) p 0) q) (h x (List·Memᴰ·head refl) a l) (carried-brings xs (λ y k. h y (List·Memᴰ·tail k)) a l)
+      ∙ split (ltb a (f .arrays)) (eqb (number f (x .to)) t)
+    where
+      split : (b c : Bool) → bitOr (cond c (cond b (stepAll (edgeEffects f i x a) (m a)) 0) 0) (cond b (brings t a (m a) (map (toArc f i) xs)) 0)
+          ≡ cond b (bitOr (cond c (stepAll (edgeEffects f i x a) (m a)) 0) (brings t a (m a) (map (toArc f i) xs))) 0
+      split true c = refl
+      split false true = refl
+      split false false = refl

@@ -1,0 +1,15 @@
+pub mod Stepping
+pub mod Acted
+pub mod Unions
+pub mod Kept
+pub mod Sending
+pub mod Aside
+pub mod EdgeRows
+pub mod Sends
+pub mod Visiting
+pub mod Few
+pub mod Running
+pub mod NotedRows
+pub mod Phases
+pub mod Promised
+pub mod Judging

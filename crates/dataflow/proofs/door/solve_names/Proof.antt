@@ -1,0 +1,64 @@
+-- `solve_names` meets its contract: with the matrix, the queue and the waiting words cleared, the live words are those of the definitions.
+-- Assumes nothing.
+use borrow.Author.Needs.{needs}
+use native.Mathlib.Omega.{arith}
+use denote.Ref.{now}
+use Prim.Native.Nat.{_-_}
+use mathlib.Core.Path.{ap₂, sym, subst, _∙_}
+use Rattle.words.specs.Change.{cleared}
+use Rattle.statements.proofs.Keeps.{ready-most, ready-room}
+use Rattle.statements.proofs.WorkArea.{row-fits}
+use Rattle.live.specs.LiveNames.{Blank}
+use Rattle.live.proofs.Blank.{blank}
+use Rattle.dataflow.proofs.door.solve_names.Statement.{statement}
+use Rattle.dataflow.proofs.door.solve_names.Tie as tie
+
+row-requires : tie.Need-row-requires
+row-requires c κs = (ready-most (c .before .before .before .before .pre .0), omega arith)
+
+visited-requires : tie.Need-visited-requires
+visited-requires c κs = ready-most (c .before .before .before .before .before .before .pre .0)
+
+sub-clear : tie.Need-sub-clear
+sub-clear c =
+    let start = c .before .before .before .before .before .before .before in
+    omega (arith, c .before .before .row .ensures, c .visited .ensures, row-fits (start .args .n) (start .pre .1))
+
+clear-requires : tie.Need-clear-requires
+clear-requires c κs =
+    let start = c .before .before .before .before .before .before .before in
+    omega (arith, c .before .before .row .ensures, c .visited .ensures, row-fits (start .args .n) (start .pre .1), ready-room (start .pre .0) (start .pre .1))
+
+live-names-requires : tie.Need-live-names-requires
+live-names-requires c κs =
+    let start = c .before .before .before .before .before .before .before .before .before .before .before .before .before in
+    let a = start .args in
+    subst (λ l. Blank (now (a .file)) l (now (a .live-in)) (now (a .live-out)) (a .n))
+    (sym (c .before .before .before .before .before .clear .ensures ∙ ap₂ (λ r v. cleared (now (a .work)) r (v - r)) (c .before .before .before .before .before .before .before .before .row .ensures) (c .before .before .before .before .before .before .visited .ensures)))
+    (blank (now (a .live-in)) (now (a .live-out)) (start .pre .0) (start .pre .1) (start .pre .2) (start .pre .3))
+
+same-length : tie.Need-same-length
+same-length c = search needs
+
+same-length-2 : tie.Need-same-length-2
+same-length-2 c = search needs
+
+same-length-3 : tie.Need-same-length-3
+same-length-3 c = search needs
+
+returns : tie.Need-returns
+returns c = search needs
+
+pub solve-names-spec : {M : Type 1} → statement M
+solve-names-spec =
+    tie.close
+    (tie.spec
+    row-requires
+    visited-requires
+    sub-clear
+    clear-requires
+    live-names-requires
+    same-length
+    same-length-2
+    same-length-3
+    returns)

@@ -1,0 +1,148 @@
+-- `states` meets its promise: at each return the reader's answer, the areas' verdict and what the phases left say which part of the promise holds.
+-- Assumes nothing.
+use borrow.Author.Needs.{needs}
+use borrow.Author.Tests.{not-true, not-false}
+use native.Mathlib.Omega.{arith}
+use native.Mathlib.Nat.{pos-of-ne-zero}
+use denote.Ref.{now}
+use Prim.Native.Nat.{ℕ, _≤_}
+use mathlib.Core.Bool.{true, false}
+use mathlib.Core.Path.{_≡_, refl, ap, sym, _∙_, subst}
+use lib.ListN.{length, getD}
+use Rattle.flow.specs.declared.Header.{Header}
+use Rattle.flow.specs.Limits.{workWords, maxStatements, maxArrays}
+use Rattle.flow.specs.Format.{verdict, areaChecks, statementsOf, arraysOf}
+use Rattle.flow.specs.Fields.{FitFile, isFit}
+use Rattle.flow.specs.Answers.{headerOf}
+use Rattle.records.proofs.Files.{limited}
+use Rattle.dataflow.proofs.Judging as judging
+use Rattle.dataflow.proofs.door.states.Statement.{statement}
+use Rattle.dataflow.proofs.door.states.Tie as tie
+
+-- the reader found the file fit, with this header
+fits : (c : tie.After-known-told) → FitFile (now (c .before .before .before .before .before .before .before .before .before .args .file))
+fits c = judging.file-fit _ _ (c .before .before .before .check-file .ensures) (c .before .found .given .1)
+
+header : (c : tie.After-known-told) → c .before .found .given .0 .0 ≡ headerOf (now (c .before .before .before .before .before .before .before .before .before .args .file))
+header c = judging.header-is _ _ (c .before .before .before .check-file .ensures) (c .before .found .given .1)
+
+check-file-requires : tie.Need-check-file-requires
+check-file-requires c κs = search needs
+
+enum-known-found : tie.Need-enum-known-found
+enum-known-found c = search needs
+
+enum-known-r : tie.Need-enum-known-r
+enum-known-r c = search needs
+
+returns : tie.Need-returns
+returns c =
+    let a = c .before .before .before .before .before .before .before .before .before .args in
+    judging.file-refused (now (a .file)) (now (a .masks)) (now (a .live-in)) (now (a .live-out)) (now (a .work)) _ (c .before .before .before .check-file .ensures) (c .before .r .given .1)
+
+areas-fit-requires : tie.Need-areas-fit-requires
+areas-fit-requires c κs =
+    let l = limited (fits c) in (
+      subst (λ (h : Header). h .statements ≤ maxStatements) (sym (header c)) (l .statements),
+      subst (λ (h : Header). h .arrays ≤ maxArrays) (sym (header c)) (l .arrays),
+    )
+
+returns-2 : tie.Need-returns-2
+returns-2 c =
+    let k = c .before .before in
+    let a = k .before .before .before .before .before .before .before .before .before .args in
+    judging.areas-refused (now (a .file)) (now (a .masks)) (now (a .live-in)) (now (a .live-out)) (now (a .work)) (fits k)
+    (judging.areas-by _ _ (k .before .before .before .check-file .ensures) (k .before .found .given .1) _ _ _ _ _
+    (sym (c .before .areas-fit .ensures) ∙ not-true _ (c .if1 .taken)))
+
+clear-requires : tie.Need-clear-requires
+clear-requires c κs = search needs
+
+same-length : tie.Need-same-length
+same-length c = search needs
+
+-- the areas are long enough, as the header and as the verdict say
+judged : (c : tie.Else1)
+    → isFit (verdict (areaChecks (statementsOf (now (c .before .before .before .before .before .before .before .before .before .before .before .args .file))) (arraysOf (now (c .before .before .before .before .before .before .before .before .before .before .before .args .file))) (length (now (c .before .before .before .before .before .before .before .before .before .before .before .args .masks))) (length (now (c .before .before .before .before .before .before .before .before .before .before .before .args .live-in))) (length (now (c .before .before .before .before .before .before .before .before .before .before .before .args .live-out))) (length (now (c .before .before .before .before .before .before .before .before .before .before .before .args .work))))) ≡ true
+judged c =
+    let k = c .before .before in
+    judging.areas-by _ _ (k .before .before .before .check-file .ensures) (k .before .found .given .1) _ _ _ _ _
+    (sym (c .before .areas-fit .ensures) ∙ not-false _ (c .if1 .left))
+
+returns-3 : tie.Need-returns-3
+returns-3 c =
+    let e = c .before .before .before .before .before in
+    let k = e .before .before in
+    let a = k .before .before .before .before .before .before .before .before .before .args in
+    let none = ap (λ (h : Header). h .statements) (sym (header k)) ∙ c .if2 .taken in
+    judging.accepting (now (a .file)) (now (a .masks)) _ (now (a .live-in)) _ (now (a .live-out)) _ (now (a .work)) _ 0 (fits k)
+    (judging.judged-fit (now (a .file)) (now (a .masks)) (now (a .live-in)) (now (a .live-out)) (now (a .work)) (fits k) (judged e))
+    (judging.nothing-solved (now (a .file)) (now (a .masks)) (now (a .live-in)) (now (a .live-out)) none)
+    (c .before .before .before .clear .ensures ∙ judging.cleared-whole (now (a .work)) _ refl)
+
+solve-flow-requires : tie.Need-solve-flow-requires
+solve-flow-requires c κs =
+    let e = c .before .before .before .before .before .before .before .before .before in
+    let k = e .before .before in
+    let a = k .before .before .before .before .before .before .before .before .before .args in
+    let work = c .before .before .before .before .before .before .before .clear in
+    let rooms = judging.rooms _ _ _ _ _ _ (sym (e .before .areas-fit .ensures) ∙ not-false _ (e .if1 .left)) in
+    record {
+      fresh = record {
+        fit = fits k;
+        header = header k;
+        some = pos-of-ne-zero (c .before .before .before .before .if2 .left);
+        work-room = subst (λ m. workWords (k .before .found .given .0 .0 .statements) ≤ m) (sym (work .kept .0)) (rooms .work-room);
+        zero = λ x. ap (λ l. getD l x 0) (work .ensures ∙ judging.cleared-whole (now (a .work)) _ refl) ∙ judging.zeros (length (now (a .work))) x;
+      };
+      masks-room = rooms .masks-room;
+      in-room = rooms .in-room;
+      out-room = rooms .out-room;
+    }
+
+clear-requires-2 : tie.Need-clear-requires-2
+clear-requires-2 c κs = search needs
+
+same-length-2 : tie.Need-same-length-2
+same-length-2 c = search needs
+
+same-length-3 : tie.Need-same-length-3
+same-length-3 c = search needs
+
+same-length-4 : tie.Need-same-length-4
+same-length-4 c = search needs
+
+same-length-5 : tie.Need-same-length-5
+same-length-5 c = search needs
+
+returns-4 : tie.Need-returns-4
+returns-4 c =
+    let f = c .before .before .before .before .before .before .before .before .before .before .before .before in
+    let e = f .before .before .before .before .before .before .before .before .before .before in
+    let k = e .before .before in
+    let a = k .before .before .before .before .before .before .before .before .before .args in
+    judging.accepting (now (a .file)) (now (a .masks)) _ (now (a .live-in)) _ (now (a .live-out)) _ (now (a .work)) _ _ (fits k)
+    (judging.judged-fit (now (a .file)) (now (a .masks)) (now (a .live-in)) (now (a .live-out)) (now (a .work)) (fits k) (judged e))
+    (f .solve-flow .ensures)
+    (c .before .before .clear2 .ensures ∙ judging.cleared-whole _ _ (f .solve-flow .kept .1 .1 .1 .1 .1 .0 ∙ f .before .before .before .before .before .before .before .before .clear .kept .0))
+
+pub states-spec : {M : Type 1} → statement M
+states-spec =
+    tie.close
+    (tie.spec
+    check-file-requires
+    enum-known-found
+    enum-known-r
+    returns
+    areas-fit-requires
+    returns-2
+    clear-requires
+    same-length
+    returns-3
+    solve-flow-requires
+    clear-requires-2
+    same-length-2
+    same-length-3
+    same-length-4
+    same-length-5
+    returns-4)

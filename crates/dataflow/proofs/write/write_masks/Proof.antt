@@ -1,0 +1,100 @@
+-- `write_masks` meets its contract. The loop's invariant, `Filled`: the rows of the statements passed are noted, and the next one starts at `at`. The measure
+-- is how many statements are left. Assumes nothing.
+use native.Mathlib.Omega.{arith}
+use native.Mathlib.Nat.{suc-mul, zero-mul, mul-le-mul-right}
+use native.Mathlib.Numerals.{add-one}
+use denote.Ref.{now}
+use Prim.Native.Nat.{ℕ, suc, _+_, _-_, _*_, _≤_, _<_}
+use mathlib.Core.List.{List}
+use mathlib.Core.Path.{_≡_, refl, ap, ap₂, sym, _∙_}
+use lib.ListN.{length}
+use Rattle.flow.specs.Fields.{noted}
+use Rattle.dataflow.specs.Bytes.{bothCopies, notedRows}
+use Rattle.dataflow.proofs.NotedRows.{length-rows}
+use Rattle.dataflow.proofs.write.write_masks.Statement.{statement}
+use Rattle.dataflow.proofs.write.write_masks.Tie as tie
+
+record Filled (ws work : List ℕ) (n arrays : ℕ) (masks : List ℕ) (at i : ℕ) : Type 0 where
+  passed : i ≤ n
+  place : at ≡ i * arrays
+  rows : masks ≡ notedRows ws arrays (bothCopies work n) i
+
+abbrev Inv-loop : tie.InvT-loop
+Inv-loop masks₀ work n arrays at₀ i₀ masks at i = Filled masks₀ work n arrays masks at i
+
+abbrev μ-loop : tie.MeasureT-loop
+μ-loop masks₀ work n arrays at₀ i₀ masks at i = n - i
+
+-- the rows up to this one lie within the area
+fits : (n arrays size at i : ℕ) → i < n → at ≡ i * arrays → n * arrays ≤ size → at + arrays ≤ size
+fits n arrays size at i l e h = omega (arith, mul-le-mul-right arrays l, suc-mul i arrays)
+
+loop-holds : tie.Need-loop-holds Inv-loop μ-loop
+unfolding notedRows
+loop-holds c = record { passed = omega arith; place = sym (zero-mul _); rows = refl }
+
+write-row-requires : tie.Need-write-row-requires Inv-loop μ-loop
+write-row-requires c κs =
+    let start = c .before .before .before .before .before in
+    let a = start .args in
+    let loop = c .before .before .loop in
+    let size = ap length (loop .inv .rows) ∙ length-rows (now (a .masks)) (a .arrays) (bothCopies (now (a .work)) (a .n)) (loop .i) in (
+      start .pre .0,
+      start .pre .1,
+      c .before .loop-test .taken,
+      fits (a .n) (a .arrays) (length (loop .masks)) (loop .at) (loop .i) (c .before .loop-test .taken) (loop .inv .place) (omega (arith, start .pre .2, size)),
+      start .pre .3,
+    )
+
+add-at : tie.Need-add-at Inv-loop μ-loop
+add-at c =
+    let start = c .before .before .before .before .before .before .before .before in
+    let loop = c .before .before .before .before .before .loop in
+    omega (
+      arith,
+      start .good .0 .0,
+      fits (start .args .n) (start .args .arrays) (length (now (start .args .masks))) (loop .at) (loop .i) (c .before .before .before .before .loop-test .taken) (loop .inv .place) (start .pre .2),
+    )
+
+add-i : tie.Need-add-i Inv-loop μ-loop
+add-i c = omega arith
+
+loop-less : tie.Need-loop-less Inv-loop μ-loop
+loop-less c = omega arith
+
+loop-again : tie.Need-loop-again Inv-loop μ-loop
+unfolding notedRows
+loop-again c =
+    let a = c .before .before .before .before .before .before .before .before .args in
+    let loop = c .before .before .before .before .before .loop in
+    record {
+      passed = omega (arith, c .before .before .before .before .loop-test .taken);
+      place = rw add-one (omega (arith, suc-mul (loop .i) (a .arrays), loop .inv .place));
+      rows = rw add-one (c .before .before .write-row .ensures ∙ ap₂ (λ l p. noted l p (a .arrays) (bothCopies (now (a .work)) (a .n) (loop .i))) (loop .inv .rows) (loop .inv .place));
+    }
+
+same-length : tie.Need-same-length Inv-loop μ-loop
+same-length c =
+    let a = c .before .before .before .before .args in
+    ap length (c .before .loop .inv .rows) ∙ length-rows (now (a .masks)) (a .arrays) (bothCopies (now (a .work)) (a .n)) (c .before .loop .i)
+
+returns : tie.Need-returns Inv-loop μ-loop
+returns c =
+    let a = c .before .before .before .before .args in
+    let all : c .before .loop .i ≡ a .n = omega (arith, c .loop-test .left) in
+    c .before .loop .inv .rows ∙ ap (notedRows (now (a .masks)) (a .arrays) (bothCopies (now (a .work)) (a .n))) all
+
+pub write-masks-spec : {M : Type 1} → statement M
+write-masks-spec =
+    tie.close
+    (tie.spec
+    Inv-loop
+    μ-loop
+    loop-holds
+    write-row-requires
+    add-at
+    add-i
+    loop-less
+    loop-again
+    same-length
+    returns)

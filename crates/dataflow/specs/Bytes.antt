@@ -1,0 +1,17 @@
+-- The masks written as bytes: those of both copies of a statement joined, array by array, one statement after the other.
+-- Assumes nothing.
+use Prim.Native.Nat.{ℕ, zero, suc, _+_, _*_}
+use mathlib.Core.List.{List}
+use lib.Bits.{bitOr}
+use Rattle.words.specs.Byte.{byteAt}
+use Rattle.flow.specs.Fields.{noted}
+use Rattle.statements.specs.Layout.{maskRowAt}
+
+-- the mask of array a at statement i: the union over its two rows
+unfoldable pub bothCopies : List ℕ → ℕ → ℕ → ℕ → ℕ
+bothCopies ws n i a = bitOr (byteAt ws (maskRowAt n i) a) (byteAt ws (maskRowAt n (n + i)) a)
+
+-- k rows of w elements from the start on
+unfoldable pub notedRows : List ℕ → ℕ → (ℕ → ℕ → ℕ) → ℕ → List ℕ
+notedRows ws w f zero = ws
+notedRows ws w f (suc k) = noted (notedRows ws w f k) (k * w) w (f k)

@@ -1,0 +1,139 @@
+// The call that answers a flow file: the file is judged, then the areas; only then is anything written.
+ghost use Prim.Native.Nat.{_*_, _<_, _≤_};
+ghost use mathlib.Core.Path.{_≡_};
+ghost use lib.ListN.{length};
+ghost use Rattle.flow.specs.Format.{flowOf};
+ghost use Rattle.flow.specs.Answers.{headerOf};
+ghost use Rattle.theory.specs.Live.{liveInWord, liveOutWord};
+ghost use Rattle.statements.specs.Ready.{Ready};
+ghost use Rattle.dataflow.specs.Promise.{Promise, Door, Written};
+ghost use Rattle.dataflow.specs.Phases.{Fresh, Begun, SolverBlank, Masked, Blank, Solved};
+use crate::Answer;
+use crate::arrays;
+use crate::write;
+use statements::layout;
+
+// The places of the records and the summaries of the calls. The work area is zero before.
+fn summarize(file: &[u8], h: flow::Header, work: &mut [u64])
+    requires { ⌜ Fresh (now file) h (now work) ⌝ }
+    ensures { λ _. ⌜ Begun (now (file .entry)) h (now (work .exit)) ⌝ }
+{
+    let n = h.statements;
+    records::offsets::note_offsets(file, work, 0, n);
+    calls::summary::summarize_calls(file, h, work);
+}
+
+// The edges of the RETURNs. The queue's words served as a stack and are cleared for the solver.
+fn link(file: &[u8], h: flow::Header, work: &mut [u64])
+    requires { ⌜ Begun (now file) h (now work) × (h ≡ headerOf (now file)) × (0 < h .statements) ⌝ }
+    ensures { λ _. ⌜ SolverBlank (now (file .entry)) h (now (work .exit)) ⌝ }
+{
+    let n = h.statements;
+    calls::returns::note_returns(file, h, work);
+    words::clear(work, layout::queue(n), 2 * n);
+}
+
+fn solve_arrays(file: &[u8], h: flow::Header, masks: &mut [u8], work: &mut [u64]) -> u64
+    requires { ⌜ SolverBlank (now file) h (now work) × (h .statements * h .arrays ≤ length (now masks)) ⌝ }
+    ensures { λ r. ⌜ Masked (now (file .entry)) h (now (masks .entry)) (now (masks .exit)) (now (work .exit)) r ⌝ }
+{
+    let n = h.statements;
+    let arrays = h.arrays;
+    let visits = arrays::array_states(file, h, work);
+    write::write_masks(masks, work, n, arrays);
+    visits
+}
+
+// The matrix, the queue and the waiting words are free again.
+fn solve_names(file: &[u8], n: usize, live_in: &mut [u64], live_out: &mut [u64], work: &mut [u64])
+    requires { ⌜ Ready (now file) (now work) n × (0 < n) × (n ≤ length (now «live_in»)) × (n ≤ length (now «live_out»)) ⌝ }
+    ensures { λ _. ⌜ Written n (liveInWord (flowOf (now (file .entry)))) (now («live_in» .entry)) (now («live_in» .exit)) × Written n (liveOutWord (flowOf (now (file .entry)))) (now («live_out» .entry)) (now («live_out» .exit)) ⌝ }
+{
+    let matrix = layout::row(n, 0);
+    words::clear(work, matrix, layout::visited(n) - matrix);
+    live::live_names(file, work, live_in, live_out, n);
+}
+
+// What the phases find of a file and areas that are fit. The work area is zero before.
+fn solve_flow(
+    file: &[u8],
+    h: flow::Header,
+    masks: &mut [u8],
+    live_in: &mut [u64],
+    live_out: &mut [u64],
+    work: &mut [u64],
+) -> u64
+    requires { ⌜ Blank (now file) h (now masks) (now «live_in») (now «live_out») (now work) ⌝ }
+    ensures { λ r. ⌜ Solved (flowOf (now (file .entry))) (now (masks .entry)) (now (masks .exit)) (now («live_in» .entry)) (now («live_in» .exit)) (now («live_out» .entry)) (now («live_out» .exit)) r ⌝ }
+{
+    let n = h.statements;
+    summarize(file, h, work);
+    link(file, h, work);
+    let visits = solve_arrays(file, h, masks, work);
+    solve_names(file, n, live_in, live_out, work);
+    visits
+}
+
+pub fn states(
+    file: &[u8],
+    masks: &mut [u8],
+    live_in: &mut [u64],
+    live_out: &mut [u64],
+    work: &mut [u64],
+) -> Answer
+    ensures { λ r. ⌜ Promise (now (file .entry)) (now (masks .entry)) (now (masks .exit)) (now («live_in» .entry)) (now («live_in» .exit)) (now («live_out» .entry)) (now («live_out» .exit)) (now (work .entry)) (now (work .exit)) r ⌝ }
+{
+    let h = match flow::check::check_file(file) {
+        flow::Checked::Fit(found) => found,
+        flow::Checked::Unfit(r) => {
+            return Answer::Refused(r);
+        }
+    };
+    let n = h.statements;
+    let arrays = h.arrays;
+    if !records::areas::areas_fit(
+        n,
+        arrays,
+        masks.len(),
+        live_in.len(),
+        live_out.len(),
+        work.len(),
+    ) {
+        return Answer::Refused(flow::Refusal::Areas);
+    }
+    let size = work.len();
+    words::clear(work, 0, size);
+    if n == 0 {
+        return Answer::Accepted(0);
+    }
+    let visits = solve_flow(file, h, masks, live_in, live_out, work);
+    words::clear(work, 0, size);
+    Answer::Accepted(visits)
+}
+
+// The door for other languages: 0, place 0 and the count of visits where the flow is accepted; else the refusal's number, its place and 0.
+#[no_mangle]
+pub extern "C" fn yarnuskel_states(
+    file: &[u8],
+    masks: &mut [u8],
+    live_in: &mut [u64],
+    live_out: &mut [u64],
+    work: &mut [u64],
+    place: &mut u64,
+    visits: &mut u64,
+) -> u64
+    ensures { λ r. ⌜ Door (now (file .entry)) (now (masks .entry)) (now (masks .exit)) (now («live_in» .entry)) (now («live_in» .exit)) (now («live_out» .entry)) (now («live_out» .exit)) (now (work .entry)) (now (work .exit)) (now (place .exit)) (now (visits .exit)) r ⌝ }
+{
+    match states(file, masks, live_in, live_out, work) {
+        Answer::Accepted(count) => {
+            *place = 0;
+            *visits = count;
+            0
+        }
+        Answer::Refused(r) => {
+            *place = flow::check::place(r);
+            *visits = 0;
+            flow::check::number(r)
+        }
+    }
+}

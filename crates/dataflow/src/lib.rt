@@ -1,0 +1,12 @@
+// `array_states` and live names: the answer to a flow file, and its door for other languages.
+pub mod arrays;
+pub mod door;
+pub mod transfer;
+pub mod write;
+
+// The answer to a flow file and the areas lent with it.
+pub enum Answer {
+    // With the count of visits.
+    Accepted(u64),
+    Refused(flow::Refusal),
+}
