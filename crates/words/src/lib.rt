@@ -107,7 +107,8 @@ fn next_by_word(ws: &[u64], base: usize, first: usize, bound: usize) -> usize
     bound
 }
 
-// The first member at or after `from` and below `bound`; `bound` if there is none.
+// The first member at or after `from` and below `bound`; `bound` if there is none. `from` itself is looked at first, since members often
+// stand side by side, and the next search then need not wait for the place of the lowest bit.
 pub fn next(ws: &[u64], base: usize, from: usize, bound: usize) -> usize
     requires { ⌜ base + (bound + 63) / 64 ≤ length (now ws) ⌝ }
     ensures { λ r. ⌜ r ≡ nextMember (now (ws .entry)) base from bound ⌝ }
@@ -116,6 +117,9 @@ pub fn next(ws: &[u64], base: usize, from: usize, bound: usize) -> usize
         return from;
     }
     let rest = ws[base + from / 64] >> (from % 64);
+    if rest % 2 == 1 {
+        return from;
+    }
     if rest != 0 {
         return forward(from, u64::trailing_zeros(rest) as usize, bound);
     }
