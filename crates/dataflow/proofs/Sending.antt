@@ -18,10 +18,9 @@ use Rattle.flow.specs.declared.NodeId.{NodeId}
 use Rattle.flow.specs.Flow.{Flow, size}
 use Rattle.flow.specs.Limits.{maxArrays}
 use Rattle.theory.specs.Lists.{In, has, concatMap, optionList}
-use Rattle.theory.specs.Queue.{Arc, enqueue, brings}
+use Rattle.theory.specs.Queue.{Arc, join, enqueue, brings}
 use Rattle.theory.specs.Doubled.{Base, Node, Edge, node, number, doubled}
 use Rattle.theory.specs.WellFormed.{WellFormed}
-use Rattle.theory.proofs.Enqueue.{join}
 use Rattle.theory.proofs.Edges.{edge-below}
 use Rattle.theory.proofs.Push.{differ}
 use Rattle.statements.specs.Layout.{queueAt, enteredAt, waitingAt, visitedAt, grownAt, areaEnd, maskRowAt}

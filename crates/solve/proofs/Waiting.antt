@@ -11,9 +11,10 @@ use native.Mathlib.Omega.{arith}
 use borrow.Author.Tests.{ne-eqb}
 use lib.ListN.{length, getD, set, length-set, length-append, List·getD-append}
 use lib.Seq.{getD-set-same, getD-set-other, getD-append-add}
-use Rattle.theory.specs.Lists.{In, has}
+use Rattle.theory.specs.Lists.{In, has, Distinct}
+use Rattle.theory.specs.Queue.{join}
 use Rattle.theory.proofs.Lists.{not-so, has-In, has-last, has-before}
-use Rattle.theory.proofs.Enqueue.{Distinct, join, join-distinct, join-cases, distinct-length}
+use Rattle.theory.proofs.Enqueue.{join-distinct, join-cases, distinct-length}
 use Rattle.statements.specs.Layout.{queueAt, enteredAt, waitingAt, visitedAt}
 use Rattle.statements.specs.Ready.{Keeps}
 use Rattle.solve.specs.declared.Queue.{Queue}
