@@ -46,18 +46,18 @@ accepted-count e = cc
 
 module _ (s masks liveIn liveOut work : List ℕ) where
   -- a refusal changes nothing
-  pub refusing : (r : Refusal) → judged s (length masks) (length liveIn) (length liveOut) (length work) ≡ unfit r
-      → Promise s masks masks liveIn liveIn liveOut liveOut work work (Refused r)
-  refusing r e = record {
+  pub refusing : {work′ : List ℕ} (r : Refusal) → work′ ≡ work → judged s (length masks) (length liveIn) (length liveOut) (length work) ≡ unfit r
+      → Promise s masks masks liveIn liveIn liveOut liveOut work work′ (Refused r)
+  refusing r same e = record {
     answer = ap (answerBy (flowOf s)) (sym e);
-    refused = λ x _. record { same-masks = refl; same-live-in = refl; same-live-out = refl; same-work = refl };
+    refused = λ x _. record { same-masks = refl; same-live-in = refl; same-live-out = refl; same-work = same };
     accepted = λ v h. absurd (not-accepted h);
   }
 
   pub file-refused : {c : Checked} (r : Refusal) → c ≡ checkedOf (verdict (fileChecks s)) (headerOf s) → c ≡ Unfit r
       → Promise s masks masks liveIn liveIn liveOut liveOut work work (Refused r)
   file-refused r e h =
-      refusing r (unfit-append (fileChecks s) _ (unfit-answer (verdict (fileChecks s)) (headerOf s) (sym e ∙ h)))
+      refusing r refl (unfit-append (fileChecks s) _ (unfit-answer (verdict (fileChecks s)) (headerOf s) (sym e ∙ h)))
 
   areas-of : Verdict
   areas-of = verdict (areaChecks (size (flowOf s)) (flowOf s .arrays) (length masks) (length liveIn) (length liveOut) (length work))
@@ -78,9 +78,10 @@ module _ (s masks liveIn liveOut work : List ℕ) where
       ∙ ap (λ b. cond b fit (unfit Areas))
       (sym (areas-fit (statementsOf s) (arraysOf s) (length masks) (length liveIn) (length liveOut) (length work)) ∙ e)
 
-  pub areas-refused : FitFile s → isFit (verdict (areaChecks (statementsOf s) (arraysOf s) (length masks) (length liveIn) (length liveOut) (length work))) ≡ false
-      → Promise s masks masks liveIn liveIn liveOut liveOut work work (Refused Areas)
-  areas-refused h e = refusing Areas (judged-areas h false e)
+  pub areas-refused : {work′ : List ℕ} → FitFile s → work′ ≡ work
+      → isFit (verdict (areaChecks (statementsOf s) (arraysOf s) (length masks) (length liveIn) (length liveOut) (length work))) ≡ false
+      → Promise s masks masks liveIn liveIn liveOut liveOut work work′ (Refused Areas)
+  areas-refused h same e = refusing Areas same (judged-areas h false e)
 
   pub judged-fit : FitFile s → isFit (verdict (areaChecks (statementsOf s) (arraysOf s) (length masks) (length liveIn) (length liveOut) (length work))) ≡ true
       → judged s (length masks) (length liveIn) (length liveOut) (length work) ≡ fit

@@ -20,12 +20,11 @@ use Rattle.flow.specs.Flow.{Flow, size}
 use Rattle.flow.specs.Limits.{maxArrays}
 use Rattle.theory.specs.Lists.{has}
 use Rattle.theory.specs.Doubled.{doubled, boundary}
-use Rattle.theory.specs.Queue.{Graph, Solver, pulled, initial, visit, visitBound, solved}
+use Rattle.theory.specs.Queue.{Graph, Solver, join, pulled, initial, visit, visitBound, solved}
 use Rattle.theory.specs.Masks.{nodeMask, visitsOf}
 use Rattle.theory.specs.WellFormed.{WellFormed}
 use Rattle.theory.proofs.Lists.{clash}
 use Rattle.theory.proofs.Terms.{doubled-well-formed}
-use Rattle.theory.proofs.Enqueue.{join}
 use Rattle.theory.proofs.Ends.{RuleState, rule-starts, rule-visits, rule-keeps, rule-bound, rule-ends, potential}
 use Rattle.theory.proofs.Exact.{pulled-held}
 use Rattle.theory.proofs.Push.{pulled-first}

@@ -18,12 +18,11 @@ use Rattle.flow.specs.declared.NodeId.{NodeId}
 use Rattle.flow.specs.Flow.{Flow, size}
 use Rattle.flow.specs.Limits.{maxArrays}
 use Rattle.theory.specs.Lists.{In, has, concatMap, optionList}
-use Rattle.theory.specs.Queue.{Arc, enqueue, brings}
+use Rattle.theory.specs.Queue.{Arc, join, enqueue, brings}
 use Rattle.theory.specs.Doubled.{Base, Node, Edge, node, number, doubled}
 use Rattle.theory.specs.WellFormed.{WellFormed}
-use Rattle.theory.proofs.Enqueue.{join}
 use Rattle.theory.proofs.Edges.{edge-below}
-use Rattle.theory.proofs.Push.{differ}
+use Rattle.theory.proofs.Push.{differ, differ-chain}
 use Rattle.statements.specs.Layout.{queueAt, enteredAt, waitingAt, visitedAt, grownAt, areaEnd, maskRowAt}
 use Rattle.statements.specs.Ready.{Keeps}
 use Rattle.statements.proofs.Keeps.{keeps-refl, keeps-trans}
@@ -35,7 +34,7 @@ use Rattle.solve.specs.Waiting.{Waits}
 use Rattle.solve.specs.Pushed.{masksAt, Pushed}
 use Rattle.solve.proofs.Growing.{differ-as}
 use Rattle.dataflow.specs.Sent.{edgeRow, carried, GrownWords, SameVisited, Sent}
-use Rattle.dataflow.proofs.Unions.{or-assoc, differ-self, differ-chain, cond-or}
+use Rattle.dataflow.proofs.Unions.{or-assoc, or-between, differ-self, cond-or}
 
 -- the edges of d from a cursor on
 abbrev pub edgesFrom : Flow → ℕ → ℕ → List Edge
@@ -159,7 +158,7 @@ module _ {f : Flow} {ws₀ : List ℕ} {n : ℕ} {queue₀ : Queue} {d : ℕ} {w
           ∙ ap (cond (differ maxArrays (masksAt vs n u) (masksAt ws n u)) 1) (s .grown u l)
           ∙ cond-or (differ maxArrays (masksAt ws n u) (masksAt ws₀ n u)) (differ maxArrays (masksAt vs n u) (masksAt ws n u)) 1 (getD ws₀ (grownAt n + u) 0)
           ∙ sym (ap (λ (b : Bool). cond b 1 (getD ws₀ (grownAt n + u) 0))
-          (differ-chain maxArrays (masksAt ws₀ n u) (masksAt ws n u) (masksAt vs n u) (λ a m. s .grows u a l m) (λ a m. held u a m)))
+          (differ-chain maxArrays (masksAt ws₀ n u) (masksAt ws n u) (masksAt vs n u) (λ a m. or-between (masksAt ws₀ n u a) (masksAt ws n u a) (masksAt vs n u a) (s .grows u a l m) (held u a m))))
       at (no ne) =
           p .grown .not-grew u l ne ∙ s .grown u l
           ∙ ap (λ (b : Bool). cond b 1 (getD ws₀ (grownAt n + u) 0))

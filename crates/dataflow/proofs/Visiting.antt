@@ -22,7 +22,7 @@ use Rattle.theory.proofs.Lists.{clash}
 use Rattle.theory.proofs.Terms.{doubled-well-formed}
 use Rattle.theory.proofs.Invariant.{WellFormedGraph, Invariant, grew, queue, front-below, visited-at, visited-other, waiting-next, was-visited}
 use Rattle.theory.proofs.Ends.{RuleState, rule-keeps}
-use Rattle.theory.proofs.Push.{differ, pulled-next, pulled-same, changed-front, changed-other}
+use Rattle.theory.proofs.Push.{differ, alike, no-differ, pulled-next, pulled-same, changed-front, changed-other}
 use Rattle.statements.specs.Layout.{queueAt, enteredAt, waitingAt, visitedAt, grownAt, maskRowAt, areaEnd}
 use Rattle.statements.specs.Ready.{Keeps}
 use Rattle.statements.proofs.Keeps.{keeps-set, keeps-trans, keeps-widen}
@@ -35,7 +35,7 @@ use Rattle.solve.proofs.Growing.{differ-as}
 use Rattle.dataflow.specs.Sent.{masksBelow, Sends}
 use Rattle.dataflow.specs.Solving.{Solving, Underway, VisitsFront}
 use Rattle.dataflow.proofs.Kept.{empty-stays}
-use Rattle.dataflow.proofs.Unions.{alike, no-differ, cond-or}
+use Rattle.dataflow.proofs.Unions.{cond-or}
 
 pub nodes-are : (f : Flow) → doubled f .nodes ≡ size f + size f
 unfolding doubled

@@ -1,7 +1,9 @@
 // The call that answers a flow file: the file is judged, then the areas; only then is anything written.
 ghost use Prim.Native.Nat.{_*_, _<_, _≤_};
+ghost use mathlib.Core.Bool.{cond};
 ghost use mathlib.Core.Path.{_≡_};
 ghost use lib.ListN.{length};
+ghost use Rattle.words.specs.Change.{cleared};
 ghost use Rattle.flow.specs.Format.{flowOf};
 ghost use Rattle.flow.specs.Answers.{headerOf};
 ghost use Rattle.theory.specs.Live.{liveInWord, liveOutWord};
@@ -74,6 +76,16 @@ fn solve_flow(
     visits
 }
 
+// The first `size` words are cleared where the areas are fit; else nothing is written.
+fn clear_if(work: &mut [u64], size: usize, fit: bool)
+    requires { ⌜ size ≤ length (now work) ⌝ }
+    ensures { λ _. ⌜ now (work .exit) ≡ cond fit (cleared (now (work .entry)) 0 size) (now (work .entry)) ⌝ }
+{
+    if fit {
+        words::clear(work, 0, size);
+    }
+}
+
 pub fn states(
     file: &[u8],
     masks: &mut [u8],
@@ -91,18 +103,19 @@ pub fn states(
     };
     let n = h.statements;
     let arrays = h.arrays;
-    if !records::areas::areas_fit(
+    let fit = records::areas::areas_fit(
         n,
         arrays,
         masks.len(),
         live_in.len(),
         live_out.len(),
         work.len(),
-    ) {
+    );
+    let size = work.len();
+    clear_if(work, size, fit);
+    if !fit {
         return Answer::Refused(flow::Refusal::Areas);
     }
-    let size = work.len();
-    words::clear(work, 0, size);
     if n == 0 {
         return Answer::Accepted(0);
     }

@@ -2,24 +2,44 @@
 ghost use Prim.Native.Nat.{_+_, _*_, _<_, _≤_};
 ghost use mathlib.Core.Path.{_≡_};
 ghost use lib.ListN.{length};
+ghost use Rattle.words.specs.Byte.{byteOf};
 ghost use Rattle.flow.specs.Limits.{maxStatements, maxArrays};
 ghost use Rattle.flow.specs.Fields.{noted};
-ghost use Rattle.statements.specs.Layout.{areaEnd};
-ghost use Rattle.dataflow.specs.Bytes.{bothCopies, notedRows};
+ghost use Rattle.statements.specs.Layout.{maskWords, areaEnd};
+ghost use Rattle.dataflow.specs.Bytes.{joinedWord, bothCopies, notedRows};
 use statements::layout;
 
-// The masks of statement i, from the byte at `at` on.
+// Word k of the masks of statement i, both copies joined.
+fn joined_word(work: &[u64], n: usize, i: usize, k: usize) -> u64
+    requires { ⌜ (n ≤ maxStatements) × (i < n) × (k ≤ maskWords) × (areaEnd n ≤ length (now work)) ⌝ }
+    ensures { λ r. ⌜ r ≡ joinedWord (now (work .entry)) n i k ⌝ }
+{
+    work[layout::mask_row(n, i) + k] | work[layout::mask_row(n, n + i) + k]
+}
+
+// The lowest bytes of a word, from the byte at `at` on.
+fn write_bytes(masks: &mut [u8], at: usize, word: u64, count: usize)
+    requires { ⌜ (count ≤ 8) × (at + count ≤ length (now masks)) ⌝ }
+    ensures { λ _. ⌜ now (masks .exit) ≡ noted (now (masks .entry)) at count (byteOf word) ⌝ }
+{
+    let mut b = 0;
+    while b < count {
+        masks[at + b] = ((word >> (8 * b)) % 256) as u8;
+        b += 1;
+    }
+}
+
+// The masks of statement i, from the byte at `at` on. Eight bytes of a word become one store, so the last, short word stands apart.
 fn write_row(masks: &mut [u8], at: usize, work: &[u64], n: usize, arrays: usize, i: usize)
     requires { ⌜ (n ≤ maxStatements) × (arrays ≤ maxArrays) × (i < n) × (at + arrays ≤ length (now masks)) × (areaEnd n ≤ length (now work)) ⌝ }
     ensures { λ _. ⌜ now (masks .exit) ≡ noted (now (masks .entry)) at arrays (bothCopies (now (work .entry)) n i) ⌝ }
 {
-    let outer = layout::mask_row(n, i);
-    let inner = layout::mask_row(n, n + i);
-    let mut a = 0;
-    while a < arrays {
-        masks[at + a] = words::byte(work, outer, a) | words::byte(work, inner, a);
-        a += 1;
+    let mut k = 0;
+    while k < arrays / 8 {
+        write_bytes(masks, at + 8 * k, joined_word(work, n, i, k), 8);
+        k += 1;
     }
+    write_bytes(masks, at + 8 * k, joined_word(work, n, i, k), arrays % 8);
 }
 
 pub fn write_masks(masks: &mut [u8], work: &[u64], n: usize, arrays: usize)

@@ -15,8 +15,9 @@ use Rattle.flow.specs.Flow.{Flow}
 use Rattle.theory.specs.Lists as lists
 use Rattle.theory.specs.Lists.{In}
 use Rattle.theory.specs.Body.{successors}
+use Rattle.theory.specs.Queue.{join}
 use Rattle.theory.specs.Live.{bitOf}
-use Rattle.theory.proofs.Enqueue.{join, join-keeps, join-adds, join-cases}
+use Rattle.theory.proofs.Enqueue.{join-keeps, join-adds, join-cases}
 use Rattle.statements.specs.Layout.{rowAt, matrixAt, visitedAt}
 use Rattle.statements.specs.Ready.{Keeps}
 use Rattle.statements.proofs.WorkArea.{row-from, row-fits, member-word}

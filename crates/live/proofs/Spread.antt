@@ -19,7 +19,8 @@ use Rattle.words.proofs.Row.{members-le}
 use Rattle.words.proofs.Rewritten.{differs-false, differs-members}
 use Rattle.words.proofs.Inserted.{joined-word, joined-other, words-joined}
 use Rattle.theory.specs.Lists.{In}
-use Rattle.theory.proofs.Enqueue.{join, join-keeps, join-adds, join-cases, join-length}
+use Rattle.theory.specs.Queue.{join}
+use Rattle.theory.proofs.Enqueue.{join-keeps, join-adds, join-cases, join-length}
 use Rattle.solve.specs.declared.Queue.{Queue}
 use Rattle.solve.specs.Waiting.{Enqueued}
 use Rattle.solve.proofs.Waiting.{rest-refl, rest-trans}

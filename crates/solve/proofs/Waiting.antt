@@ -11,9 +11,10 @@ use native.Mathlib.Omega.{arith}
 use borrow.Author.Tests.{ne-eqb}
 use lib.ListN.{length, getD, set, length-set, length-append, List·getD-append}
 use lib.Seq.{getD-set-same, getD-set-other, getD-append-add}
-use Rattle.theory.specs.Lists.{In, has}
+use Rattle.theory.specs.Lists.{In, has, Distinct}
+use Rattle.theory.specs.Queue.{join}
 use Rattle.theory.proofs.Lists.{not-so, has-In, has-last, has-before}
-use Rattle.theory.proofs.Enqueue.{Distinct, join, join-distinct, join-cases, distinct-length}
+use Rattle.theory.proofs.Enqueue.{join-distinct, join-cases, distinct-length}
 use Rattle.statements.specs.Layout.{queueAt, enteredAt, waitingAt, visitedAt}
 use Rattle.statements.specs.Ready.{Keeps}
 use Rattle.solve.specs.declared.Queue.{Queue}
@@ -174,8 +175,8 @@ joined-waiting {n} {ws} {queue} {w} d h e = subst (λ v. Waits ws n queue v) (sy
 
 -- the two stores, at places that were computed
 pub enqueued : {n d a b j : ℕ} {ws : List ℕ} {queue : Queue} → (w : List ℕ) × Waits ws n queue w → d < 2 * n → visitedAt n ≤ length ws → getD ws (waitingAt n + d) 0 ≢ 1
-    → a ≡ waitingAt n → b ≡ queueAt n → j ≡ wrapped (2 * n) (queue .head + queue .len)
-    → Enqueued ws (set (set ws (a + d) 1) (b + j) d) n queue d (record { head = queue .head; len = queue .len + 1 })
+    → a ≡ waitingAt n + d → b ≡ queueAt n → j ≡ wrapped (2 * n) (queue .head + queue .len)
+    → Enqueued ws (set (set ws a 1) (b + j) d) n queue d (record { head = queue .head; len = queue .len + 1 })
 enqueued h l fits no-flag ea eb ej =
     rw (ea, eb, ej)
     (record {
@@ -236,8 +237,8 @@ pub front-below : {n : ℕ} {ws : List ℕ} {queue : Queue} (w : List ℕ) → W
 front-below [] h l = absurd (omega (arith, h .count))
 front-below (x ∷ w) h l = rw (front-is h) (h .below x (List·Memᴰ·head refl))
 
-pub taken : {n a b : ℕ} {ws : List ℕ} {queue : Queue} → visitedAt n ≤ length ws → getD ws (queueAt n + queue .head) 0 < 2 * n → a ≡ waitingAt n → b ≡ queueAt n
-    → Taken ws (set ws (a + getD ws (b + queue .head) 0) 0) n queue (getD ws (b + queue .head) 0)
+pub taken : {n a b : ℕ} {ws : List ℕ} {queue : Queue} → visitedAt n ≤ length ws → getD ws (queueAt n + queue .head) 0 < 2 * n → a ≡ waitingAt n + getD ws (b + queue .head) 0 → b ≡ queueAt n
+    → Taken ws (set ws a 0) n queue (getD ws (b + queue .head) 0)
 taken {n} {a} {b} {ws} {queue} fits small ea eb =
     rw (ea, eb)
     (record {

@@ -9,7 +9,7 @@ use lib.Bits.{bitOr}
 use lib.ListN.{getD}
 use Rattle.words.specs.Byte.{byteAt}
 use Rattle.flow.specs.Limits.{maxArrays}
-use Rattle.theory.proofs.Enqueue.{join}
+use Rattle.theory.specs.Queue.{join}
 use Rattle.theory.proofs.Push.{differ}
 use Rattle.statements.specs.Layout.{maskWords, queueAt, enteredAt, waitingAt, visitedAt, grownAt, maskRowAt, areaEnd}
 use Rattle.statements.specs.Ready.{Keeps}

@@ -6,8 +6,8 @@ use mathlib.Core.List.{List, _∷_}
 use mathlib.Core.Path.{_≡_}
 use lib.Dec.{ltb}
 use lib.ListN.{length, getD}
-use Rattle.theory.specs.Lists.{In, has}
-use Rattle.theory.proofs.Enqueue.{Distinct, join}
+use Rattle.theory.specs.Lists.{In, has, Distinct}
+use Rattle.theory.specs.Queue.{join}
 use Rattle.statements.specs.Layout.{queueAt, enteredAt, waitingAt, visitedAt}
 use Rattle.solve.specs.declared.Queue.{Queue}
 

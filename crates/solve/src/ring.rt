@@ -1,9 +1,9 @@
 // The queue of waiting numbers, a ring in the work area, with a word for each number that says whether it waits.
 ghost use mathlib.Core.Path.{_≡_};
 ghost use mathlib.Core.List.{List};
-ghost use Prim.Native.Nat.{ℕ, _*_, _<_, _≤_};
+ghost use Prim.Native.Nat.{ℕ, _+_, _*_, _^_, _<_, _≤_};
 ghost use lib.ListN.{length};
-ghost use Rattle.statements.specs.Layout.{visitedAt};
+ghost use Rattle.statements.specs.Layout.{waitingAt, visitedAt};
 ghost use Rattle.solve.specs.Waiting.{wrapped, Waits, Enqueued, restOf, Taken};
 use crate::Queue;
 use statements::layout;
@@ -14,17 +14,26 @@ fn wrap(i: usize, capacity: usize) -> usize
     if i < capacity { i } else { i - capacity }
 }
 
+// Where the word stands that says whether d waits: each copy of a statement has its own. The last bound says that the place is a usize.
+fn flag(n: usize, d: usize) -> usize
+    requires { ⌜ (n ≤ 2048) × (d < 2 * n) × (visitedAt n < 2 ^ 64) ⌝ }
+    ensures { λ r. ⌜ r ≡ waitingAt n + d ⌝ }
+{
+    layout::waiting(n) + d
+}
+
 // d joins the back unless it waits.
 pub fn enqueue(work: &mut [u64], n: usize, queue: Queue, d: usize) -> Queue
     requires { ⌜ (n ≤ 2048) × (visitedAt n ≤ length (now work)) × (d < 2 * n) × ((w : List ℕ) × Waits (now work) n queue w) ⌝ }
     ensures { λ r. ⌜ Enqueued (now (work .entry)) (now (work .exit)) n queue d r ⌝ }
 {
-    if work[layout::waiting(n) + d] == 1 {
+    let at = flag(n, d);
+    if work[at] == 1 {
         return queue;
     }
     let head = queue.head;
     let len = queue.len;
-    work[layout::waiting(n) + d] = 1;
+    work[at] = 1;
     work[layout::queue(n) + wrap(head + len, 2 * n)] = d as u64;
     Queue { head, len: len + 1 }
 }
@@ -36,7 +45,7 @@ pub fn take(work: &mut [u64], n: usize, queue: Queue) -> usize
 {
     let head = queue.head;
     let d = work[layout::queue(n) + head] as usize;
-    work[layout::waiting(n) + d] = 0;
+    work[flag(n, d)] = 0;
     d
 }
 

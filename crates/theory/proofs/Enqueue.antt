@@ -8,19 +8,10 @@ use mathlib.Core.Path.{_≡_, refl, sym, ap}
 use native.Mathlib.Omega.{arith}
 use borrow.Author.Tests.{eq-eqb, ne-eqb}
 use lib.ListN.{length, length-append}
-use Rattle.theory.specs.Lists.{In, has, sumBelow}
-use Rattle.theory.specs.Queue.{Arc, enqueue}
+use Rattle.theory.specs.Lists.{In, has, Distinct, empty, more, sumBelow}
+use Rattle.theory.specs.Queue.{Arc, join, enqueue}
 use Rattle.theory.proofs.Lists.{member-cases, not-so, has-In, has-not, sumBelow-less, sumBelow-le}
 use Rattle.theory.proofs.Below.{sumBelow-const}
-
--- no number stands in the list twice
-pub data Distinct : List ℕ → Type 0 where
-  empty : Distinct []
-  more : {x : ℕ} {l : List ℕ} → (In x l → ⊥) → Distinct l → Distinct (x ∷ l)
-
--- the number joins the back unless it waits
-abbrev pub join : List ℕ → ℕ → List ℕ
-join w t = cond (has t w) w (w ++ (t ∷ []))
 
 pub join-keeps : (w : List ℕ) (t : ℕ) {x : ℕ} → In x w → In x (join w t)
 join-keeps w t {x} m = go (has t w)

@@ -10,14 +10,14 @@ use native.Mathlib.Omega.{arith}
 use borrow.Author.Tests.{eqb-true, eqb-false, not-false}
 use lib.Dec.{eqb}
 use Rattle.masks.specs.State.{State, holds}
-use Rattle.theory.specs.Lists.{In, has}
+use Rattle.theory.specs.Lists.{In, has, Distinct, more}
 use Rattle.theory.specs.Queue.{Arc, Graph, Solver, stepAll, pulled, changed, enqueue, visit, initial}
 use Rattle.theory.specs.Walks.{Brings, empty, along}
 use Rattle.theory.proofs.Lists.{clash, member-cases, has-In, has-not}
 use Rattle.theory.proofs.MaskLaws.{Within, Proper, zero-holds, held-pos, some-held, all-proper, all-comes, all-mono}
 use Rattle.theory.proofs.Pulls.{upd-same, upd-other, Pulls, boundary, arc, Pulls-holds, holds-Pulls, pulled-lt}
 use Rattle.theory.proofs.Below.{allBelow-at}
-use Rattle.theory.proofs.Enqueue.{Distinct, more, enqueue-keeps, enqueue-adds, enqueue-cases, enqueue-distinct}
+use Rattle.theory.proofs.Enqueue.{enqueue-keeps, enqueue-adds, enqueue-cases, enqueue-distinct}
 
 -- what the queue rule asks of a graph: edges and the entry are within its numbers, and each array has a state at the entry
 pub record WellFormedGraph (g : Graph) : Type 0 where

@@ -33,33 +33,23 @@ pulled-first g t a =
 abbrev pub differ : ℕ → (ℕ → ℕ) → (ℕ → ℕ) → Bool
 differ n x y = not (allBelow n (λ a. eqb (x a) (y a)))
 
-alike : (n : ℕ) (x y : ℕ → ℕ) → differ n x y ≡ false → (a : ℕ) → a < n → x a ≡ y a
+pub alike : (n : ℕ) (x y : ℕ → ℕ) → differ n x y ≡ false → (a : ℕ) → a < n → x a ≡ y a
 alike n x y h a l = eqb-true (x a) (y a) (allBelow-at n (λ a. eqb (x a) (y a)) (not-false _ h) a l)
 
-no-differ : (n : ℕ) (x y : ℕ → ℕ) → ((a : ℕ) → a < n → x a ≡ y a) → differ n x y ≡ false
+pub no-differ : (n : ℕ) (x y : ℕ → ℕ) → ((a : ℕ) → a < n → x a ≡ y a) → differ n x y ≡ false
 no-differ n x y h = ap not (allBelow-all n (λ a. eqb (x a) (y a)) (λ a l. eq-eqb (x a) (y a) (h a l)))
 
--- of three masks, each within the next, the outer two differ where two neighbours do
-chain-differ : (n : ℕ) (x y z : ℕ → ℕ) → ((a : ℕ) → x a < 8) → ((a : ℕ) → y a < 8) → ((a : ℕ) → Within (x a) (y a)) → ((a : ℕ) → Within (y a) (z a))
-    → differ n z x ≡ (differ n y x || differ n z y)
-chain-differ n x y z bx by wx wy = go (differ n y x) refl (differ n z y) refl
+-- of three, where the one between is alike wherever the outer two are, the outer two differ where two neighbours do
+pub differ-chain : (n : ℕ) (x y z : ℕ → ℕ) → ((a : ℕ) → a < n → z a ≡ x a → y a ≡ x a) → differ n z x ≡ (differ n y x || differ n z y)
+differ-chain n x y z between = go (differ n z x) refl (differ n y x) refl (differ n z y) refl
   where
-    -- where the outer two are alike, so is the one between
-    between : differ n z x ≡ false → (a : ℕ) → a < n → y a ≡ x a
-    between h a l =
-        within-eq (y a) (x a) (by a) (bx a) (λ s k. subst (λ (m : ℕ). holds m s ≡ true) (alike n z x h a l) (wy a s k)) (wx a)
-
-    apart : (differ n z x ≡ false → ⊥) → differ n z x ≡ true
-    apart h = so (differ n z x) h
-      where
-        so : (o : Bool) → (o ≡ false → ⊥) → o ≡ true
-        so true k = refl
-        so false k = absurd (k refl)
-
-    go : (b : Bool) → differ n y x ≡ b → (c : Bool) → differ n z y ≡ c → differ n z x ≡ (b || c)
-    go true e c f = apart (λ q. clash (differ n y x) e (no-differ n y x (between q)))
-    go false e true f = apart (λ q. clash (differ n z y) f (no-differ n z y (λ a l. alike n z x q a l ∙ sym (between q a l))))
-    go false e false f = no-differ n z x (λ a l. alike n z y f a l ∙ alike n y x e a l)
+    go : (o : Bool) → differ n z x ≡ o → (b : Bool) → differ n y x ≡ b → (c : Bool) → differ n z y ≡ c → o ≡ (b || c)
+    go true e true f c g = refl
+    go true e false f true g = refl
+    go true e false f false g = clash (differ n z x) e (no-differ n z x (λ a l. alike n z y g a l ∙ alike n y x f a l))
+    go false e true f c g = clash (differ n y x) f (no-differ n y x (λ a l. between a l (alike n z x e a l)))
+    go false e false f true g = clash (differ n z y) g (no-differ n z y (λ a l. alike n z x e a l ∙ sym (between a l (alike n z x e a l))))
+    go false e false f false g = refl
 
 module _ (g : Graph) (wf : WellFormedGraph g) (st : Solver) (inv : Invariant g st) (d : ℕ) (w : List ℕ) (front : st .waiting ≡ d ∷ w) where
   abbrev next : Solver
@@ -124,9 +114,12 @@ module _ (g : Graph) (wf : WellFormedGraph g) (st : Solver) (inv : Invariant g s
   unfolding changed
   changed-other t n =
       ap (λ m. differ (g .arrays) (pulled g next t) m) (masks-other g wf st inv d w front n)
-      ∙ chain-differ (g .arrays) (st .masks t) (pulled g st t) (pulled g next t) (masks-below g st inv t) (before-lt t) held
-      (λ a s h. Pulls-holds g next a t s (pulls-grow g wf st inv d w front (holds-Pulls g st a t s h)))
+      ∙ differ-chain (g .arrays) (st .masks t) (pulled g st t) (pulled g next t)
+      (λ a l e. within-eq (pulled g st t a) (st .masks t a) (before-lt t a) (masks-below g st inv t a) (λ s h. subst (λ (m : ℕ). holds m s ≡ true) e (grows a s h)) (held a))
     where
+      grows : (a : ℕ) → Within (pulled g st t a) (pulled g next t a)
+      grows a s h = Pulls-holds g next a t s (pulls-grow g wf st inv d w front (holds-Pulls g st a t s h))
+
       held : (a : ℕ) → Within (st .masks t a) (pulled g st t a)
       held a s h = go (st .visited t) refl
         where

@@ -18,6 +18,11 @@ unfoldable pub has : ℕ → List ℕ → Bool
 has x [] = false
 has x (y ∷ ys) = eqb x y || has x ys
 
+-- no number stands in the list twice
+pub data Distinct : List ℕ → Type 0 where
+  empty : Distinct []
+  more : {x : ℕ} {l : List ℕ} → (In x l → ⊥) → Distinct l → Distinct (x ∷ l)
+
 -- the elements that pass the test, in order
 unfoldable pub select : {A : Type 0} → (A → Bool) → List A → List A
 select p [] = []

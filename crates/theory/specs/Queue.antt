@@ -56,10 +56,14 @@ pulled g st d a =
 unfoldable pub changed : Graph → Solver → ℕ → Bool
 changed g st d = not (allBelow (g .arrays) (λ a. eqb (pulled g st d a) (st .masks d a)))
 
+-- the number joins the back unless it waits
+abbrev pub join : List ℕ → ℕ → List ℕ
+join w t = cond (has t w) w (w ++ (t ∷ []))
+
 -- the successors that do not wait join the back, in order
 unfoldable pub enqueue : List Arc → List ℕ → List ℕ
 enqueue [] w = w
-enqueue (e ∷ es) w = enqueue es (cond (has (e .to) w) w (w ++ (e .to ∷ [])))
+enqueue (e ∷ es) w = enqueue es (join w (e .to))
 
 -- one visit, of d, with w waiting behind it
 unfoldable pub visit : Graph → Solver → ℕ → List ℕ → Solver

@@ -37,16 +37,18 @@ byte-has ws base k s l =
     ap₂ (λ (x y : ℕ). bit (getD ws (base + x) 0) y) word place
     ∙ sym (bit-mod 8 (getD ws (base + k / 8) 0 / 2 ^ (8 * (k % 8))) s l ∙ bit-shr (getD ws (base + k / 8) 0) (8 * (k % 8)) s)
 
+-- a byte of two words joined is their bytes joined
+pub byteOf-or : (a b place : ℕ) → byteOf (bitOr a b) place ≡ bitOr (byteOf a place) (byteOf b place)
+unfolding byteOf
+byteOf-or a b place = ap (λ (x : ℕ). x % 256) (or-shr a b (8 * place)) ∙ or-mod (a / 2 ^ (8 * place)) (b / 2 ^ (8 * place)) 8
+
 -- a union of rows unites each byte
 pub unioned-byte : (ws : List ℕ) (to from width : ℕ) → to + width ≤ length ws → ReadFirst to from width → (k : ℕ) → k < 8 * width
     → byteAt (unioned ws to from width) to k ≡ bitOr (byteAt ws to k) (byteAt ws from k)
-unfolding byteAt byteOf
+unfolding byteAt
 unioned-byte ws to from width fits apart k l =
-    let a : ℕ = getD ws (to + k / 8) 0 in
-    let b : ℕ = getD ws (from + k / 8) 0 in
-    let place : ℕ = 8 * (k % 8) in
-    ap (λ (w : ℕ). w / 2 ^ place % 256) (unioned-word ws to from width fits apart (k / 8) (omega arith))
-    ∙ ap (λ (x : ℕ). x % 256) (or-shr a b place) ∙ or-mod (a / 2 ^ place) (b / 2 ^ place) 8
+    ap (λ (w : ℕ). byteOf w (k % 8)) (unioned-word ws to from width fits apart (k / 8) (omega arith))
+    ∙ byteOf-or (getD ws (to + k / 8) 0) (getD ws (from + k / 8) 0) (k % 8)
 
 -- ---- one byte of a word
 

@@ -3,8 +3,8 @@
 use mathlib.Core.Path.{_≡_, refl, sym, ap, ap₂, _∙_, subst}
 use mathlib.Core.Bool.{Bool, true, false}
 use mathlib.Core.List.{List}
-use Prim.Native.Nat.{ℕ, zero, suc, _+_, _-_, _/_, _%_, _^_, _≤_, _<_, zero-le, suc-le-suc, min}
-use native.Mathlib.Nat.{le-refl, lt-of-le-of-lt, zero-add, add-zero, suc-add}
+use Prim.Native.Nat.{ℕ, zero, suc, _+_, _-_, _*_, _/_, _%_, _^_, _≤_, _<_, zero-le, suc-le-suc, min}
+use native.Mathlib.Nat.{le-refl, lt-of-le-of-lt, zero-add, add-zero, suc-add, div-one}
 use native.Mathlib.Decide.{decLt, ℕ-discrete}
 use native.Mathlib.Omega.{arith}
 use borrow.Author.Tests.{eqb-true, eqb-false}
@@ -132,3 +132,30 @@ next-bit ws base i bound l h p = at (decLt (i + t) bound)
         let end : i + (bound - i) ≡ bound = omega arith in
         next-skip ws base i (bound - i) bound (λ k b. zeros k (omega (arith, a))) (omega arith)
         ∙ next-past ws base (i + (bound - i)) bound (omega arith) ∙ omega (arith, a)
+
+-- ---- a whole word: no number of it was passed
+
+module _ (ws : List ℕ) (base k bound : ℕ) (l : 64 * k < bound) where
+  whole : getD ws (base + 64 * k / 64) 0 / 2 ^ (64 * k % 64) ≡ getD ws (base + k) 0
+  whole =
+      let word : 64 * k / 64 ≡ k = omega arith in
+      let place : 64 * k % 64 ≡ 0 = omega arith in
+      ap₂ (λ (x y : ℕ). getD ws (base + x) 0 / 2 ^ y) word place ∙ div-one (getD ws (base + k) 0)
+
+  here : min (64 * k) bound ≡ 64 * k
+  here = omega arith
+
+  -- the word is zero: on to the next
+  pub next-zero-word : getD ws (base + k) 0 ≡ 0 → nextMember ws base (min (64 * k) bound) bound ≡ nextMember ws base (min (64 * (k + 1)) bound) bound
+  next-zero-word e =
+      let on : min (64 * k + (64 - 64 * k % 64)) bound ≡ min (64 * (k + 1)) bound = omega arith in
+      ap (λ (x : ℕ). nextMember ws base x bound) here ∙ next-word ws base (64 * k) bound l (whole ∙ e) ∙ ap (λ (x : ℕ). nextMember ws base x bound) on
+
+  -- its lowest bit gives the answer
+  pub next-whole-bit : getD ws (base + k) 0 < 2 ^ 64 → 0 < getD ws (base + k) 0
+      → nextMember ws base (min (64 * k) bound) bound ≡ min (64 * k + trailingZeros 64 (getD ws (base + k) 0)) bound
+  next-whole-bit h p =
+      let word : 64 * k / 64 ≡ k = omega arith in
+      ap (λ (x : ℕ). nextMember ws base x bound) here
+      ∙ next-bit ws base (64 * k) bound l (subst (λ (x : ℕ). getD ws (base + x) 0 < 2 ^ 64) (sym word) h) (subst (λ (x : ℕ). 0 < x) (sym whole) p)
+      ∙ ap (λ (x : ℕ). min (64 * k + trailingZeros 64 x) bound) whole

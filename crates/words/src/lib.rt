@@ -90,20 +90,40 @@ fn forward(i: usize, step: usize, bound: usize) -> usize
     if bound - i <= step { bound } else { i + step }
 }
 
-// The first member at or after `from` and below `bound`; `bound` if there is none.
+// The first member at or after number 64 `first` and below `bound`, by whole words; `bound` if there is none.
+fn next_by_word(ws: &[u64], base: usize, first: usize, bound: usize) -> usize
+    requires { ⌜ (base + (bound + 63) / 64 ≤ length (now ws)) × (0 < bound) ⌝ }
+    ensures { λ r. ⌜ r ≡ nextMember (now (ws .entry)) base (min (64 * first) bound) bound ⌝ }
+{
+    let last = (bound - 1) / 64;
+    let mut k = first;
+    while k <= last {
+        let word = ws[base + k];
+        if word != 0 {
+            return forward(64 * k, u64::trailing_zeros(word) as usize, bound);
+        }
+        k += 1;
+    }
+    bound
+}
+
+// The first member at or after `from` and below `bound`; `bound` if there is none. `from` itself is looked at first, since members often
+// stand side by side, and the next search then need not wait for the place of the lowest bit.
 pub fn next(ws: &[u64], base: usize, from: usize, bound: usize) -> usize
     requires { ⌜ base + (bound + 63) / 64 ≤ length (now ws) ⌝ }
     ensures { λ r. ⌜ r ≡ nextMember (now (ws .entry)) base from bound ⌝ }
 {
-    let mut i = from;
-    while i < bound {
-        let rest = ws[base + i / 64] >> (i % 64);
-        if rest != 0 {
-            return forward(i, u64::trailing_zeros(rest) as usize, bound);
-        }
-        i = forward(i, 64 - i % 64, bound);
+    if bound <= from {
+        return from;
     }
-    i
+    let rest = ws[base + from / 64] >> (from % 64);
+    if rest % 2 == 1 {
+        return from;
+    }
+    if rest != 0 {
+        return forward(from, u64::trailing_zeros(rest) as usize, bound);
+    }
+    next_by_word(ws, base, from / 64 + 1, bound)
 }
 
 // Byte k of a row of bytes: eight bytes to a word, the lowest first.

@@ -1,88 +1,78 @@
--- `words::next` meets its contract. The invariant: the next member from `from` on is the next one from i on. A word with no bit left is passed over,
--- and the lowest bit that is left is the answer. Assumes nothing.
-use mathlib.Core.Path.{_≡_, refl, sym, ap, _∙_}
-use Prim.Native.Nat.{ℕ, _+_, _-_, _/_}
+-- `words::next` meets its contract: at the bound or past it the search stays, and so it does on a member; else the lowest bit that is left in the word is the
+-- answer, and a word with no bit left is passed over. Assumes nothing.
+use mathlib.Core.Path.{_≡_, sym, ap, _∙_}
+use Prim.Native.Nat.{ℕ, _+_, _-_, _*_, _/_, _%_, min}
 use native.Mathlib.Nat.{lt-of-le-of-lt}
 use native.Mathlib.Omega.{arith}
 use borrow.Author.Needs.{needs}
 use denote.Ref.{now}
 use lib.Count.{trailing-le}
 use lib.Dec.{lit<}
-use Rattle.words.specs.Row.{nextMember}
-use Rattle.words.proofs.NextMember.{next-past, next-word, next-bit}
+use Rattle.words.specs.Row.{bit, has, nextMember}
+use Rattle.words.proofs.NextMember.{next-past, next-here, next-word, next-bit}
 use Rattle.words.proofs.next.Statement.{statement}
 use Rattle.words.proofs.next.Tie as tie
 
-abbrev Inv-loop : tie.InvT-loop
-Inv-loop ws base from bound i₀ i = nextMember ws base from bound ≡ nextMember ws base i bound
+returns : tie.Need-returns
+returns c = sym (next-past _ _ _ _ (c .if1 .taken))
 
-abbrev μ-loop : tie.MeasureT-loop
-μ-loop ws base from bound i₀ i = bound - i
-
-loop-holds : tie.Need-loop-holds Inv-loop μ-loop
-loop-holds c = refl
-
-add-rest : tie.Need-add-rest Inv-loop μ-loop
+add-rest : tie.Need-add-rest
 add-rest c = search needs
 
-mul-rest : tie.Need-mul-rest Inv-loop μ-loop
+mul-rest : tie.Need-mul-rest
 mul-rest c = search needs
 
-shared-slice-read-rest : tie.Need-shared-slice-read-rest Inv-loop μ-loop
+shared-slice-read-rest : tie.Need-shared-slice-read-rest
 shared-slice-read-rest c = search needs
 
-shr-rest : tie.Need-shr-rest Inv-loop μ-loop
+shr-rest : tie.Need-shr-rest
 shr-rest c = search needs
 
-cast-forward : tie.Need-cast-forward Inv-loop μ-loop
+returns-2 : tie.Need-returns-2
+unfolding has bit
+returns-2 c =
+    let a = c .before .before .before .before .args in
+    sym (next-here (now (a .ws)) (a .base) (a .from) (a .bound) (c .if2 .taken) (search needs))
+
+cast-forward : tie.Need-cast-forward
 cast-forward c = record { fits = lt-of-le-of-lt (trailing-le 64 _) (lit< tt) }
 
-forward-requires : tie.Need-forward-requires Inv-loop μ-loop
+forward-requires : tie.Need-forward-requires
 forward-requires c κs = search needs
 
-returns : tie.Need-returns Inv-loop μ-loop
-returns c =
-    let s = c .before .before .before .before .loop in
+returns-3 : tie.Need-returns-3
+returns-3 c =
     let a = c .before .before .before .before .before .before .args in
-    let word = c .before .before .shared-slice-known2 .given (a .base + s .i / 64) in
+    let word = c .before .before .before .shared-slice-known2 .given (a .base + a .from / 64) in
     c .forward .ensures
-    ∙ sym (s .inv ∙ next-bit (now (a .ws)) (a .base) (s .i) (a .bound) (search needs) (word .fits) (omega (arith, c .before .if1 .taken)))
+    ∙ sym (next-bit (now (a .ws)) (a .base) (a .from) (a .bound) (search needs) (word .fits) (omega (arith, c .before .if3 .taken)))
 
-sub-forward : tie.Need-sub-forward Inv-loop μ-loop
-sub-forward c = search needs
+add-next-by-word : tie.Need-add-next-by-word
+add-next-by-word c = search needs
 
-forward-requires-2 : tie.Need-forward-requires-2 Inv-loop μ-loop
-forward-requires-2 c κs = search needs
+next-by-word-requires : tie.Need-next-by-word-requires
+next-by-word-requires c κs = search needs
 
-loop-less : tie.Need-loop-less Inv-loop μ-loop
-loop-less c = search needs
-
-loop-again : tie.Need-loop-again Inv-loop μ-loop
-loop-again c =
-    let s = c .before .before .before .before .loop in
+returns-4 : tie.Need-returns-4
+returns-4 c =
     let a = c .before .before .before .before .before .before .args in
-    s .inv ∙ next-word (now (a .ws)) (a .base) (s .i) (a .bound) (search needs) (c .before .if1 .left)
-    ∙ ap (λ (x : ℕ). nextMember (now (a .ws)) (a .base) x (a .bound)) (sym (c .forward2 .ensures))
-
-returns-2 : tie.Need-returns-2 Inv-loop μ-loop
-returns-2 c = sym (c .before .loop .inv ∙ next-past _ _ _ _ (c .loop-test .left))
+    let on : min (64 * (a .from / 64 + 1)) (a .bound) ≡ min (a .from + (64 - a .from % 64)) (a .bound) = omega arith in
+    c .next-by-word .ensures ∙ ap (λ (x : ℕ). nextMember (now (a .ws)) (a .base) x (a .bound)) on
+    ∙ sym (next-word (now (a .ws)) (a .base) (a .from) (a .bound) (search needs) (c .before .if3 .left))
 
 pub next-spec : {M : Type 1} → statement M
 next-spec =
     tie.close
     (tie.spec
-    Inv-loop
-    μ-loop
-    loop-holds
+    returns
     add-rest
     mul-rest
     shared-slice-read-rest
     shr-rest
+    returns-2
     cast-forward
     forward-requires
-    returns
-    sub-forward
-    forward-requires-2
-    loop-less
-    loop-again
-    returns-2)
+    returns-3
+    add-next-by-word
+    next-by-word-requires
+    returns-4)

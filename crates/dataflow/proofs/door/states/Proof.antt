@@ -6,9 +6,10 @@ use native.Mathlib.Omega.{arith}
 use native.Mathlib.Nat.{pos-of-ne-zero}
 use denote.Ref.{now}
 use Prim.Native.Nat.{ℕ, _≤_}
-use mathlib.Core.Bool.{true, false}
+use mathlib.Core.Bool.{Bool, true, false, cond}
 use mathlib.Core.Path.{_≡_, refl, ap, sym, _∙_, subst}
-use lib.ListN.{length, getD}
+use lib.ListN.{length, getD, replicate}
+use Rattle.words.specs.Change.{cleared}
 use Rattle.flow.specs.declared.Header.{Header}
 use Rattle.flow.specs.Limits.{workWords, maxStatements, maxArrays}
 use Rattle.flow.specs.Format.{verdict, areaChecks, statementsOf, arraysOf}
@@ -47,64 +48,77 @@ areas-fit-requires c κs =
       subst (λ (h : Header). h .arrays ≤ maxArrays) (sym (header c)) (l .arrays),
     )
 
-returns-2 : tie.Need-returns-2
-returns-2 c =
-    let k = c .before .before in
-    let a = k .before .before .before .before .before .before .before .before .before .args in
-    judging.areas-refused (now (a .file)) (now (a .masks)) (now (a .live-in)) (now (a .live-out)) (now (a .work)) (fits k)
-    (judging.areas-by _ _ (k .before .before .before .check-file .ensures) (k .before .found .given .1) _ _ _ _ _
-    (sym (c .before .areas-fit .ensures) ∙ not-true _ (c .if1 .taken)))
+-- the verdict on the areas is the one that the call goes by
+judged : (c : tie.After-areas-fit) (b : Bool) → c .areas-fit .result ≡ b
+    → isFit (verdict (areaChecks (statementsOf (now (c .before .before .before .before .before .before .before .before .before .before .args .file))) (arraysOf (now (c .before .before .before .before .before .before .before .before .before .before .args .file))) (length (now (c .before .before .before .before .before .before .before .before .before .before .args .masks))) (length (now (c .before .before .before .before .before .before .before .before .before .before .args .live-in))) (length (now (c .before .before .before .before .before .before .before .before .before .before .args .live-out))) (length (now (c .before .before .before .before .before .before .before .before .before .before .args .work))))) ≡ b
+judged c b e =
+    let k = c .before in
+    judging.areas-by _ _ (k .before .before .before .check-file .ensures) (k .before .found .given .1) _ _ _ _ _ (sym (c .areas-fit .ensures) ∙ e)
 
-clear-requires : tie.Need-clear-requires
-clear-requires c κs = search needs
+-- the work area is cleared where they are fit, and only there
+kept : (c : tie.After-clear-if) → c .before .before .areas-fit .result ≡ false → c .clear-if .last .0 ≡ now (c .before .before .before .before .before .before .before .before .before .before .before .before .args .work)
+kept c e =
+    let ws = now (c .before .before .before .before .before .before .before .before .before .before .before .before .args .work) in
+    c .clear-if .ensures ∙ ap (λ (b : Bool). cond b (cleared ws 0 (length ws)) ws) e
+
+zeroed : (c : tie.After-clear-if) → c .before .before .areas-fit .result ≡ true → c .clear-if .last .0 ≡ replicate (length (now (c .before .before .before .before .before .before .before .before .before .before .before .before .args .work))) 0
+zeroed c e =
+    let ws = now (c .before .before .before .before .before .before .before .before .before .before .before .before .args .work) in
+    c .clear-if .ensures ∙ ap (λ (b : Bool). cond b (cleared ws 0 (length ws)) ws) e ∙ judging.cleared-whole ws (length ws) refl
+
+clear-if-requires : tie.Need-clear-if-requires
+clear-if-requires c κs = search needs
 
 same-length : tie.Need-same-length
 same-length c = search needs
 
--- the areas are long enough, as the header and as the verdict say
-judged : (c : tie.Else1)
-    → isFit (verdict (areaChecks (statementsOf (now (c .before .before .before .before .before .before .before .before .before .before .before .args .file))) (arraysOf (now (c .before .before .before .before .before .before .before .before .before .before .before .args .file))) (length (now (c .before .before .before .before .before .before .before .before .before .before .before .args .masks))) (length (now (c .before .before .before .before .before .before .before .before .before .before .before .args .live-in))) (length (now (c .before .before .before .before .before .before .before .before .before .before .before .args .live-out))) (length (now (c .before .before .before .before .before .before .before .before .before .before .before .args .work))))) ≡ true
-judged c =
-    let k = c .before .before in
-    judging.areas-by _ _ (k .before .before .before .check-file .ensures) (k .before .found .given .1) _ _ _ _ _
-    (sym (c .before .areas-fit .ensures) ∙ not-false _ (c .if1 .left))
+returns-2 : tie.Need-returns-2
+returns-2 c =
+    let f = c .before .before .before .before .before in
+    let a = f .before .before .before .before .before .before .before .before .before .before .args in
+    let unfit = not-true _ (c .if1 .taken) in
+    judging.areas-refused (now (a .file)) (now (a .masks)) (now (a .live-in)) (now (a .live-out)) (now (a .work)) (fits (f .before))
+    (kept (c .before .before .before) unfit)
+    (judged f false unfit)
+
+same-length-2 : tie.Need-same-length-2
+same-length-2 c = search needs
 
 returns-3 : tie.Need-returns-3
 returns-3 c =
-    let e = c .before .before .before .before .before in
-    let k = e .before .before in
-    let a = k .before .before .before .before .before .before .before .before .before .args in
-    let none = ap (λ (h : Header). h .statements) (sym (header k)) ∙ c .if2 .taken in
-    judging.accepting (now (a .file)) (now (a .masks)) _ (now (a .live-in)) _ (now (a .live-out)) _ (now (a .work)) _ 0 (fits k)
-    (judging.judged-fit (now (a .file)) (now (a .masks)) (now (a .live-in)) (now (a .live-out)) (now (a .work)) (fits k) (judged e))
+    let e = c .before in
+    let f = e .before .before .before .before .before in
+    let a = f .before .before .before .before .before .before .before .before .before .before .args in
+    let fit = not-false _ (e .if1 .left) in
+    let none = ap (λ (h : Header). h .statements) (sym (header (f .before))) ∙ c .if2 .taken in
+    judging.accepting (now (a .file)) (now (a .masks)) _ (now (a .live-in)) _ (now (a .live-out)) _ (now (a .work)) _ 0 (fits (f .before))
+    (judging.judged-fit (now (a .file)) (now (a .masks)) (now (a .live-in)) (now (a .live-out)) (now (a .work)) (fits (f .before)) (judged f true fit))
     (judging.nothing-solved (now (a .file)) (now (a .masks)) (now (a .live-in)) (now (a .live-out)) none)
-    (c .before .before .before .clear .ensures ∙ judging.cleared-whole (now (a .work)) _ refl)
+    (zeroed (e .before .before .before) fit)
 
 solve-flow-requires : tie.Need-solve-flow-requires
 solve-flow-requires c κs =
-    let e = c .before .before .before .before .before .before .before .before .before in
-    let k = e .before .before in
-    let a = k .before .before .before .before .before .before .before .before .before .args in
-    let work = c .before .before .before .before .before .before .before .clear in
-    let rooms = judging.rooms _ _ _ _ _ _ (sym (e .before .areas-fit .ensures) ∙ not-false _ (e .if1 .left)) in
+    let e = c .before .before .before .before .before in
+    let f = e .before .before .before .before .before in
+    let k = f .before in
+    let work = e .before .before .before in
+    let fit = not-false _ (e .if1 .left) in
+    let rooms = judging.rooms _ _ _ _ _ _ (sym (f .areas-fit .ensures) ∙ fit) in
     record {
       fresh = record {
         fit = fits k;
         header = header k;
         some = pos-of-ne-zero (c .before .before .before .before .if2 .left);
-        work-room = subst (λ m. workWords (k .before .found .given .0 .0 .statements) ≤ m) (sym (work .kept .0)) (rooms .work-room);
-        zero = λ x. ap (λ l. getD l x 0) (work .ensures ∙ judging.cleared-whole (now (a .work)) _ refl) ∙ judging.zeros (length (now (a .work))) x;
+        work-room = subst (λ m. workWords (k .before .found .given .0 .0 .statements) ≤ m) (sym (work .clear-if .kept .0)) (rooms .work-room);
+        zero = λ x. ap (λ l. getD l x 0) (zeroed work fit) ∙ judging.zeros (length (now (f .before .before .before .before .before .before .before .before .before .before .args .work))) x;
       };
       masks-room = rooms .masks-room;
       in-room = rooms .in-room;
       out-room = rooms .out-room;
     }
 
-clear-requires-2 : tie.Need-clear-requires-2
-clear-requires-2 c κs = search needs
-
-same-length-2 : tie.Need-same-length-2
-same-length-2 c = search needs
+clear-requires : tie.Need-clear-requires
+clear-requires c κs = search needs
 
 same-length-3 : tie.Need-same-length-3
 same-length-3 c = search needs
@@ -115,16 +129,19 @@ same-length-4 c = search needs
 same-length-5 : tie.Need-same-length-5
 same-length-5 c = search needs
 
+same-length-6 : tie.Need-same-length-6
+same-length-6 c = search needs
+
 returns-4 : tie.Need-returns-4
 returns-4 c =
-    let f = c .before .before .before .before .before .before .before .before .before .before .before .before in
-    let e = f .before .before .before .before .before .before .before .before .before .before in
-    let k = e .before .before in
-    let a = k .before .before .before .before .before .before .before .before .before .args in
-    judging.accepting (now (a .file)) (now (a .masks)) _ (now (a .live-in)) _ (now (a .live-out)) _ (now (a .work)) _ _ (fits k)
-    (judging.judged-fit (now (a .file)) (now (a .masks)) (now (a .live-in)) (now (a .live-out)) (now (a .work)) (fits k) (judged e))
-    (f .solve-flow .ensures)
-    (c .before .before .clear2 .ensures ∙ judging.cleared-whole _ _ (f .solve-flow .kept .1 .1 .1 .1 .1 .0 ∙ f .before .before .before .before .before .before .before .before .clear .kept .0))
+    let s = c .before .before .before .before .before .before .before .before .before .before .before .before in
+    let e = s .before .before .before .before .before .before in
+    let f = e .before .before .before .before .before in
+    let a = f .before .before .before .before .before .before .before .before .before .before .args in
+    judging.accepting (now (a .file)) (now (a .masks)) _ (now (a .live-in)) _ (now (a .live-out)) _ (now (a .work)) _ _ (fits (f .before))
+    (judging.judged-fit (now (a .file)) (now (a .masks)) (now (a .live-in)) (now (a .live-out)) (now (a .work)) (fits (f .before)) (judged f true (not-false _ (e .if1 .left))))
+    (s .solve-flow .ensures)
+    (c .before .before .clear .ensures ∙ judging.cleared-whole _ _ (s .solve-flow .kept .1 .1 .1 .1 .1 .0 ∙ e .before .before .before .clear-if .kept .0))
 
 pub states-spec : {M : Type 1} → statement M
 states-spec =
@@ -135,14 +152,15 @@ states-spec =
     enum-known-r
     returns
     areas-fit-requires
-    returns-2
-    clear-requires
+    clear-if-requires
     same-length
+    returns-2
+    same-length-2
     returns-3
     solve-flow-requires
-    clear-requires-2
-    same-length-2
+    clear-requires
     same-length-3
     same-length-4
     same-length-5
+    same-length-6
     returns-4)

@@ -1,94 +1,90 @@
--- `write_row` meets its contract. The loop's invariant, `Filled`: the masks of the arrays passed are noted. The measure is how many arrays are left.
+-- `write_row` meets its contract. The loop's invariant, `Filled`: the masks of the words passed are noted. The measure is how many whole words are left.
 -- Assumes nothing.
 use native.Mathlib.Omega.{arith}
-use native.Mathlib.Numerals.{add-one}
+use borrow.Author.Needs.{needs}
 use denote.Ref.{now}
-use Prim.Native.Nat.{ℕ, _+_, _-_, _≤_}
+use Prim.Native.Nat.{ℕ, _+_, _-_, _*_, _/_, _%_, _≤_}
 use mathlib.Core.List.{List}
 use mathlib.Core.Path.{_≡_, refl, ap, ap₂, _∙_}
-use lib.Bits.{bitOr}
-use lib.ListN.{length, set}
-use Rattle.words.specs.Byte.{byteAt}
+use lib.ListN.{length}
+use Rattle.words.specs.Byte.{byteOf}
 use Rattle.flow.specs.Fields.{noted}
-use Rattle.records.proofs.Noting.{length-noted}
-use Rattle.statements.specs.Layout.{maskRowAt}
 use Rattle.dataflow.specs.Bytes.{bothCopies}
+use Rattle.dataflow.proofs.NotedRows.{word-on}
 use Rattle.dataflow.proofs.write.write_row.Statement.{statement}
 use Rattle.dataflow.proofs.write.write_row.Tie as tie
 
--- a arrays were passed and their masks noted, out of the rows of both copies
-record Filled (ws : List ℕ) (at : ℕ) (work : List ℕ) (n arrays i outer inner : ℕ) (masks : List ℕ) (a : ℕ) : Type 0 where
-  passed : a ≤ arrays
-  outer-row : outer ≡ maskRowAt n i
-  inner-row : inner ≡ maskRowAt n (n + i)
-  bytes : masks ≡ noted ws at a (bothCopies work n i)
+-- k words were passed and the masks in them noted
+record Filled (ws : List ℕ) (at : ℕ) (work : List ℕ) (n arrays i : ℕ) (masks : List ℕ) (k : ℕ) : Type 0 where
+  passed : k ≤ arrays / 8
+  size : length masks ≡ length ws
+  bytes : masks ≡ noted ws at (8 * k) (bothCopies work n i)
 
 abbrev Inv-loop : tie.InvT-loop
-Inv-loop masks₀ at work n arrays i outer inner a₀ masks a = Filled masks₀ at work n arrays i outer inner masks a
+Inv-loop masks₀ at work n arrays i k₀ masks k = Filled masks₀ at work n arrays i masks k
 
 abbrev μ-loop : tie.MeasureT-loop
-μ-loop masks₀ at work n arrays i outer inner a₀ masks a = arrays - a
-
-mask-row-requires : tie.Need-mask-row-requires Inv-loop μ-loop
-mask-row-requires c κs = omega arith
-
-add-mask-row : tie.Need-add-mask-row Inv-loop μ-loop
-add-mask-row c = omega arith
-
-mask-row-requires-2 : tie.Need-mask-row-requires-2 Inv-loop μ-loop
-mask-row-requires-2 c κs = omega arith
+μ-loop masks₀ at work n arrays i k₀ masks k = arrays / 8 - k
 
 loop-holds : tie.Need-loop-holds Inv-loop μ-loop
 unfolding noted
-loop-holds c = record { passed = omega arith; outer-row = c .before .mask-row .ensures; inner-row = c .mask-row2 .ensures; bytes = refl }
+loop-holds c = record { passed = omega arith; size = refl; bytes = refl }
 
-byte-requires : tie.Need-byte-requires Inv-loop μ-loop
-byte-requires c κs = omega arith
+mul-write-bytes : tie.Need-mul-write-bytes Inv-loop μ-loop
+mul-write-bytes c = search needs
 
-byte-requires-2 : tie.Need-byte-requires-2 Inv-loop μ-loop
-byte-requires-2 c κs = omega arith
+add-write-bytes : tie.Need-add-write-bytes Inv-loop μ-loop
+add-write-bytes c = search needs
 
-add-masks : tie.Need-add-masks Inv-loop μ-loop
-add-masks c = let start = c .before .before .before .before .before .before .before .before in omega (arith, start .pre .3, start .good .0 .0)
+joined-word-requires : tie.Need-joined-word-requires Inv-loop μ-loop
+joined-word-requires c κs = search needs
 
-slice-write-masks : tie.Need-slice-write-masks Inv-loop μ-loop
-slice-write-masks c =
-    let a = c .before .before .before .before .before .before .before .before .args in
-    let inv = c .before .before .before .loop .inv in
-    omega (arith, c .before .before .before .before .before .before .before .before .pre .3, ap length (inv .bytes), length-noted (now (a .masks)) (a .at) (bothCopies (now (a .work)) (a .n) (a .i)) (c .before .before .before .loop .a))
+write-bytes-requires : tie.Need-write-bytes-requires Inv-loop μ-loop
+write-bytes-requires c κs = search needs
 
-add-a : tie.Need-add-a Inv-loop μ-loop
-add-a c = omega arith
+add-k : tie.Need-add-k Inv-loop μ-loop
+add-k c = search needs
 
 loop-less : tie.Need-loop-less Inv-loop μ-loop
-loop-less c = omega arith
+loop-less c = search needs
 
 loop-again : tie.Need-loop-again Inv-loop μ-loop
-unfolding noted bothCopies
 loop-again c =
-    let a = c .before .before .before .before .before .before .before .before .args in
-    let inv = c .before .before .before .loop .inv in
-    let ws = now (a .work) in
-    let k = c .before .before .before .loop .a in
-    let outer = c .before .byte .ensures ∙ ap (λ r. byteAt ws r k) (inv .outer-row) in
-    let inner = c .byte2 .ensures ∙ ap (λ r. byteAt ws r k) (inv .inner-row) in
+    let a = c .before .before .before .before .before .before .before .before .before .args in
+    let s = c .before .before .before .before .before .before .loop in
     record {
       passed = omega arith;
-      outer-row = inv .outer-row;
-      inner-row = inv .inner-row;
-      bytes = rw add-one (ap₂ (λ l v. set l (a .at + k) v) (inv .bytes) (ap₂ bitOr outer inner));
+      size = c .before .before .write-bytes .kept .0 ∙ s .inv .size;
+      bytes = c .before .before .write-bytes .ensures
+          ∙ ap₂ (λ (l : List ℕ) (w : ℕ). noted l (a .at + 8 * s .k) 8 (byteOf w)) (s .inv .bytes) (c .before .before .before .joined-word .ensures)
+          ∙ word-on (now (a .masks)) (now (a .work)) (a .at) (a .n) (a .i) (s .k) 8 (omega arith)
+          ∙ ap (λ (x : ℕ). noted (now (a .masks)) (a .at) x (bothCopies (now (a .work)) (a .n) (a .i))) (omega arith);
     }
 
+mul-write-bytes-2 : tie.Need-mul-write-bytes-2 Inv-loop μ-loop
+mul-write-bytes-2 c = search needs
+
+add-write-bytes-2 : tie.Need-add-write-bytes-2 Inv-loop μ-loop
+add-write-bytes-2 c = search needs
+
+joined-word-requires-2 : tie.Need-joined-word-requires-2 Inv-loop μ-loop
+joined-word-requires-2 c κs = search needs
+
+write-bytes-requires-2 : tie.Need-write-bytes-requires-2 Inv-loop μ-loop
+write-bytes-requires-2 c κs = search needs
+
 same-length : tie.Need-same-length Inv-loop μ-loop
-same-length c =
-    let a = c .before .before .before .before .before .before .args in
-    ap length (c .before .loop .inv .bytes) ∙ length-noted (now (a .masks)) (a .at) (bothCopies (now (a .work)) (a .n) (a .i)) (c .before .loop .a)
+same-length c = c .before .before .write-bytes2 .kept .0 ∙ c .before .before .before .before .before .before .loop .inv .size
 
 returns : tie.Need-returns Inv-loop μ-loop
 returns c =
-    let a = c .before .before .before .before .before .before .args in
-    let all : c .before .loop .a ≡ a .arrays = omega arith in
-    c .before .loop .inv .bytes ∙ ap (λ k. noted (now (a .masks)) (a .at) k (bothCopies (now (a .work)) (a .n) (a .i))) all
+    let a = c .before .before .before .before .before .before .before .before .before .args in
+    let s = c .before .before .before .before .before .before .loop in
+    let whole : 8 * s .k + a .arrays % 8 ≡ a .arrays = omega arith in
+    c .before .before .write-bytes2 .ensures
+    ∙ ap₂ (λ (l : List ℕ) (w : ℕ). noted l (a .at + 8 * s .k) (a .arrays % 8) (byteOf w)) (s .inv .bytes) (c .before .before .before .joined-word2 .ensures)
+    ∙ word-on (now (a .masks)) (now (a .work)) (a .at) (a .n) (a .i) (s .k) (a .arrays % 8) (omega arith)
+    ∙ ap (λ (x : ℕ). noted (now (a .masks)) (a .at) x (bothCopies (now (a .work)) (a .n) (a .i))) whole
 
 pub write-row-spec : {M : Type 1} → statement M
 write-row-spec =
@@ -96,16 +92,17 @@ write-row-spec =
     (tie.spec
     Inv-loop
     μ-loop
-    mask-row-requires
-    add-mask-row
-    mask-row-requires-2
     loop-holds
-    byte-requires
-    byte-requires-2
-    add-masks
-    slice-write-masks
-    add-a
+    mul-write-bytes
+    add-write-bytes
+    joined-word-requires
+    write-bytes-requires
+    add-k
     loop-less
     loop-again
+    mul-write-bytes-2
+    add-write-bytes-2
+    joined-word-requires-2
+    write-bytes-requires-2
     same-length
     returns)

@@ -22,35 +22,32 @@ mul-d c = search needs
 slice-read-d : tie.Need-slice-read-d
 slice-read-d c = search needs
 
-waiting-requires : tie.Need-waiting-requires
-waiting-requires c κs = search needs
+small : (c : tie.After-slice-known2)
+    → getD (c .before .before .before .args .work .now) (queueAt (c .before .before .before .args .n) + c .before .before .before .args .queue .head) 0
+    < 2 * (c .before .before .before .args .n)
+small c = let start = c .before .before .before in front-below (start .pre .3 .0) (start .pre .3 .1) (start .pre .2)
 
-small : (c : tie.After-waiting)
-    → getD (c .before .before .before .before .args .work .now) (queueAt (c .before .before .before .before .args .n) + c .before .before .before .before .args .queue .head) 0
-    < 2 * (c .before .before .before .before .args .n)
-small c = let start = c .before .before .before .before in front-below (start .pre .3 .0) (start .pre .3 .1) (start .pre .2)
-
-below : (c : tie.After-waiting)
-    → getD (c .before .before .before .before .args .work .now) (c .before .before .queue .result + c .before .before .before .before .args .queue .head) 0
-    < 2 * (c .before .before .before .before .args .n)
+below : (c : tie.After-slice-known2)
+    → getD (c .before .before .before .args .work .now) (c .before .queue .result + c .before .before .before .args .queue .head) 0
+    < 2 * (c .before .before .before .args .n)
 below c =
-    let start = c .before .before .before .before in
-    subst (λ z. getD (start .args .work .now) (z + start .args .queue .head) 0 < 2 * (start .args .n)) (sym (c .before .before .queue .ensures)) (small c)
+    let start = c .before .before .before in
+    subst (λ z. getD (start .args .work .now) (z + start .args .queue .head) 0 < 2 * (start .args .n)) (sym (c .before .queue .ensures)) (small c)
 
-add-work : tie.Need-add-work
-add-work c = omega (arith, below c)
+flag-requires : tie.Need-flag-requires
+flag-requires c κs = let start = c .before .before .before in (start .pre .0, below c, omega (arith, start .pre .1, start .good .0 .0))
 
 mul-work : tie.Need-mul-work
-mul-work c = omega (arith, below c)
+mul-work c = omega (arith, below (c .before))
 
 slice-write-work : tie.Need-slice-write-work
-slice-write-work c = omega (arith, below c)
+slice-write-work c = omega (arith, below (c .before))
 
 same-length : tie.Need-same-length
 same-length c = search needs
 
 returns : tie.Need-returns
-returns c = taken (c .before .before .before .before .pre .1) (small c) (c .waiting .ensures) (c .before .before .queue .ensures)
+returns c = taken (c .before .before .before .before .pre .1) (small (c .before)) (c .flag .ensures) (c .before .before .queue .ensures)
 
 pub take-spec : {M : Type 1} → statement M
 take-spec =
@@ -60,8 +57,7 @@ take-spec =
     add-d
     mul-d
     slice-read-d
-    waiting-requires
-    add-work
+    flag-requires
     mul-work
     slice-write-work
     same-length

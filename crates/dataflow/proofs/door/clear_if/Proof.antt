@@ -1,0 +1,20 @@
+-- `clear_if` meets its contract: the two cases of the contract are the two ways through the code.
+-- Assumes nothing.
+use borrow.Author.Needs.{needs}
+use Rattle.dataflow.proofs.door.clear_if.Statement.{statement}
+use Rattle.dataflow.proofs.door.clear_if.Tie as tie
+
+clear-requires : tie.Need-clear-requires
+clear-requires c κs = search needs
+
+same-length : tie.Need-same-length
+same-length c = search needs
+
+returns : tie.Need-returns
+returns c = rw (c .before .before .before .before .if1 .taken) (c .before .before .clear .ensures)
+
+returns-2 : tie.Need-returns-2
+returns-2 c = search needs
+
+pub clear-if-spec : {M : Type 1} → statement M
+clear-if-spec = tie.close (tie.spec clear-requires same-length returns returns-2)
