@@ -7,6 +7,7 @@ ghost use lib.Dec.{ltb};
 ghost use Rattle.flow.specs.Format as format;
 ghost use Rattle.flow.specs.Format.{verdict, each, headerChecks, startChecks, referenceCountChecks, referenceChecks, nameChecks, dimChecks, gosubChecks, onGosubChecks, continuationChecks, dataChecks, restChecks, statementChecks, lineRecordChecks, endChecks, fileChecks, successorsPlace, referencesPlace, referenceCount, namesPlace, dataPlace, elementsEnd, recordEnd, linesPlace, lineCount, endPlace};
 ghost use Rattle.flow.specs.Answers.{Reached, passedOf, checkedOf, headerOf, verdictNumber, verdictPlace};
+ghost use Rattle.flow.specs.Parts.{Due, partAnswer, placeAfter};
 ghost use Rattle.flow.specs.Refusals.{numberOf, placeOf};
 use crate::Checked;
 use crate::Header;
@@ -16,6 +17,7 @@ use crate::MAX_KIND;
 use crate::MAX_NAMES;
 use crate::MAX_STATEMENTS;
 use crate::NO_CONTINUATION;
+use crate::Part;
 use crate::Passed;
 use crate::Refusal;
 use crate::bytes::u8_at;
@@ -359,6 +361,29 @@ fn check_end(file: &[u8], at: usize) -> Passed
         return Passed::Unfit(Refusal::Trailing(at + 2));
     }
     Passed::To(at + 2)
+}
+
+// One part of the file, which begins at `at`.
+pub fn check_part(file: &[u8], part: Part, at: usize) -> Passed
+    requires { ⌜ Due (now file) part at ⌝ }
+    ensures { λ r. ⌜ r ≡ partAnswer (now (file .entry)) part ⌝ }
+{
+    match part {
+        Part::Header => check_header(file),
+        Part::Statements => check_statements(file),
+        Part::Lines => check_lines(file, at),
+        Part::End => check_end(file, at),
+    }
+}
+
+// Where a reader that stood at `at` stands then.
+pub fn place_after(passed: Passed, at: usize) -> usize
+    ensures { λ r. ⌜ r ≡ placeAfter passed at ⌝ }
+{
+    match passed {
+        Passed::To(q) => q,
+        Passed::Unfit(_) => at,
+    }
 }
 
 // A whole file: its header, or why it is refused.
