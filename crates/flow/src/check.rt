@@ -23,6 +23,7 @@ use crate::Refusal;
 use crate::bytes::u8_at;
 use crate::bytes::u16_at;
 use crate::bytes::u64_at;
+use crate::reader::read_part;
 
 // The letters of the marks: FH, FN, FL, FE.
 const LETTER_F: usize = 70;
@@ -386,22 +387,23 @@ pub fn place_after(passed: Passed, at: usize) -> usize
     }
 }
 
-// A whole file: its header, or why it is refused.
+// A whole file, part by part: its header, or why it is refused.
 pub fn check_file(file: &[u8]) -> Checked
     ensures { λ r. ⌜ r ≡ checkedOf (verdict (fileChecks (now (file .entry)))) (headerOf (now (file .entry))) ⌝ }
 {
-    if let Passed::Unfit(r) = check_header(file) {
-        return Checked::Unfit(r);
-    }
-    let lines_at = match check_statements(file) {
+    let statements_at = match read_part(file, Part::Header, 0) {
         Passed::To(q) => q,
         Passed::Unfit(r) => return Checked::Unfit(r),
     };
-    let end = match check_lines(file, lines_at) {
+    let lines_at = match read_part(file, Part::Statements, statements_at) {
         Passed::To(q) => q,
         Passed::Unfit(r) => return Checked::Unfit(r),
     };
-    if let Passed::Unfit(r) = check_end(file, end) {
+    let end = match read_part(file, Part::Lines, lines_at) {
+        Passed::To(q) => q,
+        Passed::Unfit(r) => return Checked::Unfit(r),
+    };
+    if let Passed::Unfit(r) = read_part(file, Part::End, end) {
         return Checked::Unfit(r);
     }
     Checked::Fit(Header {
