@@ -377,7 +377,7 @@ pub fn check_part(file: &[u8], part: Part, at: usize) -> Passed
     }
 }
 
-// Where a reader that stood at `at` stands then.
+// Where a reader that stood at `at` stands after its answer: past a part that is fit, or where it was.
 pub fn place_after(passed: Passed, at: usize) -> usize
     ensures { λ r. ⌜ r ≡ placeAfter passed at ⌝ }
 {

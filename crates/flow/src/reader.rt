@@ -1,5 +1,5 @@
-// The reader: the file and how far it has read. No contract with a loop or a branch stands here: each function takes the struct
-// apart and leaves the work to a function on the slice and the number.
+// The reader: the file and how far it has read. A function that holds the struct has no loop and no branch: it takes the struct apart
+// and leaves the work to a function on the slice and the number. `read_part` is for callers that have a slice and a place.
 ghost use mathlib.Core.Path.{_≡_};
 ghost use Rattle.flow.specs.Parts.{Due, partAnswer, placeAfter};
 use crate::Part;
@@ -43,7 +43,7 @@ pub fn next<'s, 'a>(r: &'s mut Reader<'a>, part: Part) -> Passed
     passed
 }
 
-// A part of a file that was read up to `at`, by a reader.
+// The part of the file that begins at `at`, as a reader that stands there reads it.
 pub fn read_part(file: &[u8], part: Part, at: usize) -> Passed
     requires { ⌜ Due (now file) part at ⌝ }
     ensures { λ p. ⌜ p ≡ partAnswer (now (file .entry)) part ⌝ }

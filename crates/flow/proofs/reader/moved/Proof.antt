@@ -1,5 +1,5 @@
--- `reader::moved` meets its contract: a walk of its MIR, by hand. A struct is made anew of the slice that the one passed holds, and another number.
--- The struct is Copy: what it owns is had twice, one copy is kept whole for the exit, and the other, with the facts of the number in the place of at's, is what the result owns.
+-- `reader::moved` meets its contract: a walk of its MIR, by hand. A `Reader` is made anew of the file that the one passed holds, and another number.
+-- The struct is Copy: what it owns is had twice, one copy is kept whole for the exit, and the other, with the facts of the number in the place of at's, is what the result owns (`Held.antt`).
 -- Assumes nothing.
 use mathlib.Core.Path.{refl}
 use Prim.Native.Nat.{ℕ, _<_, _^_}
@@ -22,13 +22,10 @@ use types.Part.{whole, sub, look-in, agg}
 use types.Run.{look, init, forget, stop, fld, from, load, of-opd, and-then, no-more, assigns, returns, enter, alloc1, alloc0, params1, pass1, pass0, free1, free0}
 use sound.WpLaws.{WpFn-mono}
 use denote.RattleType.{RattleType, owns}
-use denote.Laws.{Is}
-use denote.Plain.{uint-vals, uint-tells, uint-makes}
+use denote.Plain.{uint-vals, uint-tells}
 use denote.Builtin.{usize}
 use denote.Signature.{namedLft}
-use denote.Steps.{owned}
 use denote.Struct.Laws as LL
-use denote.Struct.Rest.{own-put}
 use denote.Triple.Entry.{Vals, onEntry}
 use denote.Triple.Spec.{Meets, tripleOf}
 use denote.Triple.Table.{entered}
@@ -37,6 +34,7 @@ use denote.Exit.{yes}
 use Rattle.flow.specs.declared.reader.Reader.{Reader}
 use Rattle.flow.proofs.reader.Reader as T
 use Rattle.flow.proofs.reader.Reader.Laws as T′
+use Rattle.flow.proofs.Held.{movedTo, moves}
 use Rattle.flow.proofs.reader.moved.Key.{name as #reader·moved}
 use Rattle.flow.proofs.reader.moved as moved
 use Rattle.flow.proofs.reader.moved.Statement as stated
@@ -53,9 +51,6 @@ module _ {M : Type 1} (𝓤 : URA M) (H : Heap 𝓤) (A : Atoms 𝓤) (W : Given
   abbrev mach : Val
   mach = T′.lowered d
 
-  abbrev d′ : Reader
-  d′ = record { file = d .file; at = n }
-
   abbrev at : Vals moved.signature (κ, tt)
   at = (mach ∷ [], (vint w64 n ∷ [], tt))
 
@@ -65,13 +60,12 @@ module _ {M : Type 1} (𝓤 : URA M) (H : Heap 𝓤) (A : Atoms 𝓤) (W : Given
   abbrev Own : Fml
   Own = B (κ, tt) .own d (mach ∷ [])
 
-  exits : ent 𝓤 (onEntry 𝓤 H A moved.signature (κ, tt) (q, tt) (d, (n, tt)) at) (Post (T′.lowered d′))
+  exits : ent 𝓤 (onEntry 𝓤 H A moved.signature (κ, tt) (q, tt) (d, (n, tt)) at) (Post (T′.lowered (movedTo d n)))
   exits =
       qed W ((‵ (flft κ q) ⊛ ‵ ftrue) ∷ ‵ (owns (B (κ, tt) ∷ usize ∷ []) (d, (n, tt)) at) ∷ []) ∵
-      suffices ! _ (ends-at 𝓤 H A moved.ended stayed (moved.clauses 𝓤 H A mem run) W (((κ, tt), (q, tt), tt, (d, (n, tt)), at), tt) (T′.lowered d′) d′ (tt, (tt, tt)) (tt, (tt, tt))) $ says ! (refl, refl) $
+      suffices ! _ (ends-at 𝓤 H A moved.ended stayed (moved.clauses 𝓤 H A mem run) W (((κ, tt), (q, tt), tt, (d, (n, tt)), at), tt) (T′.lowered (movedTo d n)) (movedTo d n) (tt, (tt, tt)) (tt, (tt, tt))) $ says ! (refl, refl) $
       frame ! $ fsplit ! $ use1 W (‵ Own ⊛ ‵ Own) (LL.copy (T.the-type (namedLft 1 0 tt (κ, tt))) (T′.the-copy (namedLft 1 0 tt (κ, tt))) 𝓤 H A W .twice d (mach ∷ [])) $ split ! $ move ! (0 ∷ 2 ∷ []) $ fjoin ! $ frame ! $
-      -- [what the struct owns]: the number's facts take the place of at's
-      owned ! usize (Is usize) (uint-makes 𝓤 H A W w64) n _ (refl, ok) $ move ! (1 ∷ 0 ∷ []) $ by ! (own-put 𝓤 H A W (T.the-type (namedLft 1 0 tt (κ, tt))) (T′.the-laws (namedLft 1 0 tt (κ, tt))) 1 (d .file, (d .at, tt)) n mach)
+      by ! (moves (namedLft 1 0 tt (κ, tt)) 𝓤 H A W d n ok)
 
   module _ (C : Calls 𝓤 H) (Λ : Loops 𝓤 H) where
     walk : Holds (hasTy (T′.mir (named 0)) mach) × WT mach → ent 𝓤 (onEntry 𝓤 H A moved.signature (κ, tt) (q, tt) (d, (n, tt)) at) (WpFn 𝓤 H C Λ code.function (mach ∷ vint w64 n ∷ []) Post)
