@@ -3,14 +3,17 @@
 use Prim.Native.Nat.{ℕ, zero, suc, _≤_}
 use native.Mathlib.Omega.{arith}
 use mathlib.Core.List.{List, _++_}
-use mathlib.Core.Path.{_≡_, _∙_}
+use mathlib.Core.Path.{_≡_, sym, subst, _∙_}
 use borrow.Author.Tests.{leb-true}
 use lib.ListN.{length}
 use Rattle.flow.specs.declared.Refusal.{Refusal}
 use Rattle.flow.specs.Format.{Check, verdict, fit, unfit, each, headerChecks, statementChecks, recordChecks, recordPlace, statementsOf, lineRecordChecks, lineCount, linesPlace, endPlace, endChecks, fileChecks}
+use Rattle.flow.specs.declared.Part.the-variants.{Statements, Lines, End}
 use Rattle.flow.specs.Fields.{FitRecord}
+use Rattle.flow.specs.Parts.{Due, headerEnd}
 use Rattle.flow.proofs.Verdicts.{all-hold, fit-append, unfit-append, fit-right, elements-within}
 use Rattle.flow.proofs.Records.{end-fits}
+use Rattle.flow.proofs.Answers.{Through}
 
 module _ (s : List ℕ) where
   abbrev pub lines : List Check
@@ -35,6 +38,21 @@ module _ (s : List ℕ) where
   lines-within l h =
       elements-within (lineCount s) (lineRecordChecks s) (length s) (linesPlace s) 6 l
       (λ k f. let all = all-hold (lineRecordChecks s k) f in omega (arith, leb-true)) h
+
+  -- past a part that is fit the next one is due
+  module _ {p : ℕ} (h : Through (verdict (headerChecks s)) p headerEnd) where
+    pub statements-due : Due s Statements p
+    statements-due = record { there = h .place; within = subst (λ x. x ≤ length s) (sym (h .place)) (header-within (h .is-fit)); header = header-within (h .is-fit) }
+
+    module _ {q : ℕ} (i : Through (verdict (statementChecks s)) q (linesPlace s)) where
+      to-lines : linesPlace s ≤ length s
+      to-lines = statements-within (header-within (h .is-fit)) (i .is-fit)
+
+      pub lines-due : Due s Lines q
+      lines-due = record { there = i .place; within = subst (λ x. x ≤ length s) (sym (i .place)) to-lines; header = header-within (h .is-fit) }
+
+      pub end-due : {e : ℕ} → Through (verdict lines) e (endPlace s) → Due s End e
+      end-due l = record { there = l .place; within = subst (λ x. x ≤ length s) (sym (l .place)) (lines-within to-lines (l .is-fit)); header = header-within (h .is-fit) }
 
   pub in-header : {r : Refusal} → verdict (headerChecks s) ≡ unfit r → verdict (fileChecks s) ≡ unfit r
   unfolding fileChecks

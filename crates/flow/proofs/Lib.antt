@@ -7,3 +7,4 @@ pub mod RecordVerdict
 pub mod FileVerdict
 pub mod Reading
 pub mod Cases
+pub mod Held

@@ -3,5 +3,6 @@ pub mod Flow
 pub mod Refusals
 pub mod Format
 pub mod Answers
+pub mod Parts
 pub mod Fields
 pub mod Cases

@@ -7,6 +7,7 @@ ghost use lib.Dec.{ltb};
 ghost use Rattle.flow.specs.Format as format;
 ghost use Rattle.flow.specs.Format.{verdict, each, headerChecks, startChecks, referenceCountChecks, referenceChecks, nameChecks, dimChecks, gosubChecks, onGosubChecks, continuationChecks, dataChecks, restChecks, statementChecks, lineRecordChecks, endChecks, fileChecks, successorsPlace, referencesPlace, referenceCount, namesPlace, dataPlace, elementsEnd, recordEnd, linesPlace, lineCount, endPlace};
 ghost use Rattle.flow.specs.Answers.{Reached, passedOf, checkedOf, headerOf, verdictNumber, verdictPlace};
+ghost use Rattle.flow.specs.Parts.{Due, partAnswer, placeAfter};
 ghost use Rattle.flow.specs.Refusals.{numberOf, placeOf};
 use crate::Checked;
 use crate::Header;
@@ -16,11 +17,13 @@ use crate::MAX_KIND;
 use crate::MAX_NAMES;
 use crate::MAX_STATEMENTS;
 use crate::NO_CONTINUATION;
+use crate::Part;
 use crate::Passed;
 use crate::Refusal;
 use crate::bytes::u8_at;
 use crate::bytes::u16_at;
 use crate::bytes::u64_at;
+use crate::reader::read_part;
 
 // The letters of the marks: FH, FN, FL, FE.
 const LETTER_F: usize = 70;
@@ -361,22 +364,46 @@ fn check_end(file: &[u8], at: usize) -> Passed
     Passed::To(at + 2)
 }
 
-// A whole file: its header, or why it is refused.
+// One part of the file, which begins at `at`.
+pub fn check_part(file: &[u8], part: Part, at: usize) -> Passed
+    requires { ⌜ Due (now file) part at ⌝ }
+    ensures { λ r. ⌜ r ≡ partAnswer (now (file .entry)) part ⌝ }
+{
+    match part {
+        Part::Header => check_header(file),
+        Part::Statements => check_statements(file),
+        Part::Lines => check_lines(file, at),
+        Part::End => check_end(file, at),
+    }
+}
+
+// Where a reader that stood at `at` stands after its answer: past a part that is fit, or where it was.
+pub fn place_after(passed: Passed, at: usize) -> usize
+    ensures { λ r. ⌜ r ≡ placeAfter passed at ⌝ }
+{
+    match passed {
+        Passed::To(q) => q,
+        Passed::Unfit(_) => at,
+    }
+}
+
+// A whole file, part by part: its header, or why it is refused.
 pub fn check_file(file: &[u8]) -> Checked
     ensures { λ r. ⌜ r ≡ checkedOf (verdict (fileChecks (now (file .entry)))) (headerOf (now (file .entry))) ⌝ }
 {
-    if let Passed::Unfit(r) = check_header(file) {
-        return Checked::Unfit(r);
-    }
-    let lines_at = match check_statements(file) {
+    let statements_at = match read_part(file, Part::Header, 0) {
         Passed::To(q) => q,
         Passed::Unfit(r) => return Checked::Unfit(r),
     };
-    let end = match check_lines(file, lines_at) {
+    let lines_at = match read_part(file, Part::Statements, statements_at) {
         Passed::To(q) => q,
         Passed::Unfit(r) => return Checked::Unfit(r),
     };
-    if let Passed::Unfit(r) = check_end(file, end) {
+    let end = match read_part(file, Part::Lines, lines_at) {
+        Passed::To(q) => q,
+        Passed::Unfit(r) => return Checked::Unfit(r),
+    };
+    if let Passed::Unfit(r) = read_part(file, Part::End, end) {
         return Checked::Unfit(r);
     }
     Checked::Fit(Header {

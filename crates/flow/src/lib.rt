@@ -62,6 +62,14 @@ pub enum Passed {
     Unfit(Refusal),
 }
 
+// The parts of a file, in file order: the FH record, the FN records, the FL records and the FE record.
+pub enum Part {
+    Header,
+    Statements,
+    Lines,
+    End,
+}
+
 // What the reader finds of a file.
 pub enum Checked {
     Fit(Header),
@@ -88,3 +96,4 @@ pub enum Entered {
 
 pub mod bytes;
 pub mod check;
+pub mod reader;

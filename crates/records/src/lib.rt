@@ -10,6 +10,7 @@ use flow::StmtId;
 use flow::bytes::u8_at;
 use flow::bytes::u16_at;
 use flow::bytes::u64_at;
+use flow::reader::Reader;
 
 pub fn line(file: &[u8], p: usize) -> usize
     requires { ⌜ FitRecord (now file) p ⌝ }
@@ -199,6 +200,14 @@ pub fn record(file: &[u8], p: usize) -> &[u8]
 {
     let e = record_end(file, p);
     &file[p..e]
+}
+
+// The record that a reader stands at, given out as that part of the file.
+pub fn record_of<'a>(r: Reader<'a>) -> &'a [u8]
+    requires { ⌜ FitRecord (now (r .file)) (r .at) ⌝ }
+    ensures { λ s. ⌜ now s ≡ recordPart (now (r .entry .file)) (r .entry .at) ⌝ }
+{
+    record(r.file, r.at)
 }
 
 pub mod areas;
