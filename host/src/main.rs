@@ -23,7 +23,9 @@ const USAGE: &str = "commands:
   list FILE                    what the listing program prints
   bench-reader                 the proved reader beside a plain one
   bench                        the proved call beside the original
-  worst ROUNDS SEED            search for the file that takes the proved call longest";
+  worst SECONDS SEED           search for the file that takes the proved call longest, so long a family
+  worst-again                  time the worst files found so far (worst.txt)
+  worst-file NUMBER PATH       write one of them, counted from 0";
 
 type Outcome = Result<bool, String>;
 
@@ -176,7 +178,12 @@ fn run(words: &[&str]) -> Outcome {
         }
         ["bench-reader"] => Ok(bench::readers()),
         ["bench"] => Ok(bench::whole_call()),
-        ["worst", rounds, seed] => Ok(worst::search(number(rounds)?, number(seed)?)),
+        ["worst", seconds, seed] => worst::search(number(seconds)?, number(seed)?),
+        ["worst-again"] => worst::again(),
+        ["worst-file", which, path] => {
+            let file = worst::stored_file(number(which)? as usize).ok_or("there is no such recipe")?;
+            save(Path::new(path), &file).map(|()| true)
+        }
         _ => Err(USAGE.into()),
     }
 }
