@@ -20,6 +20,7 @@ pub mod sides;
 #[cfg(original)]
 mod stand_ins;
 pub mod store;
+pub mod text;
 pub mod worst;
 
 // The cut text names these at the root.

@@ -4,10 +4,11 @@ use std::path::{Path, PathBuf};
 use std::process::ExitCode;
 use std::{env, fs};
 
+use yarnuskel_host::flow::Flow;
 use yarnuskel_host::generate::{self, Family};
 use yarnuskel_host::judge::{self, Comparison, Lent};
 use yarnuskel_host::sides::{self, NO_ORIGINAL, NO_READER, NO_STATES};
-use yarnuskel_host::{bench, cases, flow, listing, store, worst};
+use yarnuskel_host::{bench, cases, flow, listing, store, text, worst};
 
 const USAGE: &str = "commands:
   answer FILE|DIR              masks and live sets by the original, refusals by the answerer
@@ -21,6 +22,8 @@ const USAGE: &str = "commands:
   store                        write the stored answers and the example flows
   stored                       list the stored cases
   list FILE                    what the listing program prints
+  text FILE                    a flow file as text
+  flow TEXT PATH               write the flow file that a text says
   bench-reader                 the proved reader beside a plain one
   bench                        the proved call beside the original
   worst SECONDS SEED           search for the file that takes the proved call longest, so long a family
@@ -95,8 +98,19 @@ fn random(kind: &str, count: u64, seed: u64, folder: &Path) -> Outcome {
     Ok(true)
 }
 
+/// The flow of a file that is fit.
+fn fit(path: &Path) -> Result<Flow, String> {
+    flow::read(&load(path)?).map_err(|r| format!("refused {} at {}", r.number, r.place))
+}
+
+fn write_flow(from: &Path, to: &Path) -> Outcome {
+    let text = fs::read_to_string(from).map_err(|e| format!("{}: {e}", from.display()))?;
+    let flow = text::read(&text).map_err(|e| format!("{}, {e}", from.display()))?;
+    save(to, &flow.bytes()).map(|()| true)
+}
+
 fn time(path: &Path) -> Outcome {
-    let flow = flow::read(&load(path)?).map_err(|r| format!("refused {} at {}", r.number, r.place))?;
+    let flow = fit(path)?;
     let Some([mut masks, mut live]) = sides::original_runs(&flow) else {
         println!("{NO_ORIGINAL}");
         return Ok(true);
@@ -176,6 +190,11 @@ fn run(words: &[&str]) -> Outcome {
             print!("{}", listing::listing(&load(Path::new(path))?));
             Ok(true)
         }
+        ["text", path] => {
+            print!("{}", text::print(&fit(Path::new(path))?));
+            Ok(true)
+        }
+        ["flow", from, path] => write_flow(Path::new(from), Path::new(path)),
         ["bench-reader"] => Ok(bench::readers()),
         ["bench"] => Ok(bench::whole_call()),
         ["worst", seconds, seed] => worst::search(number(seconds)?, number(seed)?),
