@@ -11,7 +11,7 @@ use yarnuskel_host::sides::{self, NO_ORIGINAL, NO_READER, NO_STATES};
 use yarnuskel_host::{bench, cases, flow, listing, store, text, worst};
 
 const USAGE: &str = "commands:
-  answer FILE|DIR              masks and live sets by the original, refusals by the answerer
+  answer FILE|DIR              masks and live sets by the original, refusals by the answerer (of a DIR, its .flow files)
   random KIND COUNT SEED DIR   write random files: plain, layered, limits, damaged
   file SEED INDEX PATH         write one file of a comparison
   time FILE                    time the original
@@ -76,14 +76,19 @@ fn answer_file(path: &Path) -> Outcome {
     Ok(true)
 }
 
+fn files(folder: &Path) -> Result<Vec<PathBuf>, String> {
+    let entries = fs::read_dir(folder).map_err(|e| format!("{}: {e}", folder.display()))?;
+    let mut files: Vec<PathBuf> = entries.flatten().map(|entry| entry.path()).collect();
+    files.retain(|path| path.is_file());
+    files.sort();
+    Ok(files)
+}
+
 fn answer(path: &Path) -> Outcome {
     if !path.is_dir() {
         return answer_file(path);
     }
-    let entries = fs::read_dir(path).map_err(|e| e.to_string())?;
-    let mut files: Vec<PathBuf> = entries.flatten().map(|entry| entry.path()).collect();
-    files.sort();
-    for file in files.iter().filter(|path| path.is_file()) {
+    for file in files(path)?.iter().filter(|path| path.extension().is_some_and(|e| e == "flow")) {
         answer_file(file)?;
     }
     Ok(true)
@@ -147,8 +152,10 @@ fn write_store() -> Outcome {
     let cases = store::cases();
     let bytes = store::bytes(&cases)?;
     save(&root().join(store::PLACE), &bytes)?;
-    for worked in cases::worked() {
-        save(&root().join("examples").join(format!("{}.flow", worked.name)), &worked.flow.bytes())?;
+    let examples = root().join("examples");
+    save(&examples.join("refused.flow"), &cases::refused())?;
+    for path in files(&examples)?.iter().filter(|path| path.extension().is_some_and(|e| e == "txt")) {
+        write_flow(path, &path.with_extension("flow"))?;
     }
     println!("{} cases, {} bytes", cases.len(), bytes.len());
     Ok(true)
