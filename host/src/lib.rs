@@ -6,6 +6,7 @@ pub mod bench;
 pub mod cases;
 #[cfg(proved_states)]
 pub mod door;
+pub mod dot;
 pub mod flow;
 pub mod generate;
 pub mod judge;

@@ -8,7 +8,7 @@ use yarnuskel_host::flow::Flow;
 use yarnuskel_host::generate::{self, Family};
 use yarnuskel_host::judge::{self, Comparison, Lent};
 use yarnuskel_host::sides::{self, NO_ORIGINAL, NO_READER, NO_STATES};
-use yarnuskel_host::{bench, cases, flow, listing, store, text, worst};
+use yarnuskel_host::{bench, cases, dot, flow, listing, store, text, worst};
 
 const USAGE: &str = "commands:
   answer FILE|DIR              masks and live sets by the original, refusals by the answerer (of a DIR, its .flow files)
@@ -24,6 +24,7 @@ const USAGE: &str = "commands:
   list FILE                    what the listing program prints
   text FILE                    a flow file as text
   flow TEXT PATH               write the flow file that a text says
+  dot FILE                     a flow file with its masks as a picture, for Graphviz
   bench-reader                 the proved reader beside a plain one
   bench                        the proved call beside the original
   worst SECONDS SEED           search for the file that takes the proved call longest, so long a family
@@ -106,6 +107,17 @@ fn random(kind: &str, count: u64, seed: u64, folder: &Path) -> Outcome {
 /// The flow of a file that is fit.
 fn fit(path: &Path) -> Result<Flow, String> {
     flow::read(&load(path)?).map_err(|r| format!("refused {} at {}", r.number, r.place))
+}
+
+fn picture(path: &Path) -> Outcome {
+    let flow = fit(path)?;
+    let Some(masks) = sides::proved_masks(&flow.bytes()) else {
+        println!("{NO_STATES}");
+        return Ok(true);
+    };
+    let masks = masks.map_err(|r| format!("refused {} at {}", r.number, r.place))?;
+    print!("{}", dot::print(&flow, &masks));
+    Ok(true)
 }
 
 fn write_flow(from: &Path, to: &Path) -> Outcome {
@@ -201,6 +213,7 @@ fn run(words: &[&str]) -> Outcome {
             print!("{}", text::print(&fit(Path::new(path))?));
             Ok(true)
         }
+        ["dot", path] => picture(Path::new(path)),
         ["flow", from, path] => write_flow(Path::new(from), Path::new(path)),
         ["bench-reader"] => Ok(bench::readers()),
         ["bench"] => Ok(bench::whole_call()),
