@@ -102,6 +102,9 @@ fn part(whole: usize, knob: usize) -> usize {
     (whole * knob / TURNS).max(1)
 }
 
+/// The states that each array may gain, over all arrays.
+const CHANGES: usize = 2 * ARRAYS;
+
 /// Statements that bring every state of every array to `to`, one after the other.
 fn changes(to: usize) -> Vec<Statement> {
     let statement = |i: usize| {
@@ -116,8 +119,6 @@ fn changes(to: usize) -> Vec<Statement> {
     };
     (0..CHANGES).map(statement).collect()
 }
-
-const CHANGES: usize = 2 * ARRAYS;
 
 fn flow(statements: Vec<Statement>, lines: Vec<(u16, u16)>) -> Flow {
     Flow { arrays: MAX_ARRAYS, names: 64, entry: 0, statements, lines }

@@ -3,13 +3,9 @@
 
 use yarnuskel_host::answerer;
 use yarnuskel_host::cases;
-use yarnuskel_host::flow::{self, Flow, Refusal};
+use yarnuskel_host::flow::{self, Refusal};
 use yarnuskel_host::judge::{self, Lent};
 use yarnuskel_host::sides::{NO_ORIGINAL, NO_STATES};
-
-fn named(name: &str) -> Flow {
-    cases::differences().into_iter().find(|case| case.0 == name).unwrap().1
-}
 
 #[test]
 fn masks_and_live_sets_are_the_originals() {
@@ -52,7 +48,12 @@ mod original {
     use std::collections::BTreeSet;
 
     use super::*;
+    use yarnuskel_host::flow::Flow;
     use yarnuskel_host::original::Original;
+
+    fn named(name: &str) -> Flow {
+        cases::differences().into_iter().find(|case| case.0 == name).unwrap().1
+    }
 
     /// Each run has hash maps with keys of its own, so that both orders come in some run.
     #[test]

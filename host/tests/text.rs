@@ -1,6 +1,7 @@
 //! Flows as text: both ways for every fit file, and what is said of a text that is no flow.
 
 use yarnuskel_host::flow::{self, Flow};
+use yarnuskel_host::random::Random;
 use yarnuskel_host::{cases, generate, text};
 
 const SEED: u64 = 3;
@@ -103,4 +104,27 @@ fn a_text_may_be_too_long_for_a_file() {
     let error = text::read(&format!("flow 500 statements, 0 arrays, 0 names, entry 0\n{text}")).unwrap_err();
     let said = "line 502: expected a file of at most 262144 bytes, found 266510 bytes";
     assert_eq!(error.to_string(), said);
+}
+
+/// A text with a sign changed is refused by its line, or says a flow that is fit.
+#[test]
+fn what_is_read_is_fit() {
+    let signs: Vec<char> = "0123456789;:=,() #\nx".chars().collect();
+    let mut refused = 0;
+    for index in 0..4_000 {
+        let Ok(flow) = flow::read(&generate::file(SEED, index)) else { continue };
+        let mut text: Vec<char> = text::print(&flow).chars().take(3_000).collect();
+        let mut random = Random::new(SEED, index);
+        let at = random.below(text.len());
+        text[at] = random.pick(&signs);
+        let text: String = text.into_iter().collect();
+        match text::read(&text) {
+            Ok(flow) => assert_eq!(flow::read(&flow.bytes()), Ok(flow), "{text}"),
+            Err(error) => {
+                assert!((1..=text.lines().count() + 1).contains(&error.line), "{error}\n{text}");
+                refused += 1;
+            }
+        }
+    }
+    assert!(refused > 500, "{refused} refused");
 }
