@@ -428,14 +428,6 @@ pub fn visit_bound(edges: usize, arrays: u8) -> u64 {
     1 + edges as u64 * (1 + 2 * u64::from(arrays))
 }
 
-/// Edges of the doubled graph, and those that leave RETURNs.
-pub fn edge_counts(flow: &Flow) -> (usize, usize) {
-    let edges = doubled_edges(flow, None);
-    let kinds = flow.statements.iter().chain(&flow.statements).map(|s| &s.kind);
-    let returns = edges.iter().zip(kinds).filter(|(_, k)| **k == Kind::Return);
-    (edges.iter().map(Vec::len).sum(), returns.map(|(list, _)| list.len()).sum())
-}
-
 // ----- Live names ---------------------------------------------------------
 
 /// Live-in and live-out of each statement: the least sets that satisfy their definition.

@@ -2,6 +2,7 @@
 
 use crate::flow::{Encoded, Flow, Kind, Statement, What};
 use crate::judge::Lent;
+use crate::text;
 
 /// A file as blocks, each repeated so many times, and the areas lent with it.
 #[derive(Clone, Debug)]
@@ -101,6 +102,26 @@ pub fn worked() -> Vec<Worked> {
         case("p9", p9(), &[1, 0], None),
         case("p10", empty, &[], Some(0)),
     ]
+}
+
+// ----- Differences from the Rust ------------------------------------------
+
+/// The texts of the flows that docs/DIFFERENCES.md names.
+const DIFFERENCES: [(&str, &str); 3] = [
+    ("return_order", include_str!("../../examples/return_order.txt")),
+    ("call_cycle", include_str!("../../examples/call_cycle.txt")),
+    ("many_visits", include_str!("../../examples/many_visits.txt")),
+];
+
+/// The flows in which something other than masks and live sets differs from the Rust.
+pub fn differences() -> Vec<(&'static str, Flow)> {
+    let flow = |text| text::read(text).unwrap_or_else(|e| panic!("{e}"));
+    DIFFERENCES.into_iter().map(|(name, text)| (name, flow(text))).collect()
+}
+
+/// P5 with an entry that is no statement: refused 3 at 0. The Rust has no refusals.
+pub fn refused() -> Vec<u8> {
+    Flow { entry: 4, ..p5_with(Kind::Other, &[0]) }.bytes()
 }
 
 // ----- Refusals and limits ------------------------------------------------

@@ -6,6 +6,7 @@ pub mod bench;
 pub mod cases;
 #[cfg(proved_states)]
 pub mod door;
+pub mod dot;
 pub mod flow;
 pub mod generate;
 pub mod judge;
@@ -20,6 +21,7 @@ pub mod sides;
 #[cfg(original)]
 mod stand_ins;
 pub mod store;
+pub mod text;
 pub mod worst;
 
 // The cut text names these at the root.

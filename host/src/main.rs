@@ -4,13 +4,14 @@ use std::path::{Path, PathBuf};
 use std::process::ExitCode;
 use std::{env, fs};
 
+use yarnuskel_host::flow::Flow;
 use yarnuskel_host::generate::{self, Family};
 use yarnuskel_host::judge::{self, Comparison, Lent};
 use yarnuskel_host::sides::{self, NO_ORIGINAL, NO_READER, NO_STATES};
-use yarnuskel_host::{bench, cases, flow, listing, store, worst};
+use yarnuskel_host::{bench, cases, dot, flow, listing, store, text, worst};
 
 const USAGE: &str = "commands:
-  answer FILE|DIR              masks and live sets by the original, refusals by the answerer
+  answer FILE|DIR              masks and live sets by the original, refusals by the answerer (of a DIR, its .flow files)
   random KIND COUNT SEED DIR   write random files: plain, layered, limits, damaged
   file SEED INDEX PATH         write one file of a comparison
   time FILE                    time the original
@@ -21,9 +22,14 @@ const USAGE: &str = "commands:
   store                        write the stored answers and the example flows
   stored                       list the stored cases
   list FILE                    what the listing program prints
+  text FILE                    a flow file as text
+  flow TEXT PATH               write the flow file that a text says
+  dot FILE                     a flow file with its masks as a picture, for Graphviz
   bench-reader                 the proved reader beside a plain one
   bench                        the proved call beside the original
-  worst ROUNDS SEED            search for the file that takes the proved call longest";
+  worst SECONDS SEED           search for the file that takes the proved call longest, so long a family
+  worst-again                  time the worst files found so far (worst.txt)
+  worst-file NUMBER PATH       write one of them, counted from 0";
 
 type Outcome = Result<bool, String>;
 
@@ -71,14 +77,19 @@ fn answer_file(path: &Path) -> Outcome {
     Ok(true)
 }
 
+fn files(folder: &Path) -> Result<Vec<PathBuf>, String> {
+    let entries = fs::read_dir(folder).map_err(|e| format!("{}: {e}", folder.display()))?;
+    let mut files: Vec<PathBuf> = entries.flatten().map(|entry| entry.path()).collect();
+    files.retain(|path| path.is_file());
+    files.sort();
+    Ok(files)
+}
+
 fn answer(path: &Path) -> Outcome {
     if !path.is_dir() {
         return answer_file(path);
     }
-    let entries = fs::read_dir(path).map_err(|e| e.to_string())?;
-    let mut files: Vec<PathBuf> = entries.flatten().map(|entry| entry.path()).collect();
-    files.sort();
-    for file in files.iter().filter(|path| path.is_file()) {
+    for file in files(path)?.iter().filter(|path| path.extension().is_some_and(|e| e == "flow")) {
         answer_file(file)?;
     }
     Ok(true)
@@ -93,8 +104,30 @@ fn random(kind: &str, count: u64, seed: u64, folder: &Path) -> Outcome {
     Ok(true)
 }
 
+/// The flow of a file that is fit.
+fn fit(path: &Path) -> Result<Flow, String> {
+    flow::read(&load(path)?).map_err(|r| format!("refused {} at {}", r.number, r.place))
+}
+
+fn picture(path: &Path) -> Outcome {
+    let flow = fit(path)?;
+    let Some(masks) = sides::proved_masks(&flow.bytes()) else {
+        println!("{NO_STATES}");
+        return Ok(true);
+    };
+    let masks = masks.map_err(|r| format!("refused {} at {}", r.number, r.place))?;
+    print!("{}", dot::print(&flow, &masks));
+    Ok(true)
+}
+
+fn write_flow(from: &Path, to: &Path) -> Outcome {
+    let text = fs::read_to_string(from).map_err(|e| format!("{}: {e}", from.display()))?;
+    let flow = text::read(&text).map_err(|e| format!("{}, {e}", from.display()))?;
+    save(to, &flow.bytes()).map(|()| true)
+}
+
 fn time(path: &Path) -> Outcome {
-    let flow = flow::read(&load(path)?).map_err(|r| format!("refused {} at {}", r.number, r.place))?;
+    let flow = fit(path)?;
     let Some([mut masks, mut live]) = sides::original_runs(&flow) else {
         println!("{NO_ORIGINAL}");
         return Ok(true);
@@ -131,8 +164,10 @@ fn write_store() -> Outcome {
     let cases = store::cases();
     let bytes = store::bytes(&cases)?;
     save(&root().join(store::PLACE), &bytes)?;
-    for worked in cases::worked() {
-        save(&root().join("examples").join(format!("{}.flow", worked.name)), &worked.flow.bytes())?;
+    let examples = root().join("examples");
+    save(&examples.join("refused.flow"), &cases::refused())?;
+    for path in files(&examples)?.iter().filter(|path| path.extension().is_some_and(|e| e == "txt")) {
+        write_flow(path, &path.with_extension("flow"))?;
     }
     println!("{} cases, {} bytes", cases.len(), bytes.len());
     Ok(true)
@@ -174,9 +209,20 @@ fn run(words: &[&str]) -> Outcome {
             print!("{}", listing::listing(&load(Path::new(path))?));
             Ok(true)
         }
+        ["text", path] => {
+            print!("{}", text::print(&fit(Path::new(path))?));
+            Ok(true)
+        }
+        ["dot", path] => picture(Path::new(path)),
+        ["flow", from, path] => write_flow(Path::new(from), Path::new(path)),
         ["bench-reader"] => Ok(bench::readers()),
         ["bench"] => Ok(bench::whole_call()),
-        ["worst", rounds, seed] => Ok(worst::search(number(rounds)?, number(seed)?)),
+        ["worst", seconds, seed] => worst::search(number(seconds)?, number(seed)?),
+        ["worst-again"] => worst::again(),
+        ["worst-file", which, path] => {
+            let file = worst::stored_file(number(which)? as usize).ok_or("there is no such recipe")?;
+            save(Path::new(path), &file).map(|()| true)
+        }
         _ => Err(USAGE.into()),
     }
 }

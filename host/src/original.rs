@@ -12,6 +12,7 @@ use crate::ir::{DimSpec, Line, Module, Stmt};
 
 #[allow(dead_code)]
 mod dataflow {
+    use std::cell::RefCell;
     use std::collections::{HashMap, HashSet, VecDeque};
 
     use crate::ast::VarName;
@@ -20,6 +21,71 @@ mod dataflow {
     use crate::ir::{Module, Stmt};
 
     include!(concat!(env!("OUT_DIR"), "/dataflow.rs"));
+
+    /// An analysis whose visits are counted by number: the solver calls `transfer` once a visit.
+    struct Counted<'a, D> {
+        analysis: &'a D,
+        visits: RefCell<Vec<u64>>,
+    }
+
+    impl<D: DataflowAnalysis> DataflowAnalysis for Counted<'_, D> {
+        type Lattice = D::Lattice;
+        fn direction(&self) -> Direction {
+            self.analysis.direction()
+        }
+        fn boundary(&self) -> D::Lattice {
+            self.analysis.boundary()
+        }
+        fn transfer(
+            &self,
+            module: &Module,
+            cfg: &Cfg,
+            node: &CfgNode,
+            id: usize,
+            masks: &D::Lattice,
+        ) -> D::Lattice {
+            self.visits.borrow_mut()[id] += 1;
+            self.analysis.transfer(module, cfg, node, id, masks)
+        }
+        fn transfer_per_successor(
+            &self,
+            module: &Module,
+            cfg: &Cfg,
+            node: &CfgNode,
+            id: usize,
+            masks: &D::Lattice,
+        ) -> Option<Vec<D::Lattice>> {
+            self.analysis.transfer_per_successor(module, cfg, node, id, masks)
+        }
+        fn widen(&self, before: &D::Lattice, joined: &D::Lattice) -> D::Lattice {
+            self.analysis.widen(before, joined)
+        }
+        fn freeze(&self, before: &D::Lattice, joined: &D::Lattice) -> D::Lattice {
+            self.analysis.freeze(before, joined)
+        }
+    }
+
+    fn index(arrays: &[VarName]) -> HashMap<VarName, usize> {
+        arrays.iter().cloned().zip(0..).collect()
+    }
+
+    /// The edges and the visits of each doubled number, in one run of what `array_states` does.
+    pub fn doubled(module: &Module, arrays: &[VarName]) -> (Vec<Vec<usize>>, Vec<u64>) {
+        let (index, refs) = (index(arrays), array_states(module, &module.cfg, arrays).refs);
+        let (graph, calls) = summarize_calls(module, &module.cfg, &index, &refs);
+        let analysis = ArrayStateFlow { index: &index, refs: &refs, calls: &calls };
+        let counted = Counted { analysis: &analysis, visits: RefCell::new(vec![0; graph.nodes.len()]) };
+        solve(module, &graph, &counted);
+        (graph.nodes.into_iter().map(|node| node.successors).collect(), counted.visits.into_inner())
+    }
+
+    /// What bodies touch and whether they are opaque, entered in this order.
+    pub fn bodies(module: &Module, arrays: &[VarName], entries: &[usize]) -> Vec<(Vec<usize>, bool)> {
+        let (index, refs) = (index(arrays), array_states(module, &module.cfg, arrays).refs);
+        let mut memo = HashMap::new();
+        let mut effect = |e: &usize| sub_effect(module, &module.cfg, &index, &refs, *e, &mut memo);
+        entries.iter().map(|e| effect(e)).map(|effect| (effect.touched, effect.opaque)).collect()
+    }
 
     pub fn live_sets(module: &Module) -> Vec<(HashSet<VarName>, HashSet<VarName>)> {
         let flow = LiveVarsFlow { fns: FnBodyReads::build(module), for_vars: for_loop_vars(module) };
@@ -109,6 +175,18 @@ impl Original {
     pub fn array_states(&self) -> Vec<Vec<u8>> {
         given::hand_back(&self.module, &self.lists);
         dataflow::array_states(&self.module, &self.module.cfg, &self.arrays).per_node
+    }
+
+    /// The edges and the visits of each doubled number.
+    pub fn doubled(&self) -> (Vec<Vec<usize>>, Vec<u64>) {
+        given::hand_back(&self.module, &self.lists);
+        dataflow::doubled(&self.module, &self.arrays)
+    }
+
+    /// What bodies touch and whether they are opaque, where they are entered in this order.
+    pub fn bodies(&self, entries: &[usize]) -> Vec<(Vec<usize>, bool)> {
+        given::hand_back(&self.module, &self.lists);
+        dataflow::bodies(&self.module, &self.arrays, entries)
     }
 
     /// Live-in and live-out of each statement, as the original's sets.

@@ -69,3 +69,17 @@ pub fn proved_states(file: &[u8], areas: &mut Areas) -> Option<Answer> {
 pub fn proved_states(_: &[u8], _: &mut Areas) -> Option<Answer> {
     None
 }
+
+/// The masks of a file by the safe wrapper, statement by statement.
+#[cfg(proved_states)]
+pub fn proved_masks(file: &[u8]) -> Option<Result<Vec<u8>, Refusal>> {
+    let masks = |states: crate::door::FlowStates| {
+        (0..states.statements()).flat_map(|i| states.masks_of(i).to_vec()).collect()
+    };
+    Some(crate::door::states(file).map(masks))
+}
+
+#[cfg(not(proved_states))]
+pub fn proved_masks(_: &[u8]) -> Option<Result<Vec<u8>, Refusal>> {
+    None
+}

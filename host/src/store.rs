@@ -57,7 +57,10 @@ fn random_cases() -> Vec<Case> {
 pub fn cases() -> Vec<Case> {
     let worked = cases::steps().into_iter().chain(cases::worked());
     let worked: Vec<Case> = worked.map(|w| Case::new(w.name, w.flow.bytes(), 1)).collect();
-    [worked, cases::refusals(), random_cases()].concat()
+    let differences = cases::differences().into_iter().map(|(name, flow)| (name, flow.bytes()));
+    let differences = differences.chain([("refused", cases::refused())]);
+    let differences = differences.map(|(name, file)| Case::new(name, file, 1)).collect();
+    [worked, cases::refusals(), random_cases(), differences].concat()
 }
 
 /// The right answer to a case; an error where original and answerer part.

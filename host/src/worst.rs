@@ -1,270 +1,394 @@
 //! A search for the file that takes the proved call longest: families of flows that each drive
-//! one part of it to its limit, with knobs that are turned while the time grows.
+//! one part of it to its limit, with knobs that are turned while the time grows. A file is made
+//! again from its recipe (family, knobs, seed), so only recipes are stored, in `worst.txt`.
 
+use std::fmt;
 use std::path::PathBuf;
 use std::time::{Duration, Instant};
 
-use crate::flow::{Flow, Kind, MAX_ARRAYS, MAX_STATEMENTS, Statement};
+use crate::flow::{Flow, Kind, MAX_ARRAYS, MAX_FILE, MAX_STATEMENTS, Statement};
 use crate::judge::Lent;
 use crate::random::Random;
-use crate::{answerer, flow, sides};
+use crate::sides;
 
 const N: usize = MAX_STATEMENTS as usize;
+const ARRAYS: usize = MAX_ARRAYS as usize;
+/// The longest list that a count of one byte allows.
+const LONGEST: usize = 255;
+const LIMIT: Duration = Duration::from_secs(2);
 
-#[derive(Clone, Copy, Debug)]
+#[derive(Clone, Copy, Debug, PartialEq, Eq)]
 enum Family {
-    /// Many RETURNs that go to many continuations, reached by one change of a mask after another.
+    /// Many RETURNs that go to many continuations, of opaque calls with long lists of lines.
     Returns,
     /// Many bodies that walk the same dense graph.
     Bodies,
-    /// Many bodies that walk through the same calls of long lists of lines.
+    /// Opaque calls with long lists of lines, each of another body.
     Calls,
-    /// A dense graph without calls, reached by one change after another.
+    /// Calls that are not opaque, with long lists of lines, reached in both copies.
+    Clear,
+    /// A dense graph without calls.
     Dense,
 }
 
-const FAMILIES: [Family; 4] = [Family::Returns, Family::Bodies, Family::Calls, Family::Dense];
+const FAMILIES: [Family; 5] = [Family::Returns, Family::Bodies, Family::Calls, Family::Clear, Family::Dense];
 
-/// What may be turned.
-#[derive(Clone, Copy, Debug)]
-struct Knobs {
-    /// How the statements are shared out, in parts of 64.
-    share: usize,
-    /// Statements between two changes.
-    gap: usize,
-    /// Successors or lines a statement.
-    fan: usize,
-    /// 0: edges go on; 1: edges go back; else: edges go anywhere.
-    direction: usize,
+// ----- Recipes ------------------------------------------------------------
+
+/// What may be turned, each from 0 to 64; a family says what it makes of them.
+type Knobs = [usize; 4];
+const TURNS: usize = 64;
+
+#[derive(Clone, Copy, Debug, PartialEq, Eq)]
+struct Recipe {
+    family: Family,
+    knobs: Knobs,
+    seed: u64,
 }
 
-impl Knobs {
-    fn any(random: &mut Random) -> Knobs {
-        Knobs {
-            share: random.within(1, 63),
-            gap: random.within(1, 12),
-            fan: random.within(1, 64),
-            direction: random.below(3),
-        }
+impl fmt::Display for Recipe {
+    fn fmt(&self, f: &mut fmt::Formatter) -> fmt::Result {
+        let Recipe { family, knobs: [a, b, c, d], seed } = self;
+        write!(f, "{family:?} {a} {b} {c} {d} {seed}")
+    }
+}
+
+impl Recipe {
+    fn read(text: &str) -> Option<Recipe> {
+        let mut words = text.split(' ');
+        let name = words.next()?;
+        let family = FAMILIES.into_iter().find(|family| format!("{family:?}") == name)?;
+        let mut numbers = words.map(|word| word.parse::<u64>().ok());
+        let mut next = || numbers.next().flatten();
+        let knobs = [next()?, next()?, next()?, next()?].map(|knob| knob as usize);
+        let seed = next()?;
+        numbers.next().is_none().then_some(Recipe { family, knobs, seed })
     }
 
-    fn turned(mut self, random: &mut Random) -> Knobs {
-        let turn = |random: &mut Random, value: usize, high: usize| {
-            let step = random.within(1, 1 + high / 8);
-            (if random.once_in(2) { value + step } else { value.saturating_sub(step) }).clamp(1, high)
-        };
-        match random.below(4) {
-            0 => self.share = turn(random, self.share, 63),
-            1 => self.gap = turn(random, self.gap, 12),
-            2 => self.fan = turn(random, self.fan, 255),
-            _ => self.direction = random.below(3),
-        }
+    fn turned(mut self, random: &mut Random) -> Recipe {
+        let knob = &mut self.knobs[random.below(4)];
+        let step = random.within(1, 12);
+        *knob = (if random.once_in(2) { *knob + step } else { knob.saturating_sub(step) }).min(TURNS);
+        self.seed = random.next() % 1_000;
         self
     }
 
-    /// Some statement of `low..high`, as the direction says.
-    fn target(self, random: &mut Random, low: usize, high: usize, i: usize) -> u16 {
-        let (low, high) = match self.direction {
-            0 if i + 1 < high => (i + 1, high),
-            1 if i > low => (low, i),
-            _ => (low, high),
-        };
-        random.within(low, high - 1) as u16
+    fn any(family: Family, random: &mut Random) -> Recipe {
+        let knobs = [0; 4].map(|_| random.below(TURNS + 1));
+        Recipe { family, knobs, seed: random.next() % 1_000 }
+    }
+
+    fn file(self) -> Vec<u8> {
+        let random = &mut Random::new(self.seed, self.family as u64);
+        match self.family {
+            Family::Returns => returns(self.knobs),
+            Family::Bodies => bodies(self.knobs, random),
+            Family::Calls => calls(self.knobs, random),
+            Family::Clear => clear(self.knobs, random),
+            Family::Dense => dense(self.knobs, random),
+        }
+        .bytes()
     }
 }
+
+// ----- Flows --------------------------------------------------------------
 
 fn line(i: usize) -> u16 {
     10 + 10 * i as u16
 }
 
-/// A line of statements that changes the masks at `to` one state of one array at a time.
-fn changes(length: usize, gap: usize, to: usize) -> Vec<Statement> {
+/// A part of `whole`, at least 1.
+fn part(whole: usize, knob: usize) -> usize {
+    (whole * knob / TURNS).max(1)
+}
+
+/// The states that each array may gain, over all arrays.
+const CHANGES: usize = 2 * ARRAYS;
+
+/// Statements that bring every state of every array to `to`, one after the other.
+fn changes(to: usize) -> Vec<Statement> {
     let statement = |i: usize| {
-        let (step, acts) = (i / gap, i % gap == 0);
-        let array = (step % usize::from(MAX_ARRAYS)) as u8;
-        let refers = acts && step < usize::from(MAX_ARRAYS);
-        let kind = if acts && !refers { Kind::Dim(vec![(array, 1)]) } else { Kind::Other };
-        let next = if i + 1 < length { i + 1 } else { to };
-        let references = if refers { vec![array] } else { Vec::new() };
-        Statement::new(line(i), kind, &[next as u16, to as u16], &references)
-    };
-    (0..length).map(statement).collect()
-}
-
-/// How many statements a line of all changes has, within a quarter of the flow.
-fn line_length(gap: usize) -> usize {
-    (2 * usize::from(MAX_ARRAYS) * gap).min(N / 4)
-}
-
-fn returns(knobs: Knobs) -> Flow {
-    let entry = line_length(knobs.gap);
-    let rest = N - entry - 1;
-    let calls = rest * knobs.share / 64;
-    let spread = (rest - calls) / (knobs.fan + 1);
-    let first_return = entry + 1 + spread;
-    let first_call = first_return + spread * knobs.fan;
-    let mut statements = changes(entry, knobs.gap, entry);
-    let opens = Kind::Dim(vec![(0, 0)]);
-    statements.push(Statement::new(line(entry), opens, &[entry as u16 + 1], &[]));
-    for k in 0..spread {
-        let i = entry + 1 + k;
-        let from = first_return + k * knobs.fan;
-        let mut successors: Vec<u16> = (from..from + knobs.fan).map(|r| r as u16).take(254).collect();
-        successors.extend((k + 1 < spread).then_some(i as u16 + 1));
-        statements.push(Statement::new(line(i), Kind::Other, &successors, &[]));
-    }
-    for i in first_return..first_call {
-        statements.push(Statement::new(line(i), Kind::Return, &[], &[]));
-    }
-    for i in first_call..N {
-        let next = if i + 1 < N { i + 1 } else { first_call };
-        let kind = Kind::Gosub { line: line(entry), continuation: Some(next as u16) };
-        let successors: &[u16] = if knobs.direction == 0 { &[] } else { &[entry as u16] };
-        statements.push(Statement::new(line(i), kind, successors, &[]));
-    }
-    Flow { arrays: MAX_ARRAYS, names: 64, entry: 0, statements, lines: vec![(line(entry), entry as u16)] }
-}
-
-fn bodies(knobs: Knobs, random: &mut Random) -> Flow {
-    let entered = N * knobs.share / 64;
-    let callers = entered.div_ceil(255);
-    let statement = |i: usize| {
-        if i < callers {
-            let lines = (0..255).map(|k| line(callers + (255 * i + k) % (N - callers))).collect();
-            let next = i as u16 + 1;
-            let kind = Kind::OnGosub { lines, continuation: Some(next) };
-            return Statement::new(line(i), kind, &[next], &[]);
-        }
-        let successors: Vec<u16> = (0..knobs.fan).map(|_| knobs.target(random, callers, N, i)).collect();
-        Statement::new(line(i), Kind::Other, &successors, &[])
-    };
-    let statements = (0..N).map(statement).collect();
-    let lines = (callers..N).map(|i| (line(i), i as u16)).collect();
-    Flow { arrays: MAX_ARRAYS, names: 64, entry: 0, statements, lines }
-}
-
-fn calls(knobs: Knobs, random: &mut Random) -> Flow {
-    let callers = N * knobs.share / 64;
-    let statement = |i: usize| {
-        let next = (i + 1) as u16;
-        if i < callers {
-            let lines = (0..knobs.fan).map(|_| line(knobs.target(random, 0, N, i).into())).collect();
-            let kind = Kind::OnGosub { lines, continuation: Some(next) };
-            return Statement::new(line(i), kind, &[next], &[(i % 64) as u8]);
-        }
-        match i + 1 == N || i % 16 == 0 {
-            true => Statement::new(line(i), Kind::Return, &[], &[]),
-            false => Statement::new(line(i), Kind::Other, &[next], &[(i % 64) as u8]),
-        }
-    };
-    let statements = (0..N).map(statement).collect();
-    let lines = (0..N).map(|i| (line(i), i as u16)).collect();
-    Flow { arrays: MAX_ARRAYS, names: 64, entry: 0, statements, lines }
-}
-
-fn dense(knobs: Knobs, random: &mut Random) -> Flow {
-    let start = line_length(knobs.gap);
-    let mut statements = changes(start, knobs.gap, start);
-    for i in start..N {
-        let successors: Vec<u16> = (0..knobs.fan).map(|_| knobs.target(random, start, N, i)).collect();
-        let mut s = Statement::new(line(i), Kind::Other, &successors, &[]);
-        s.read = 1 << (i % 64);
-        statements.push(s);
-    }
-    Flow { arrays: MAX_ARRAYS, names: 64, entry: 0, statements, lines: Vec::new() }
-}
-
-fn build(family: Family, knobs: Knobs, random: &mut Random) -> Vec<u8> {
-    match family {
-        Family::Returns => returns(knobs),
-        Family::Bodies => bodies(knobs, random),
-        Family::Calls => calls(knobs, random),
-        Family::Dense => dense(knobs, random),
-    }
-    .bytes()
-}
-
-/// A file that is accepted, how long the call takes, and its visits.
-struct Found {
-    knobs: Knobs,
-    file: Vec<u8>,
-    time: Duration,
-    visits: u64,
-}
-
-fn measure(knobs: Knobs, file: Vec<u8>) -> Option<Found> {
-    let mut areas = Lent::for_file(&file, 0).areas();
-    let start = Instant::now();
-    let answer = sides::proved_states(&file, &mut areas)?;
-    let time = start.elapsed();
-    (answer.number == 0).then_some(Found { knobs, file, time, visits: answer.visits })
-}
-
-/// Climbs for some rounds from the best of a few starts.
-fn climb(family: Family, rounds: u64, random: &mut Random) -> Option<Found> {
-    let mut best: Option<Found> = None;
-    for round in 0..rounds {
-        let knobs = match &best {
-            Some(found) if round > rounds / 4 => found.knobs.turned(random),
-            _ => Knobs::any(random),
+        let array = (i % ARRAYS) as u8;
+        let (kind, references) = match i < ARRAYS {
+            true => (Kind::Other, vec![array]),
+            false => (Kind::Dim(vec![(array, 1)]), vec![]),
         };
-        let file = build(family, knobs, random);
-        if let Some(found) = measure(knobs, file)
-            && best.as_ref().is_none_or(|best| found.time > best.time)
-        {
-            best = Some(found);
+        let next = if i + 1 < CHANGES { i + 1 } else { to };
+        // `to` waits before the next change is made, so that no two changes reach it at once.
+        Statement::new(line(i), kind, &[to as u16, next as u16], &references)
+    };
+    (0..CHANGES).map(statement).collect()
+}
+
+fn flow(statements: Vec<Statement>, lines: Vec<(u16, u16)>) -> Flow {
+    Flow { arrays: MAX_ARRAYS, names: 64, entry: 0, statements, lines }
+}
+
+/// How many more entries of `width` bytes each of `count` lists may have, by the knob.
+fn room(flow: &Flow, count: usize, width: usize, knob: usize) -> usize {
+    let bytes = MAX_FILE.saturating_sub(flow.bytes().len());
+    (bytes / width / count * knob / TURNS).min(LONGEST)
+}
+
+fn call(i: usize, lines: Vec<u16>, continuation: usize) -> Statement {
+    let kind = Kind::OnGosub { lines, continuation: Some(continuation as u16) };
+    Statement::new(line(i), kind, &[], &[])
+}
+
+/// More lines for the calls of a range, each some statement of `entered`.
+fn more_lines(flow: &mut Flow, calls: std::ops::Range<usize>, each: usize, mut entered: impl FnMut() -> u16) {
+    for i in calls {
+        if let Kind::OnGosub { lines, .. } = &mut flow.statements[i].kind {
+            let more = each.min(LONGEST - lines.len());
+            lines.extend((0..more).map(|_| entered()));
         }
     }
+}
+
+/// Knobs: the share of calls, the length of their lists, how many bodies they enter, and whether
+/// the bodies walk through the calls. Every body walks on to all RETURNs.
+fn returns([share, fill, entered, walked]: Knobs) -> Flow {
+    let entered = CHANGES..CHANGES + part(LONGEST, entered);
+    let opens = entered.end;
+    let rest = N - opens - 1;
+    let calls = part(rest, share).min(rest - 16);
+    let spread = (rest - calls).div_ceil(LONGEST);
+    let (first_return, first_call) = (opens + 1 + spread, N - calls);
+    let mut statements = changes(CHANGES);
+    statements.extend(entered.clone().map(ordinary));
+    statements.push(Statement::new(line(opens), Kind::Dim(vec![(0, 0)]), &[opens as u16 + 1], &[]));
+    for k in 0..spread {
+        let from = first_return + k * (LONGEST - 1);
+        let to = (from + LONGEST - 1).min(first_call);
+        let mut successors: Vec<u16> = (from..to).map(|r| r as u16).collect();
+        let next = if k + 1 < spread { opens + 2 + k } else { first_call };
+        successors.extend((k + 1 < spread || walked > TURNS / 2).then_some(next as u16));
+        statements.push(Statement::new(line(opens + 1 + k), Kind::Other, &successors, &[]));
+    }
+    statements.extend((first_return..first_call).map(|i| Statement::new(line(i), Kind::Return, &[], &[])));
+    let continuation = |i: usize| if i + 1 < N { i + 1 } else { first_call };
+    statements.extend((first_call..N).map(|i| call(i, vec![line(CHANGES)], continuation(i))));
+    let mut flow = flow(statements, entered.clone().map(|i| (line(i), i as u16)).collect());
+    let each = room(&flow, calls, 2, fill);
+    let mut turns = entered.cycle();
+    more_lines(&mut flow, first_call..N, each, || line(turns.next().unwrap()));
+    flow
+}
+
+/// Some statement of `low..high`: by the knob after `i`, before it, or anywhere.
+fn target(random: &mut Random, low: usize, high: usize, i: usize, direction: usize) -> u16 {
+    let (low, high) = match direction {
+        0..22 if i + 1 < high => (i + 1, high),
+        22..43 if i > low => (low, i),
+        _ => (low, high),
+    };
+    random.within(low, high - 1) as u16
+}
+
+/// A dense graph of the statements from `start` on, with references, in what room there is.
+fn densify(flow: &mut Flow, start: usize, [fill, referred, direction]: [usize; 3], random: &mut Random) {
+    let count = N - start;
+    let references: Vec<u8> = (0..room(flow, count, 1, referred).min(ARRAYS)).map(|a| a as u8).collect();
+    for s in &mut flow.statements[start..] {
+        s.references = references.clone();
+    }
+    let each = room(flow, count, 2, fill);
+    for i in start..N {
+        let s = &mut flow.statements[i];
+        s.successors.extend((s.successors.len()..each).map(|_| target(random, start, N, i, direction)));
+        s.read = 1 << (i % 64);
+    }
+}
+
+fn ordinary(i: usize) -> Statement {
+    Statement::new(line(i), Kind::Other, &[(i + 1).min(N - 1) as u16], &[])
+}
+
+/// Knobs: the share of entered statements, successors, references, and where edges go.
+fn bodies([share, fill, referred, direction]: Knobs, random: &mut Random) -> Flow {
+    let start = CHANGES + N.div_ceil(LONGEST);
+    let entered = part(N - start, share);
+    let mut statements = changes(CHANGES);
+    for k in CHANGES..start {
+        let first = start + LONGEST * (k - CHANGES);
+        let lines = (first..(first + LONGEST).min(start + entered)).map(line).collect();
+        statements.push(call(k, lines, k + 1));
+    }
+    statements.extend((start..N).map(ordinary));
+    let mut flow = flow(statements, (start..start + entered).map(|i| (line(i), i as u16)).collect());
+    densify(&mut flow, start, [fill, referred, direction], random);
+    flow
+}
+
+/// Knobs: the share of calls, the length of their lists, how many lines there are, and where
+/// they lead.
+fn calls([share, fill, known, direction]: Knobs, random: &mut Random) -> Flow {
+    let calls = part(N - 1, share);
+    let statement = |i: usize| match i < calls {
+        true => call(i, vec![], i + 1),
+        false if i + 1 == N || i % 16 == 0 => Statement::new(line(i), Kind::Return, &[], &[]),
+        false => ordinary(i),
+    };
+    let known = part(N, known);
+    let statements = (0..N).map(statement).collect();
+    let mut flow = flow(statements, (0..known).map(|i| (line(i), i as u16)).collect());
+    let each = room(&flow, calls, 2, fill);
+    for i in 0..calls {
+        more_lines(&mut flow, i..i + 1, each, || line(target(random, 0, known, i, direction).into()));
+    }
+    flow
+}
+
+/// Knobs: the share of calls, the length of their lists, how many `FL` records there are (up to
+/// twice the statements), and how many arrays the bodies touch.
+fn clear([share, fill, known, touched]: Knobs, random: &mut Random) -> Flow {
+    let first_call = CHANGES + 2;
+    let calls = part(N - first_call - 2, share);
+    let end = first_call + calls;
+    let mut statements = changes(CHANGES);
+    let both = [CHANGES as u16 + 1, first_call as u16];
+    statements.push(Statement::new(line(CHANGES), Kind::Other, &both, &[]));
+    statements.push(call(CHANGES + 1, vec![0], end + 1));
+    statements.extend((first_call..end).map(|i| call(i, vec![], i + 1)));
+    let references: Vec<u8> = (0..part(ARRAYS, touched)).map(|a| a as u8).collect();
+    statements.push(Statement::new(line(end), Kind::Other, &[end as u16 + 1], &references));
+    statements.push(Statement::new(line(end + 1), Kind::Return, &[], &[]));
+    let known = part(2 * N, known);
+    let entered = |k: usize| (1 + k as u16, (end + k % 2) as u16);
+    let lines = [(0, first_call as u16)].into_iter().chain((0..known).map(entered)).collect();
+    let mut flow = flow(statements, lines);
+    let each = room(&flow, calls, 2, fill);
+    more_lines(&mut flow, first_call..end, each, || random.within(1, known) as u16);
+    flow
+}
+
+/// Knobs: successors, references, where edges go; the last is not used.
+fn dense([fill, referred, direction, _]: Knobs, random: &mut Random) -> Flow {
+    let statements = changes(CHANGES).into_iter().chain((CHANGES..N).map(ordinary)).collect();
+    let mut flow = flow(statements, Vec::new());
+    densify(&mut flow, CHANGES, [fill, referred, direction], random);
+    flow
+}
+
+// ----- The search ---------------------------------------------------------
+
+/// How long the call takes, the shortest of some runs, and its visits; `None` without the call.
+fn measure(file: &[u8], runs: usize) -> Option<(Duration, u64)> {
+    let mut areas = Lent::for_file(file, 0).areas();
+    let mut best = (Duration::MAX, 0);
+    for _ in 0..runs {
+        let start = Instant::now();
+        let answer = sides::proved_states(file, &mut areas)?;
+        assert_eq!(answer.number, 0, "a file of the search is refused");
+        best = best.min((start.elapsed(), answer.visits));
+    }
+    Some(best)
+}
+
+/// Turns the knobs of the best so far until the time is up: from the recipe given, or from the
+/// best of a few, with another start now and then.
+fn climb(
+    family: Family,
+    from: Option<Recipe>,
+    seconds: u64,
+    random: &mut Random,
+) -> Option<(Recipe, Duration)> {
+    let end = Instant::now() + Duration::from_secs(seconds);
+    let mut best: Option<(Recipe, Duration)> = None;
+    let mut tries = 0;
+    while Instant::now() < end || tries == 0 {
+        tries += 1;
+        let starts = from.is_none() && tries <= 8;
+        let recipe = match best {
+            Some((recipe, _)) if !starts && !random.once_in(8) => recipe.turned(random),
+            None if from.is_some() => from?,
+            _ => Recipe::any(family, random),
+        };
+        let file = recipe.file();
+        let (first, visits) = measure(&file, 1)?;
+        if best.is_some_and(|(_, time)| first <= time) {
+            continue;
+        }
+        // Once more, so that a busy machine does not pass for a bad file.
+        let time = first.min(measure(&file, 1)?.0);
+        if best.is_none_or(|(_, longest)| time > longest) {
+            println!("{recipe}: {time:.2?}, {visits} visits, {} bytes", file.len());
+            best = Some((recipe, time));
+        }
+    }
+    println!("  {tries} files of {family:?}");
     best
 }
 
-fn keep(family: Family, found: &Found) {
-    let flow = flow::read(&found.file).unwrap();
-    let (edges, return_edges) = answerer::edge_counts(&flow);
-    let Found { time, visits, knobs, file } = found;
-    println!("{family:?}: {time:.2?}, {visits} visits, {edges} edges, {return_edges} of RETURNs, {knobs:?}");
-    let folder = PathBuf::from(env!("CARGO_MANIFEST_DIR")).join("target/worst");
-    let path = folder.join(format!("{family:?}.flow").to_lowercase());
-    if let Err(e) = std::fs::create_dir_all(&folder).and_then(|()| std::fs::write(&path, file)) {
-        println!("  not kept: {e}");
-    } else {
-        println!("  {} bytes, kept as {}", file.len(), path.display());
-    }
+fn store() -> PathBuf {
+    PathBuf::from(env!("CARGO_MANIFEST_DIR")).join("worst.txt")
 }
 
-/// The worst file of each family, each to be answered in under 2 seconds.
-pub fn search(rounds: u64, seed: u64) -> bool {
-    if cfg!(not(proved_states)) {
-        println!("{}", sides::NO_STATES);
-        return true;
-    }
-    println!("seed {seed}, {rounds} rounds a family");
+fn stored() -> Vec<Recipe> {
+    let text = std::fs::read_to_string(store()).unwrap_or_default();
+    text.lines().filter_map(Recipe::read).collect()
+}
+
+/// Times the stored recipes; whether each is answered in under 2 seconds.
+pub fn again() -> Result<bool, String> {
     let mut longest = Duration::ZERO;
-    for family in FAMILIES {
-        if let Some(found) = climb(family, rounds, &mut Random::new(seed, family as u64)) {
-            keep(family, &found);
-            longest = longest.max(found.time);
-        }
+    for recipe in stored() {
+        let file = recipe.file();
+        let Some((time, visits)) = measure(&file, 3) else {
+            println!("{}", sides::NO_STATES);
+            return Ok(true);
+        };
+        println!("{recipe}: {time:.2?}, the shortest of 3 runs, {visits} visits, {} bytes", file.len());
+        longest = longest.max(time);
     }
     println!("longest {longest:.2?} (under 2 s)");
-    longest < Duration::from_secs(2)
+    Ok(longest < LIMIT)
+}
+
+/// The file of stored recipe `number`, from 0.
+pub fn stored_file(number: usize) -> Option<Vec<u8>> {
+    stored().get(number).map(|recipe| recipe.file())
+}
+
+/// Goes on from the stored recipe of each family, and stores the worst found.
+pub fn search(seconds: u64, seed: u64) -> Result<bool, String> {
+    println!("seed {seed}, {seconds} s a family");
+    let stored = stored();
+    let mut text = String::new();
+    for family in FAMILIES {
+        let from = stored.iter().copied().find(|recipe| recipe.family == family);
+        let Some((recipe, _)) = climb(family, from, seconds, &mut Random::new(seed, family as u64)) else {
+            println!("{}", sides::NO_STATES);
+            return Ok(true);
+        };
+        text += &format!("{recipe}\n");
+    }
+    std::fs::write(store(), text).map_err(|e| format!("{}: {e}", store().display()))?;
+    again()
 }
 
 #[cfg(test)]
 mod tests {
     use super::*;
 
-    /// A family whose files were all refused would search nothing.
+    /// A family whose files were refused would search nothing.
     #[test]
-    fn most_files_are_fit() {
+    fn files_are_fit() {
         let mut random = Random::new(1, 0);
         for family in FAMILIES {
-            let fit = (0..40).filter(|_| {
-                let knobs = Knobs::any(&mut random);
-                flow::read(&build(family, knobs, &mut random)).is_ok()
-            });
-            let count = fit.count();
-            assert!(count > 20, "{family:?}: {count} of 40");
+            for _ in 0..20 {
+                let recipe = Recipe::any(family, &mut random);
+                assert!(crate::flow::read(&recipe.file()).is_ok(), "{recipe}");
+            }
+        }
+    }
+
+    #[test]
+    fn recipes_are_read_back() {
+        let mut random = Random::new(2, 0);
+        for family in FAMILIES {
+            let recipe = Recipe::any(family, &mut random);
+            assert_eq!(Recipe::read(&recipe.to_string()), Some(recipe));
         }
     }
 }

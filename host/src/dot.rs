@@ -1,0 +1,67 @@
+//! A flow as a picture, in the language of Graphviz: a box a statement, with its masks.
+//!
+//! Plain arrows are listed successors, dashed blue ones go to the statements that a call enters,
+//! dotted red ones to its continuation. Unreached statements are grey.
+
+use std::fmt::{Display, Write};
+
+use crate::flow::{Flow, Kind};
+use crate::text;
+
+/// The most entries of a list that are shown.
+const SHOWN: usize = 8;
+
+fn shortened<T: Clone>(list: &[T]) -> Vec<T> {
+    list.iter().take(SHOWN).cloned().collect()
+}
+
+/// A kind as in the text of a flow, its long lists cut.
+fn kind(kind: &Kind) -> String {
+    let (short, length) = match kind {
+        Kind::Dim(items) => (Kind::Dim(shortened(items)), items.len()),
+        Kind::OnGosub { lines, continuation } => {
+            (Kind::OnGosub { lines: shortened(lines), continuation: *continuation }, lines.len())
+        }
+        _ => (kind.clone(), 0),
+    };
+    let more = if length > SHOWN { format!(" ({length} in all)") } else { String::new() };
+    text::kind(&short) + &more
+}
+
+fn node(flow: &Flow, i: usize, masks: &[u8]) -> String {
+    let s = &flow.statements[i];
+    let mut label = format!("{i}: line {}\\l{}\\l", s.line, kind(&s.kind));
+    if !s.references.is_empty() {
+        let references: String = s.references.iter().map(|array| format!(" {array}")).collect();
+        write!(label, "refs{references}\\l").unwrap();
+    }
+    let digits: String = masks.iter().map(|mask| char::from(b'0' + mask)).collect();
+    if !masks.is_empty() {
+        write!(label, "masks {digits}\\l").unwrap();
+    }
+    let unreached = !masks.is_empty() && masks.iter().all(|&mask| mask == 0);
+    let colour = if unreached { ", color=grey, fontcolor=grey" } else { "" };
+    format!("  {i} [label=\"{label}\"{colour}];\n")
+}
+
+fn edges<T: Display>(from: usize, to: impl IntoIterator<Item = T>, style: &str) -> String {
+    to.into_iter().map(|to| format!("  {from} -> {to}{style};\n")).collect()
+}
+
+/// The picture of a flow whose masks are these, statement by statement.
+pub fn print(flow: &Flow, masks: &[u8]) -> String {
+    let mut text = String::from("digraph flow {\n  node [shape=box, fontname=\"monospace\"];\n");
+    let arrays = usize::from(flow.arrays);
+    if !flow.statements.is_empty() {
+        write!(text, "  start [shape=plaintext];\n  start -> {};\n", flow.entry).unwrap();
+    }
+    for i in 0..flow.statements.len() {
+        text += &node(flow, i, &masks[i * arrays..(i + 1) * arrays]);
+    }
+    for (i, s) in flow.statements.iter().enumerate() {
+        text += &edges(i, &s.successors, "");
+        text += &edges(i, flow.entered(i), " [style=dashed, color=blue]");
+        text += &edges(i, s.continuation(), " [style=dotted, color=red]");
+    }
+    text + "}\n"
+}

@@ -1,0 +1,88 @@
+//! The flows of docs/DIFFERENCES.md: masks and live sets are the original's, and what differs
+//! from it is shown where it can be had from outside.
+
+use yarnuskel_host::answerer;
+use yarnuskel_host::cases;
+use yarnuskel_host::flow::{self, Refusal};
+use yarnuskel_host::judge::{self, Lent};
+use yarnuskel_host::sides::{NO_ORIGINAL, NO_STATES};
+
+#[test]
+fn masks_and_live_sets_are_the_originals() {
+    for (name, flow) in cases::differences() {
+        let file = flow.bytes();
+        let lent = Lent::for_file(&file, 0);
+        let right = judge::right(&file, lent);
+        match &right.original {
+            Some(original) => assert!(right.outcome.agrees(original), "{name}"),
+            None => println!("{NO_ORIGINAL}"),
+        }
+        match judge::proved_outcome(&file, lent) {
+            Some(outcome) => assert!(outcome == right.outcome, "{name} by the proved call"),
+            None => println!("{NO_STATES}"),
+        }
+    }
+}
+
+#[test]
+fn a_refused_file() {
+    let refusal = Refusal { number: 3, place: 0 };
+    assert_eq!(flow::read(&cases::refused()), Err(refusal));
+    if let Some(outcome) =
+        judge::proved_outcome(&cases::refused(), Lent { masks: 4, live_in: 4, live_out: 4, work: 256 })
+    {
+        assert_eq!(outcome.answer, refusal.into());
+    }
+}
+
+/// The queue rule's visits do not depend on the order of hash maps.
+#[test]
+fn visits_by_the_queue_rule() {
+    let visits: Vec<u64> =
+        cases::differences().iter().map(|(_, flow)| answerer::states(flow, None).visits).collect();
+    assert_eq!(visits, [8, 15, 211]);
+}
+
+#[cfg(original)]
+mod original {
+    use std::collections::BTreeSet;
+
+    use super::*;
+    use yarnuskel_host::flow::Flow;
+    use yarnuskel_host::original::Original;
+
+    fn named(name: &str) -> Flow {
+        cases::differences().into_iter().find(|case| case.0 == name).unwrap().1
+    }
+
+    /// Each run has hash maps with keys of its own, so that both orders come in some run.
+    #[test]
+    fn return_edges_come_in_either_order() {
+        let flow = named("return_order");
+        let run = |_| {
+            let (edges, visits) = Original::new(&flow).doubled();
+            (edges[7].clone(), visits.iter().sum())
+        };
+        let runs: BTreeSet<(Vec<usize>, u64)> = (0..100).map(run).collect();
+        println!("edges of the RETURN and visits: {runs:?}");
+        assert_eq!(runs, BTreeSet::from([(vec![2, 5], 8), (vec![5, 2], 10)]));
+    }
+
+    /// Bodies 2 and 5 call each other: what the Rust finds the second to touch is not complete.
+    #[test]
+    fn touched_arrays_on_a_cycle_depend_on_the_order() {
+        let original = Original::new(&named("call_cycle"));
+        let touched = |entries: [usize; 2]| original.bodies(&entries);
+        assert_eq!(touched([2, 5]), [(vec![0, 1], true), (vec![1], true)]);
+        assert_eq!(touched([5, 2]), [(vec![0, 1], true), (vec![0], true)]);
+    }
+
+    /// Without RETURN edges the visits are the same, past both thresholds.
+    #[test]
+    fn a_statement_visited_past_both_thresholds() {
+        let flow = named("many_visits");
+        let (_, visits) = Original::new(&flow).doubled();
+        assert_eq!(visits[70], 71);
+        assert_eq!(visits.iter().sum::<u64>(), answerer::states(&flow, None).visits);
+    }
+}

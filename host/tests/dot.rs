@@ -1,0 +1,71 @@
+//! The picture of a flow: its nodes and edges, and that it is well formed for every fit file.
+
+use std::collections::BTreeSet;
+
+use yarnuskel_host::answerer;
+use yarnuskel_host::flow::{self, Flow};
+use yarnuskel_host::{cases, dot, generate};
+
+fn picture(flow: &Flow) -> String {
+    dot::print(flow, &answerer::states(flow, None).masks)
+}
+
+/// The lines that name a node, and those that are edges, without what they are drawn with.
+fn parts(picture: &str) -> (Vec<&str>, Vec<&str>) {
+    let lines = picture.lines().filter_map(|line| line.strip_prefix("  ")).map(|line| {
+        let end = line.find(" [").unwrap_or(line.len() - 1);
+        (&line[..end], line)
+    });
+    let (edges, nodes): (Vec<_>, Vec<_>) = lines.partition(|(name, _)| name.contains("->"));
+    (nodes.into_iter().map(|(name, _)| name).collect(), edges.into_iter().map(|(_, line)| line).collect())
+}
+
+#[test]
+fn p5() {
+    let picture = picture(&cases::worked()[0].flow);
+    let (nodes, edges) = parts(&picture);
+    assert_eq!(nodes, ["node", "start", "0", "1", "2", "3"]);
+    let (enters, goes_on) = (" [style=dashed, color=blue];", " [style=dotted, color=red];");
+    let expected =
+        ["start -> 0;", "0 -> 2;", &format!("0 -> 2{enters}"), &format!("0 -> 1{goes_on}"), "2 -> 3;"];
+    assert_eq!(edges, expected);
+    for label in [
+        r#"0 [label="0: line 10\lGOSUB 30 then 1\lmasks 1\l"];"#,
+        r#"1 [label="1: line 20\lother\lrefs 0\lmasks 3\l"];"#,
+        r#"3 [label="3: line 40\lRETURN\lmasks 2\l"];"#,
+    ] {
+        assert!(picture.contains(label), "{label} in\n{picture}");
+    }
+}
+
+#[test]
+fn long_lists_are_cut_and_unreached_statements_grey() {
+    let lines = (0..200).collect();
+    let mut flow = cases::worked()[0].flow.clone();
+    flow.statements[1].kind = flow::Kind::OnGosub { lines, continuation: None };
+    flow.statements[2].successors.clear();
+    let picture = picture(&flow);
+    assert!(picture.contains("ON GOSUB 0 1 2 3 4 5 6 7 (200 in all)"), "{picture}");
+    assert!(picture.contains("masks 0\\l\", color=grey, fontcolor=grey];"), "{picture}");
+}
+
+#[test]
+fn random_flows_are_well_formed() {
+    let flows = (0..2_000).filter_map(|index| flow::read(&generate::file(4, index)).ok());
+    for flow in flows.filter(|flow| flow.statements.len() < 300) {
+        let picture = picture(&flow);
+        let count = |sign: char| picture.matches(sign).count();
+        assert_eq!((count('{'), count('}')), (1, 1));
+        assert_eq!(count('['), count(']'));
+        assert_eq!(count('"') % 2, 0);
+        let (nodes, edges) = parts(&picture);
+        let known: BTreeSet<&str> = nodes.into_iter().collect();
+        for edge in edges {
+            let mut ends = edge.trim_end_matches(';').split(" [").next().unwrap().split(" -> ");
+            assert!(ends.all(|end| known.contains(end)), "{edge}");
+        }
+        let (first, rest) = picture.split_once('\n').unwrap();
+        assert_eq!((first, rest.lines().last()), ("digraph flow {", Some("}")));
+        assert!(rest.lines().all(|line| line == "}" || line.ends_with(';')));
+    }
+}

@@ -1,0 +1,73 @@
+//! The flows under examples/: each is what its text makes, and is answered as its remark says.
+
+use std::path::{Path, PathBuf};
+
+use yarnuskel_host::judge::{self, Lent};
+use yarnuskel_host::sides::{NO_ORIGINAL, NO_STATES};
+use yarnuskel_host::{cases, flow, text};
+
+fn examples() -> PathBuf {
+    Path::new(env!("CARGO_MANIFEST_DIR")).parent().unwrap().join("examples")
+}
+
+fn named_texts() -> Vec<(String, String)> {
+    let paths = std::fs::read_dir(examples()).unwrap().map(|entry| entry.unwrap().path());
+    let texts = paths.filter(|path| path.extension().is_some_and(|e| e == "txt"));
+    let name = |path: &PathBuf| path.file_stem().unwrap().to_str().unwrap().to_string();
+    let mut texts: Vec<_> = texts.map(|p| (name(&p), std::fs::read_to_string(&p).unwrap())).collect();
+    texts.sort();
+    texts
+}
+
+fn stored(name: &str) -> Vec<u8> {
+    std::fs::read(examples().join(format!("{name}.flow"))).unwrap()
+}
+
+#[test]
+fn each_flow_is_what_its_text_makes() {
+    let texts = named_texts();
+    for (name, text) in &texts {
+        let flow = text::read(text).unwrap_or_else(|e| panic!("{name}.txt, {e}"));
+        assert!(stored(name) == flow.bytes(), "{name}.flow: run the command `store`");
+    }
+    assert!(stored("refused") == cases::refused());
+    let files = std::fs::read_dir(examples()).unwrap().map(|entry| entry.unwrap().path());
+    let flows = files.filter(|path| path.extension().is_some_and(|e| e == "flow")).count();
+    assert_eq!(flows, texts.len() + 1, "a flow without a text, besides refused.flow");
+}
+
+#[test]
+fn the_papers_flows_are_among_them() {
+    for worked in cases::worked() {
+        assert_eq!(flow::read(&stored(worked.name)), Ok(worked.flow), "{}", worked.name);
+    }
+}
+
+/// Statement by statement, a mask an array.
+const MASKS: [(&str, &[u8]); 5] = [
+    ("dim", &[1, 1, 1, 1, 4, 1, 5, 1]),
+    ("on_gosub", &[1, 1, 1, 1, 3, 3, 1, 1, 2, 1, 1, 1, 1, 2]),
+    ("opaque", &[1, 1, 4, 1, 1, 1, 4, 1, 1, 1, 4, 1]),
+    ("p5", &[1, 3, 1, 2]),
+    ("table", &[1, 1, 4, 1, 4, 3, 4, 3, 4, 3, 4, 3]),
+];
+
+#[test]
+fn answered_as_they_say() {
+    for (name, _) in named_texts() {
+        let file = stored(&name);
+        let lent = Lent::for_file(&file, 0);
+        let right = judge::right(&file, lent);
+        if let Some((_, masks)) = MASKS.iter().find(|(with, _)| *with == name) {
+            assert_eq!(right.outcome.areas.masks, *masks, "{name}");
+        }
+        match &right.original {
+            Some(original) => assert!(right.outcome.agrees(original), "{name} by the original"),
+            None => println!("{NO_ORIGINAL}"),
+        }
+        match judge::proved_outcome(&file, lent) {
+            Some(outcome) => assert!(outcome == right.outcome, "{name} by the proved call"),
+            None => println!("{NO_STATES}"),
+        }
+    }
+}
