@@ -1,6 +1,6 @@
 -- Flow files and how each is read: document 01's P5 and P10, and a file for each row of the refusal table that a small file can meet.
--- A file is put together from its records; numbers in it are below 256.
-use Prim.Native.Nat.{ℕ}
+-- A file is put together from its records.
+use Prim.Native.Nat.{ℕ, zero, suc, _+_, _/_, _%_, _^_}
 use mathlib.Core.List.{List, [], _∷_, _++_}
 use mathlib.Core.Option.{Option, none, some}
 use lib.ListN.{length}
@@ -11,23 +11,28 @@ use Rattle.flow.specs.Format.{Reading, accepted, refused}
 
 -- Records as bytes
 
+-- x in w bytes, the lowest first
+abbrev pub little : ℕ → ℕ → List ℕ
+little zero x = []
+little (suc w) x = x % 256 ∷ little w (x / 256)
+
 abbrev pub u16s : List ℕ → List ℕ
 u16s [] = []
-u16s (x ∷ xs) = x ∷ 0 ∷ u16s xs
+u16s (x ∷ xs) = little 2 x ++ u16s xs
 
 abbrev pub u64 : ℕ → List ℕ
-u64 x = x ∷ 0 ∷ 0 ∷ 0 ∷ 0 ∷ 0 ∷ 0 ∷ 0 ∷ []
+u64 = little 8
 
 abbrev pub FH : ℕ → ℕ → ℕ → ℕ → List ℕ
-FH n arrays names entry = 70 ∷ 72 ∷ n ∷ 0 ∷ arrays ∷ names ∷ entry ∷ 0 ∷ []
+FH n arrays names entry = 70 ∷ 72 ∷ u16s (n ∷ []) ++ (arrays ∷ names ∷ u16s (entry ∷ []))
 
 abbrev pub FN : ℕ → ℕ → List ℕ → List ℕ → ℕ → ℕ → List ℕ
 FN line kind successors references written read =
-    70 ∷ 78 ∷ line ∷ 0 ∷ kind ∷ length successors ∷ u16s successors
+    70 ∷ 78 ∷ u16s (line ∷ []) ++ (kind ∷ length successors ∷ u16s successors)
     ++ (length references ∷ references) ++ u64 written ++ u64 read
 
 abbrev pub FL : ℕ → ℕ → List ℕ
-FL line first = 70 ∷ 76 ∷ line ∷ 0 ∷ first ∷ 0 ∷ []
+FL line first = 70 ∷ 76 ∷ u16s (line ∷ first ∷ [])
 
 abbrev pub FE : List ℕ
 FE = 70 ∷ 69 ∷ []
@@ -61,6 +66,28 @@ p5 = record {
       ∷ record { number = 40; first = 3 } ∷ [];
 }
 
+-- numbers of more than one byte, name 63, several references and successors, CLR and RUN
+
+abbrev pub wideBytes : List ℕ
+wideBytes =
+    FH 2 3 64 1
+    ++ FN 300 2 (1 ∷ 0 ∷ 1 ∷ []) (0 ∷ 2 ∷ []) (2 ^ 63) 1
+    ++ FN 65535 3 [] [] 0 (2 ^ 63 + 2)
+    ++ FL 300 1 ++ FL 65535 0
+    ++ FE
+
+abbrev pub wide : Flow
+wide = record {
+  arrays = 3;
+  names = 64;
+  entry = 1;
+  statements =
+      record { line = 300; kind = F.Kind.clr; successors = 1 ∷ 0 ∷ 1 ∷ []; references = 0 ∷ 2 ∷ []; written = 2 ^ 63; read = 1 }
+      ∷ record { line = 65535; kind = F.Kind.run; successors = []; references = []; written = 0; read = 2 ^ 63 + 2 }
+      ∷ [];
+  lines = record { number = 300; first = 1 } ∷ record { number = 65535; first = 0 } ∷ [];
+}
+
 -- a flow of one statement of no name, line or successor
 abbrev pub alone : ℕ → F.Kind → Flow
 alone arrays kind = record {
@@ -87,35 +114,47 @@ one arrays names record′ = FH 1 arrays names 0 ++ record′
 abbrev pub readCases : List Case
 readCases =
     accept p5Bytes p5
+    ∷ accept wideBytes wide
     -- P10, and an entry that is not looked at
     ∷ accept (FH 0 64 64 9 ++ FE) (record { arrays = 64; names = 64; entry = 9; statements = []; lines = [] })
     -- the other kinds that have data
-    ∷ accept (one 2 0 (FN 10 4 [] [] 0 0 ++ (2 ∷ 1 ∷ 1 ∷ 0 ∷ 0 ∷ [])) ++ FE)
-    (alone 2 (F.Kind.dim (record { array = 1; flag = 1 } ∷ record { array = 0; flag = 0 } ∷ [])))
-    ∷ accept (one 0 0 (FN 10 6 [] [] 0 0 ++ (2 ∷ u16s (7 ∷ 8 ∷ [])) ++ (255 ∷ 255 ∷ [])) ++ FE) (alone 0 (F.Kind.onGosub (7 ∷ 8 ∷ []) none))
+    ∷ accept (one 2 0 (FN 10 4 [] [] 0 0 ++ (2 ∷ 1 ∷ 0 ∷ 0 ∷ 1 ∷ [])) ++ FE)
+    (alone 2 (F.Kind.dim (record { array = 1; flag = 0 } ∷ record { array = 0; flag = 1 } ∷ [])))
+    ∷ accept (one 0 0 (FN 10 5 [] [] 0 0 ++ u16s (300 ∷ 65535 ∷ [])) ++ FE) (alone 0 (F.Kind.gosub 300 none))
+    ∷ accept (one 0 0 (FN 10 6 [] [] 0 0 ++ (2 ∷ u16s (7 ∷ 300 ∷ 65535 ∷ []))) ++ FE) (alone 0 (F.Kind.onGosub (7 ∷ 300 ∷ []) none))
     -- 2: no mark, a wrong mark, a field past the end
     ∷ record { bytes = []; reading = refused (Record 0) }
+    ∷ record { bytes = FH 0 0 0 0 ++ (71 ∷ 69 ∷ []); reading = refused (Record 8) }
     ∷ record { bytes = FH 1 0 0 0 ++ FE; reading = refused (Record 8) }
     ∷ record { bytes = one 0 0 (70 ∷ 78 ∷ 10 ∷ []); reading = refused (Record 8) }
-    -- 3: 65 arrays, 65 names, the entry n
+    ∷ record { bytes = one 0 0 (FN 10 4 [] [] 0 0); reading = refused (Record 8) }
+    -- 3: 2,049 statements and not 2,048, 65 arrays, 65 names, the entry n, or 256
+    ∷ record { bytes = FH 2049 0 0 0; reading = refused (Header 0) }
+    ∷ record { bytes = FH 2048 0 0 0; reading = refused (Record 8) }
     ∷ record { bytes = FH 0 65 0 0 ++ FE; reading = refused (Header 0) }
     ∷ record { bytes = FH 0 0 65 0 ++ FE; reading = refused (Header 0) }
     ∷ record { bytes = FH 1 0 0 1; reading = refused (Header 0) }
+    ∷ record { bytes = FH 1 0 0 256; reading = refused (Header 0) }
     -- 4: kind 7, in a record that is short behind it; a flag of 2
     ∷ record { bytes = one 0 0 (70 ∷ 78 ∷ 10 ∷ 0 ∷ 7 ∷ []); reading = refused (Kind 8) }
     ∷ record { bytes = one 1 0 (FN 10 4 [] [] 0 0 ++ (1 ∷ 0 ∷ 2 ∷ [])) ++ FE; reading = refused (Kind 8) }
-    -- 5: a successor, a continuation and the statement of a line that are n
-    ∷ record { bytes = one 0 0 (FN 10 0 (1 ∷ []) [] 0 0) ++ FE; reading = refused (Target 8) }
+    -- 5: a successor, a continuation and the statement of a line that are n, or 256; a successor before a reference and before a line
+    ∷ record { bytes = one 0 0 (FN 10 0 (1 ∷ []) (0 ∷ []) 0 0) ++ FL 10 1 ++ FE; reading = refused (Target 8) }
+    ∷ record { bytes = one 0 0 (FN 10 0 (256 ∷ []) [] 0 0) ++ FE; reading = refused (Target 8) }
     ∷ record { bytes = one 0 0 (FN 10 5 [] [] 0 0 ++ u16s (7 ∷ 1 ∷ [])) ++ FE; reading = refused (Target 8) }
+    ∷ record { bytes = one 0 0 (FN 10 6 [] [] 0 0 ++ (1 ∷ u16s (7 ∷ 256 ∷ []))) ++ FE; reading = refused (Target 8) }
     ∷ record { bytes = FH 0 0 0 0 ++ FL 10 0 ++ FE; reading = refused (Target 8) }
-    -- 6: the array `arrays`, before the order of the next; the name bit `names`
+    ∷ record { bytes = one 0 0 (FN 10 0 [] [] 0 0) ++ FL 10 256 ++ FE; reading = refused (Target 31) }
+    -- 6: the array `arrays`, before the order of the next; the name bit `names`, before a flag; an item's array
     ∷ record { bytes = one 1 0 (FN 10 0 [] (1 ∷ 0 ∷ []) 0 0) ++ FE; reading = refused (Member 8) }
-    ∷ record { bytes = one 0 1 (FN 10 0 [] [] 2 0) ++ FE; reading = refused (Member 8) }
-    -- 7: a RETURN that refers to an array
-    ∷ record { bytes = one 1 0 (FN 10 1 [] (0 ∷ []) 0 0) ++ FE; reading = refused (ReturnReference 8) }
-    -- 8: references and lines that stay equal
+    ∷ record { bytes = one 1 1 (FN 10 4 [] [] 2 0 ++ (1 ∷ 0 ∷ 2 ∷ [])) ++ FE; reading = refused (Member 8) }
+    ∷ record { bytes = one 0 1 (FN 10 0 [] [] 0 2) ++ FE; reading = refused (Member 8) }
+    ∷ record { bytes = one 1 0 (FN 10 4 [] [] 0 0 ++ (1 ∷ 1 ∷ 0 ∷ [])) ++ FE; reading = refused (Member 8) }
+    -- 7: a RETURN that refers to an array, before a name
+    ∷ record { bytes = one 1 0 (FN 10 1 [] (0 ∷ []) 1 0) ++ FE; reading = refused (ReturnReference 8) }
+    -- 8: references and lines that stay equal; a line before its statement and before the end
     ∷ record { bytes = one 1 0 (FN 10 0 [] (0 ∷ 0 ∷ []) 0 0) ++ FE; reading = refused (Order 8) }
-    ∷ record { bytes = one 0 0 (FN 10 0 [] [] 0 0) ++ FL 10 0 ++ FL 10 0 ++ FE; reading = refused (Order 37) }
+    ∷ record { bytes = one 0 0 (FN 10 0 [] [] 0 0) ++ FL 10 0 ++ FL 10 1; reading = refused (Order 37) }
     -- 9: a byte after the end
     ∷ record { bytes = FH 0 0 0 0 ++ FE ++ (0 ∷ []); reading = refused (Trailing 10) }
     ∷ []

@@ -8,7 +8,7 @@ use mathlib.Core.Path.{_≡_}
 use Rattle.flow.specs.Flow.{Flow, Kind, Statement, Item, size, statement, enters}
 pub use Rattle.flow.specs.Flow.{callLines, continuation as continuationOf}
 use Rattle.theory.specs.Lists.{In, any, has, concatMap, optionList}
-use Rattle.theory.specs.Reach.{Reach, Reach⁺, reached}
+use Rattle.theory.specs.Reach.{Reach, reached}
 
 abbrev pub kind : Flow → ℕ → Kind
 kind f i = statement f i .kind

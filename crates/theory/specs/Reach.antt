@@ -11,10 +11,6 @@ pub data Reach (next : ℕ → List ℕ) (e : ℕ) : ℕ → Type 0 where
   here : Reach next e e
   on : {i j : ℕ} → Reach next e i → In j (next i) → Reach next e j
 
--- a walk of one or more steps
-pub data Reach⁺ (next : ℕ → List ℕ) (e : ℕ) : ℕ → Type 0 where
-  last : {i j : ℕ} → Reach next e i → In j (next i) → Reach⁺ next e j
-
 -- a worklist closure: what is still to be looked at, and what was seen
 unfoldable pub closure : ℕ → (ℕ → List ℕ) → List ℕ → List ℕ → List ℕ
 closure zero next seen todo = seen
