@@ -7,7 +7,7 @@ ghost use lib.Dec.{eqb};
 ghost use lib.ListN.{length, getD, drop};
 ghost use Rattle.words.specs.Row.{has, nextMember};
 ghost use Rattle.flow.specs.Flow.{enters};
-ghost use Rattle.flow.specs.Limits.{workWords};
+ghost use Rattle.flow.specs.Limits.{maxStatements, workWords};
 ghost use Rattle.flow.specs.Format.{flowOf};
 ghost use Rattle.flow.specs.Answers.{headerOf};
 ghost use Rattle.theory.specs.Lists.{optionList};
@@ -49,7 +49,7 @@ pub fn note_entered(file: &[u8], h: flow::Header, work: &mut [u64], i: usize)
 }
 
 pub fn clear_entered(work: &mut [u64], n: usize)
-    requires { ⌜ (0 < n) × (n ≤ 2048) × (workWords n ≤ length (now work)) ⌝ }
+    requires { ⌜ (0 < n) × (n ≤ maxStatements) × (workWords n ≤ length (now work)) ⌝ }
     ensures { λ _. ⌜ EmptyEntered (now (work .exit)) n × Keeps (enteredAt n) (waitingAt n) (now (work .entry)) (now (work .exit)) ⌝ }
 {
     words::clear(work, layout::entered(n), layout::row_words(n));
@@ -85,7 +85,7 @@ fn call_edge(
 
 // Whether the successor s of such a call is left out: it is the continuation, or entered.
 fn left_out(work: &[u64], n: usize, k: usize, s: usize) -> bool
-    requires { ⌜ (n ≤ 2048) × (waitingAt n ≤ length (now work)) × (s < n) ⌝ }
+    requires { ⌜ (n ≤ maxStatements) × (waitingAt n ≤ length (now work)) × (s < n) ⌝ }
     ensures { λ r. ⌜ r ≡ (eqb s k || eqb (has (now (work .entry)) (enteredAt n) s) 1) ⌝ }
 {
     if s == k {

@@ -7,6 +7,7 @@ ghost use lib.Dec.{eqb, ltb};
 ghost use lib.ListN.{length, getD, set};
 ghost use Rattle.flow.specs.Format.{flowOf};
 ghost use Rattle.flow.specs.Answers.{headerOf};
+ghost use Rattle.flow.specs.Limits.{maxStatements};
 ghost use Rattle.theory.specs.Doubled.{node};
 ghost use Rattle.statements.specs.Layout.{queueAt, visitedAt, grownAt, areaEnd};
 ghost use Rattle.statements.specs.Ready.{Ready, Keeps};
@@ -27,7 +28,7 @@ use statements::layout;
 
 // The row for an edge is pushed to its target.
 fn push_edge(work: &mut [u64], n: usize, queue: Queue, t: usize, continues: bool) -> Queue
-    requires { ⌜ (n ≤ 2048) × (areaEnd n ≤ length (now work)) × (t < 2 * n) × ((w : List ℕ) × Waits (now work) n queue w) ⌝ }
+    requires { ⌜ (n ≤ maxStatements) × (areaEnd n ≤ length (now work)) × (t < 2 * n) × ((w : List ℕ) × Waits (now work) n queue w) ⌝ }
     ensures { λ r. ⌜ Pushed (now (work .entry)) (now (work .exit)) n queue (edgeRow n continues) t r ⌝ }
 {
     if continues {
@@ -83,7 +84,7 @@ fn send(file: &[u8], h: flow::Header, work: &mut [u64], first: Queue, d: usize) 
 
 // d was visited, and its masks have not grown since.
 fn settled(work: &[u64], n: usize, d: usize) -> bool
-    requires { ⌜ (n ≤ 2048) × (areaEnd n ≤ length (now work)) × (d < 2 * n) ⌝ }
+    requires { ⌜ (n ≤ maxStatements) × (areaEnd n ≤ length (now work)) × (d < 2 * n) ⌝ }
     ensures { λ r. ⌜ r ≡ (eqb (getD (now (work .entry)) (visitedAt n + d) 0) 1 && eqb (getD (now (work .entry)) (grownAt n + d) 0) 0) ⌝ }
 {
     if work[layout::visited(n) + d] == 1 {
@@ -94,7 +95,7 @@ fn settled(work: &[u64], n: usize, d: usize) -> bool
 
 // The visit of d is noted: its masks are as last set.
 fn note_visit(work: &mut [u64], n: usize, d: usize)
-    requires { ⌜ (n ≤ 2048) × (areaEnd n ≤ length (now work)) × (d < 2 * n) ⌝ }
+    requires { ⌜ (n ≤ maxStatements) × (areaEnd n ≤ length (now work)) × (d < 2 * n) ⌝ }
     ensures { λ _. ⌜ now (work .exit) ≡ set (set (now (work .entry)) (visitedAt n + d) 1) (grownAt n + d) 0 ⌝ }
 {
     work[layout::visited(n) + d] = 1;

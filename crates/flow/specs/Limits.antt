@@ -21,6 +21,9 @@ maxKind = 6
 abbrev pub noContinuation : ℕ
 noContinuation = 65535
 
--- words of the work area for a flow of n statements
+-- words of the work area for each statement, and for a flow of n statements
+abbrev pub workPerStatement : ℕ
+workPerStatement = 64
+
 abbrev pub workWords : ℕ → ℕ
-workWords n = 64 * n
+workWords n = workPerStatement * n

@@ -15,6 +15,9 @@ pub const MAX_KIND: usize = 6;
 // A continuation with this value means none.
 pub const NO_CONTINUATION: usize = 65535;
 
+// Words of the work area for each statement.
+pub const WORK_PER_STATEMENT: usize = 64;
+
 // A statement's number, from 0 to n - 1.
 pub struct StmtId(pub usize);
 

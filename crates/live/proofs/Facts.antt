@@ -9,6 +9,7 @@ use lib.ListN.{length, getD}
 use lib.Pow.{pow-mono}
 use Rattle.flow.specs.Flow.{statement, size}
 use Rattle.flow.specs.Format.{flowOf}
+use Rattle.flow.specs.Limits.{maxStatements}
 use Rattle.records.proofs.Files.{limited}
 use Rattle.records.proofs.Statements.{size-is}
 use Rattle.theory.specs.Lists.{In}
@@ -29,7 +30,7 @@ unfolding rowWords
 row-room {n} {j} {row} e l fits = let in-matrix : rowAt n j + (n + 63) / 64 ≤ queueAt n = row-fits n l in omega arith
 
 module _ {s ws : List ℕ} {n : ℕ} (r : Ready s ws n) where
-  pub count-fits : n ≤ 2048
+  pub count-fits : n ≤ maxStatements
   count-fits = let h = limited (r .fit) .statements in let e = r .count in omega arith
 
   pub area-in : 0 < n → areaEnd n ≤ length ws

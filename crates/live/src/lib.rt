@@ -2,6 +2,7 @@
 ghost use mathlib.Core.List.{List, []};
 ghost use Prim.Native.Nat.{ℕ, _<_, _≤_};
 ghost use lib.ListN.{length};
+ghost use Rattle.flow.specs.Limits.{maxStatements};
 ghost use Rattle.flow.specs.Format.{flowOf};
 ghost use Rattle.statements.specs.Layout.{visitedAt};
 ghost use Rattle.statements.specs.Ready.{Ready};
@@ -38,7 +39,7 @@ fn push_to(
     i: usize,
     live: u64,
 ) -> Queue
-    requires { ⌜ (n ≤ 2048) × (visitedAt n ≤ length (now work)) × (n ≤ length (now «live_out»)) × (i < n) × ((w : List ℕ) × Waits (now work) n queue w) ⌝ }
+    requires { ⌜ (n ≤ maxStatements) × (visitedAt n ≤ length (now work)) × (n ≤ length (now «live_out»)) × (i < n) × ((w : List ℕ) × Waits (now work) n queue w) ⌝ }
     ensures { λ r. ⌜ PushedTo (now (work .entry)) (now (work .exit)) (now («live_out» .entry)) (now («live_out» .exit)) n queue r i live ⌝ }
 {
     if words::union_word(live_out, i, live) {
@@ -56,7 +57,7 @@ fn push_live(
     j: usize,
     live: u64,
 ) -> Queue
-    requires { ⌜ (n ≤ 2048) × (visitedAt n ≤ length (now work)) × (n ≤ length (now «live_out»)) × (j < n) × ((w : List ℕ) × Waits (now work) n start w) ⌝ }
+    requires { ⌜ (n ≤ maxStatements) × (visitedAt n ≤ length (now work)) × (n ≤ length (now «live_out»)) × (j < n) × ((w : List ℕ) × Waits (now work) n start w) ⌝ }
     ensures { λ r. ⌜ PushedLive (now (work .entry)) (now (work .exit)) (now («live_out» .entry)) (now («live_out» .exit)) n start r j live ⌝ }
 {
     let row = layout::row(n, j);

@@ -5,6 +5,7 @@ ghost use lib.Dec.{leb};
 ghost use Rattle.flow.specs.Format.{verdict, areaChecks};
 ghost use Rattle.flow.specs.Limits.{maxStatements, maxArrays};
 ghost use Rattle.flow.specs.Fields.{isFit};
+use flow::WORK_PER_STATEMENT;
 
 // An area that must have `need` elements is long enough.
 pub fn area_fits(need: usize, have: usize) -> bool
@@ -34,5 +35,5 @@ pub fn areas_fit(
     if !area_fits(n, live_out) {
         return false;
     }
-    area_fits(64 * n, work)
+    area_fits(WORK_PER_STATEMENT * n, work)
 }

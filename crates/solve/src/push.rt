@@ -2,6 +2,7 @@
 ghost use Prim.Native.Nat.{ℕ, _*_, _<_, _≤_};
 ghost use mathlib.Core.List.{List};
 ghost use lib.ListN.{length};
+ghost use Rattle.flow.specs.Limits.{maxStatements};
 ghost use Rattle.statements.specs.Layout.{grownAt, maskRows, areaEnd};
 ghost use Rattle.statements.specs.Ready.{Keeps};
 ghost use Rattle.solve.specs.Waiting.{Waits};
@@ -12,7 +13,7 @@ use statements::layout;
 
 // Row `from` is joined to the masks of d; if they grew, that is noted.
 fn grow(work: &mut [u64], n: usize, from: usize, d: usize)
-    requires { ⌜ (n ≤ 2048) × (areaEnd n ≤ length (now work)) × (d < 2 * n) × (2 * n ≤ from) × (from ≤ maskRows n) ⌝ }
+    requires { ⌜ (n ≤ maxStatements) × (areaEnd n ≤ length (now work)) × (d < 2 * n) × (2 * n ≤ from) × (from ≤ maskRows n) ⌝ }
     ensures { λ _. ⌜ Grown (now (work .entry)) (now (work .exit)) n from d × Keeps (grownAt n) (areaEnd n) (now (work .entry)) (now (work .exit)) ⌝ }
 {
     if words::union(
@@ -27,7 +28,7 @@ fn grow(work: &mut [u64], n: usize, from: usize, d: usize)
 
 // Row `from` is joined to the masks of d, and d waits afterwards.
 pub fn push(work: &mut [u64], n: usize, queue: Queue, from: usize, d: usize) -> Queue
-    requires { ⌜ (n ≤ 2048) × (areaEnd n ≤ length (now work)) × (d < 2 * n) × (2 * n ≤ from) × (from ≤ maskRows n) × ((w : List ℕ) × Waits (now work) n queue w) ⌝ }
+    requires { ⌜ (n ≤ maxStatements) × (areaEnd n ≤ length (now work)) × (d < 2 * n) × (2 * n ≤ from) × (from ≤ maskRows n) × ((w : List ℕ) × Waits (now work) n queue w) ⌝ }
     ensures { λ r. ⌜ Pushed (now (work .entry)) (now (work .exit)) n queue from d r ⌝ }
 {
     grow(work, n, from, d);

@@ -3,6 +3,7 @@ ghost use mathlib.Core.Path.{_≡_};
 ghost use mathlib.Core.List.{List};
 ghost use Prim.Native.Nat.{ℕ, _+_, _*_, _^_, _<_, _≤_};
 ghost use lib.ListN.{length};
+ghost use Rattle.flow.specs.Limits.{maxStatements};
 ghost use Rattle.statements.specs.Layout.{waitingAt, visitedAt};
 ghost use Rattle.solve.specs.Waiting.{wrapped, Waits, Enqueued, restOf, Taken};
 use crate::Queue;
@@ -16,7 +17,7 @@ fn wrap(i: usize, capacity: usize) -> usize
 
 // Where the word stands that says whether d waits: each copy of a statement has its own. The last bound says that the place is a usize.
 fn flag(n: usize, d: usize) -> usize
-    requires { ⌜ (n ≤ 2048) × (d < 2 * n) × (visitedAt n < 2 ^ 64) ⌝ }
+    requires { ⌜ (n ≤ maxStatements) × (d < 2 * n) × (visitedAt n < 2 ^ 64) ⌝ }
     ensures { λ r. ⌜ r ≡ waitingAt n + d ⌝ }
 {
     layout::waiting(n) + d
@@ -24,7 +25,7 @@ fn flag(n: usize, d: usize) -> usize
 
 // d joins the back unless it waits.
 pub fn enqueue(work: &mut [u64], n: usize, queue: Queue, d: usize) -> Queue
-    requires { ⌜ (n ≤ 2048) × (visitedAt n ≤ length (now work)) × (d < 2 * n) × ((w : List ℕ) × Waits (now work) n queue w) ⌝ }
+    requires { ⌜ (n ≤ maxStatements) × (visitedAt n ≤ length (now work)) × (d < 2 * n) × ((w : List ℕ) × Waits (now work) n queue w) ⌝ }
     ensures { λ r. ⌜ Enqueued (now (work .entry)) (now (work .exit)) n queue d r ⌝ }
 {
     let at = flag(n, d);
@@ -40,7 +41,7 @@ pub fn enqueue(work: &mut [u64], n: usize, queue: Queue, d: usize) -> Queue
 
 // The front, which waits no more.
 pub fn take(work: &mut [u64], n: usize, queue: Queue) -> usize
-    requires { ⌜ (n ≤ 2048) × (visitedAt n ≤ length (now work)) × (0 < queue .len) × ((w : List ℕ) × Waits (now work) n queue w) ⌝ }
+    requires { ⌜ (n ≤ maxStatements) × (visitedAt n ≤ length (now work)) × (0 < queue .len) × ((w : List ℕ) × Waits (now work) n queue w) ⌝ }
     ensures { λ r. ⌜ Taken (now (work .entry)) (now (work .exit)) n queue r ⌝ }
 {
     let head = queue.head;
@@ -51,7 +52,7 @@ pub fn take(work: &mut [u64], n: usize, queue: Queue) -> usize
 
 // What waits behind the front.
 pub fn rest(n: usize, queue: Queue) -> Queue
-    requires { ⌜ (n ≤ 2048) × (0 < queue .len) × (queue .head < 2 * n) ⌝ }
+    requires { ⌜ (n ≤ maxStatements) × (0 < queue .len) × (queue .head < 2 * n) ⌝ }
     ensures { λ r. ⌜ r ≡ restOf n queue ⌝ }
 {
     Queue {

@@ -2,6 +2,7 @@
 // solvers work with. Each phase writes one run of words.
 ghost use mathlib.Core.Path.{_≡_};
 ghost use Prim.Native.Nat.{_<_, _≤_};
+ghost use Rattle.flow.specs.Limits.{maxStatements};
 ghost use Rattle.statements.specs.Layout as at;
 
 // Words of a row of mask bytes.
@@ -9,7 +10,7 @@ pub const MASK_WORDS: usize = 8;
 
 // The state of each call with a continuation: clear or opaque.
 pub fn calls(n: usize) -> usize
-    requires { ⌜ n ≤ 2048 ⌝ }
+    requires { ⌜ n ≤ maxStatements ⌝ }
     ensures { λ r. ⌜ r ≡ at.callsAt n ⌝ }
 {
     n
@@ -17,7 +18,7 @@ pub fn calls(n: usize) -> usize
 
 // The arrays that each such call touches.
 pub fn call_touched(n: usize) -> usize
-    requires { ⌜ n ≤ 2048 ⌝ }
+    requires { ⌜ n ≤ maxStatements ⌝ }
     ensures { λ r. ⌜ r ≡ at.callTouchedAt n ⌝ }
 {
     2 * n
@@ -25,7 +26,7 @@ pub fn call_touched(n: usize) -> usize
 
 // The state of each body: unentered, open, clear or opaque.
 pub fn bodies(n: usize) -> usize
-    requires { ⌜ n ≤ 2048 ⌝ }
+    requires { ⌜ n ≤ maxStatements ⌝ }
     ensures { λ r. ⌜ r ≡ at.bodiesAt n ⌝ }
 {
     3 * n
@@ -33,7 +34,7 @@ pub fn bodies(n: usize) -> usize
 
 // The arrays that each body touches.
 pub fn touched(n: usize) -> usize
-    requires { ⌜ n ≤ 2048 ⌝ }
+    requires { ⌜ n ≤ maxStatements ⌝ }
     ensures { λ r. ⌜ r ≡ at.touchedAt n ⌝ }
 {
     4 * n
@@ -41,7 +42,7 @@ pub fn touched(n: usize) -> usize
 
 // Words of a row of statements.
 pub fn row_words(n: usize) -> usize
-    requires { ⌜ n ≤ 2048 ⌝ }
+    requires { ⌜ n ≤ maxStatements ⌝ }
     ensures { λ r. ⌜ r ≡ at.rowWords n ⌝ }
 {
     (n + 63) / 64
@@ -49,14 +50,14 @@ pub fn row_words(n: usize) -> usize
 
 // Row i of the matrix: a set of statements.
 pub fn row(n: usize, i: usize) -> usize
-    requires { ⌜ (n ≤ 2048) × (i ≤ n) ⌝ }
+    requires { ⌜ (n ≤ maxStatements) × (i ≤ n) ⌝ }
     ensures { λ r. ⌜ r ≡ at.rowAt n i ⌝ }
 {
     5 * n + row_words(n) * i
 }
 
 pub fn queue(n: usize) -> usize
-    requires { ⌜ n ≤ 2048 ⌝ }
+    requires { ⌜ n ≤ maxStatements ⌝ }
     ensures { λ r. ⌜ r ≡ at.queueAt n ⌝ }
 {
     row(n, n)
@@ -64,28 +65,28 @@ pub fn queue(n: usize) -> usize
 
 // The statements that the call at hand enters.
 pub fn entered(n: usize) -> usize
-    requires { ⌜ n ≤ 2048 ⌝ }
+    requires { ⌜ n ≤ maxStatements ⌝ }
     ensures { λ r. ⌜ r ≡ at.enteredAt n ⌝ }
 {
     queue(n) + 2 * n
 }
 
 pub fn waiting(n: usize) -> usize
-    requires { ⌜ n ≤ 2048 ⌝ }
+    requires { ⌜ n ≤ maxStatements ⌝ }
     ensures { λ r. ⌜ r ≡ at.waitingAt n ⌝ }
 {
     queue(n) + 3 * n
 }
 
 pub fn visited(n: usize) -> usize
-    requires { ⌜ n ≤ 2048 ⌝ }
+    requires { ⌜ n ≤ maxStatements ⌝ }
     ensures { λ r. ⌜ r ≡ at.visitedAt n ⌝ }
 {
     queue(n) + 5 * n
 }
 
 pub fn grown(n: usize) -> usize
-    requires { ⌜ n ≤ 2048 ⌝ }
+    requires { ⌜ n ≤ maxStatements ⌝ }
     ensures { λ r. ⌜ r ≡ at.grownAt n ⌝ }
 {
     queue(n) + 7 * n
@@ -93,7 +94,7 @@ pub fn grown(n: usize) -> usize
 
 // The row of masks of a doubled number; rows 2 n and 2 n + 1 are those of the statement at hand, for its edges.
 pub fn mask_row(n: usize, d: usize) -> usize
-    requires { ⌜ (n ≤ 2048) × (d ≤ at.maskRows n) ⌝ }
+    requires { ⌜ (n ≤ maxStatements) × (d ≤ at.maskRows n) ⌝ }
     ensures { λ r. ⌜ r ≡ at.maskRowAt n d ⌝ }
 {
     queue(n) + 9 * n + MASK_WORDS * d
