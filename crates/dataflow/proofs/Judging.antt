@@ -175,3 +175,11 @@ zeros (suc n) (suc x) = zeros n x
 -- a list that was cleared whole, by its length before
 pub cleared-whole : (ws : List ℕ) (n : ℕ) → length ws ≡ n → cleared ws 0 n ≡ replicate n 0
 cleared-whole ws n e = subst (λ k. cleared ws 0 k ≡ replicate k 0) e (cleared-all ws)
+
+-- the work area where it is cleared only if b
+
+pub unfit-kept : (ws : List ℕ) (b : Bool) → b ≡ false → cond b (cleared ws 0 (length ws)) ws ≡ ws
+unfit-kept ws b e = ap (λ (b : Bool). cond b (cleared ws 0 (length ws)) ws) e
+
+pub fit-zero : (ws : List ℕ) (b : Bool) → b ≡ true → cond b (cleared ws 0 (length ws)) ws ≡ replicate (length ws) 0
+fit-zero ws b e = ap (λ (b : Bool). cond b (cleared ws 0 (length ws)) ws) e ∙ cleared-whole ws (length ws) refl

@@ -6,10 +6,9 @@ use native.Mathlib.Omega.{arith}
 use native.Mathlib.Nat.{pos-of-ne-zero}
 use denote.Ref.{now}
 use Prim.Native.Nat.{ℕ, _≤_}
-use mathlib.Core.Bool.{Bool, true, false, cond}
+use mathlib.Core.Bool.{Bool, true, false}
 use mathlib.Core.Path.{_≡_, refl, ap, sym, _∙_, subst}
 use lib.ListN.{length, getD, replicate}
-use Rattle.words.specs.Change.{cleared}
 use Rattle.flow.specs.declared.Header.{Header}
 use Rattle.flow.specs.Limits.{workWords, maxStatements, maxArrays}
 use Rattle.flow.specs.Format.{verdict, areaChecks, statementsOf, arraysOf}
@@ -57,14 +56,11 @@ judged c b e =
 
 -- the work area is cleared where they are fit, and only there
 kept : (c : tie.After-clear-if) → c .before .before .areas-fit .result ≡ false → c .clear-if .last .0 ≡ now (c .before .before .before .before .before .before .before .before .before .before .before .before .args .work)
-kept c e =
-    let ws = now (c .before .before .before .before .before .before .before .before .before .before .before .before .args .work) in
-    c .clear-if .ensures ∙ ap (λ (b : Bool). cond b (cleared ws 0 (length ws)) ws) e
+kept c e = c .clear-if .ensures ∙ judging.unfit-kept (now (c .before .before .before .before .before .before .before .before .before .before .before .before .args .work)) _ e
 
 zeroed : (c : tie.After-clear-if) → c .before .before .areas-fit .result ≡ true → c .clear-if .last .0 ≡ replicate (length (now (c .before .before .before .before .before .before .before .before .before .before .before .before .args .work))) 0
 zeroed c e =
-    let ws = now (c .before .before .before .before .before .before .before .before .before .before .before .before .args .work) in
-    c .clear-if .ensures ∙ ap (λ (b : Bool). cond b (cleared ws 0 (length ws)) ws) e ∙ judging.cleared-whole ws (length ws) refl
+    c .clear-if .ensures ∙ judging.fit-zero (now (c .before .before .before .before .before .before .before .before .before .before .before .before .args .work)) _ e
 
 clear-if-requires : tie.Need-clear-if-requires
 clear-if-requires c κs = search needs
