@@ -1,6 +1,6 @@
 -- The search for a line among the FL records of a fit file: what is below and above the part that is left to search, and that the first
 -- record with the line is the one at the line's rank. By the records' rising order, and by induction on their number.
-use Prim.Native.Nat.{ℕ, zero, suc, _+_, _≤_, _<_}
+use Prim.Native.Nat.{ℕ, zero, suc, _+_, _-_, _*_, _/_, _≤_, _<_}
 use native.Mathlib.Omega.{arith}
 use native.Mathlib.Nat.{eq-or-lt-of-le, le-of-suc-le-suc}
 use mathlib.Core.List.{List, [], _∷_, _++_}
@@ -9,50 +9,64 @@ use mathlib.Core.Option.{Option, none, some}
 use mathlib.Core.Bool.{Bool, true, false, cond}
 use mathlib.Core.Path.{_≡_, refl, sym, ap, _∙_}
 use lib.Dec.{eqb, ltb}
+use lib.ListN.{getD}
+use mir.Syntax.{w8}
+use mir.Val.{Fits}
 use borrow.Author.Tests.{eq-eqb, ne-eqb, ltb-true, ltb-false}
 use Rattle.flow.specs.Flow.{Line, firstOf, enters}
-use Rattle.flow.specs.Format.{tabulate, flowOf, lineCount, lineNumber, lineFirst}
+use Rattle.flow.specs.Format.{tabulate, flowOf, lineCount, linePlace, lineNumber, lineFirst}
 use Rattle.flow.specs.Fields.{FitFile, LineRank}
+use Rattle.flow.proofs.Numbers.{leAt-lt}
 use Rattle.records.proofs.Files.{lines-rise}
 
--- records below lo have lower lines, and records from hi on have not
-pub record Between (s : List ℕ) (l lo hi : ℕ) : Type 0 where
-  pub order : lo ≤ hi
-  pub all : hi ≤ lineCount s
+-- records below lo have lower lines, and records from lo + len on have not
+pub record Between (s : List ℕ) (l lo len : ℕ) : Type 0 where
+  pub all : lo + len ≤ lineCount s
   pub below : (j : ℕ) → j < lo → lineNumber s j < l
-  pub above : (j : ℕ) → hi ≤ j → j < lineCount s → l ≤ lineNumber s j
+  pub above : (j : ℕ) → lo + len ≤ j → j < lineCount s → l ≤ lineNumber s j
 
 pub between-all : (s : List ℕ) (l : ℕ) → Between s l 0 (lineCount s)
-between-all s l = record { order = omega arith; all = omega arith; below = λ j m. absurd (omega arith); above = λ j m k. absurd (omega arith) }
+between-all s l = record { all = omega arith; below = λ j m. absurd (omega arith); above = λ j m k. absurd (omega arith) }
 
-module _ {s : List ℕ} {l lo hi : ℕ} (fits : FitFile s) (b : Between s l lo hi) (m : ℕ) where
-  pub raise : m < hi → lineNumber s m < l → Between s l (m + 1) hi
-  raise h n = record {
-    order = omega arith;
-    all = b .all;
-    below = λ j k. ⊎-elim (λ e. rw e n) (λ q. under j q) (eq-or-lt-of-le (at-most j k));
-    above = b .above;
-  }
-    where
-      at-most : (j : ℕ) → j < m + 1 → j ≤ m
-      at-most j k = omega arith
+-- what is passed over in a step: a half, or nothing
+pub passed-most : (half : ℕ) (t : Bool) → half * cond t 1 0 ≤ half
+passed-most half true = omega arith
+passed-most half false = omega arith
 
-      under : (j : ℕ) → j < m → lineNumber s j < l
-      under j q = let within = b .all in omega (arith, lines-rise fits j m q (omega arith))
+-- the last record of the lower half, which is the longer, decides a step
+pub halved : {s : List ℕ} {l lo len : ℕ} → FitFile s → Between s l lo len → 0 < len
+    → Between s l (lo + (len - len / 2) * cond (ltb (lineNumber s (lo + (len - len / 2) - 1)) l) 1 0) (len - (len - len / 2))
+halved {s} {l} {lo} {len} fits b left = go (ltb (lineNumber s m) l) refl
+  where
+    half : ℕ
+    half = len - len / 2
 
-  pub lower : lo ≤ m → m < hi → l ≤ lineNumber s m → Between s l lo m
-  lower g h n = record {
-    order = g;
-    all = let within = b .all in omega arith;
-    below = b .below;
-    above = λ j k q. ⊎-elim (λ e. rw (← e) n) (λ r. over j r q) (eq-or-lt-of-le k);
-  }
-    where
-      over : (j : ℕ) → m < j → j < lineCount s → l ≤ lineNumber s j
-      over j r q = omega (arith, lines-rise fits m j r q)
+    m : ℕ
+    m = lo + half - 1
 
-pub rank : {s : List ℕ} {l lo hi : ℕ} → Between s l lo hi → hi ≤ lo → LineRank s l lo
-rank b h = record { all = let o = b .order in let a = b .all in omega arith; below = b .below; above = λ j k. b .above j (omega arith) }
+    inside : m < lineCount s
+    inside = let within = b .all in omega arith
+
+    up-to : lineNumber s m < l → (j : ℕ) → j ≤ m → lineNumber s j < l
+    up-to h j k = ⊎-elim (λ e. rw e h) (λ q. omega (arith, lines-rise fits j m q inside)) (eq-or-lt-of-le k)
+
+    from : l ≤ lineNumber s m → (j : ℕ) → m ≤ j → j < lineCount s → l ≤ lineNumber s j
+    from h j k q = ⊎-elim (λ e. rw (← e) h) (λ r. omega (arith, lines-rise fits m j r q)) (eq-or-lt-of-le k)
+
+    go : (t : Bool) → ltb (lineNumber s m) l ≡ t → Between s l (lo + half * cond t 1 0) (len - half)
+    go true e = record {
+      all = let within = b .all in omega arith;
+      below = λ j k. up-to (ltb-true (lineNumber s m) l e) j (omega arith);
+      above = λ j k. b .above j (omega arith);
+    }
+    go false e = record {
+      all = let within = b .all in omega arith;
+      below = λ j k. b .below j (omega arith);
+      above = λ j k. from (ltb-false (lineNumber s m) l e) j (omega arith);
+    }
+
+pub rank : {s : List ℕ} {l lo len : ℕ} → Between s l lo len → len ≤ 0 → LineRank s l lo
+rank b h = record { all = let a = b .all in omega arith; below = b .below; above = λ j k. b .above j (omega arith) }
 
 -- the first record with a line
 
@@ -109,6 +123,13 @@ module _ (f : ℕ → Line) (l : ℕ) where
           let r = found (q ∙ (sym (one n (some t) q) ∙ h)) in
           let below = r .1 in
           (r .0, omega arith, r .2)
+
+-- no record has a line that two bytes do not hold
+pub line-past : (s : List ℕ) (l : ℕ) → ((i : ℕ) → Fits w8 (getD s i 0)) → 65535 < l → enters (flowOf s) l ≡ none
+unfolding flowOf
+line-past s l bytes h =
+    first-none (λ k. record { number = lineNumber s k; first = lineFirst s k }) l (lineCount s)
+    (λ j b e. omega (arith, leAt-lt 2 s (linePlace s j + 2) bytes))
 
 -- the record at a line's rank is the first with the line, or no record has the line
 
