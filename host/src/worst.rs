@@ -240,8 +240,8 @@ fn calls([share, fill, known, direction]: Knobs, random: &mut Random) -> Flow {
 }
 
 /// Knobs: the share of calls, the length of their lists, how many `FL` records there are (up to
-/// twice the statements), and how many arrays the bodies touch.
-fn clear([share, fill, known, touched]: Knobs, random: &mut Random) -> Flow {
+/// twice the statements), and how many successors the calls list.
+fn clear([share, fill, known, listed]: Knobs, random: &mut Random) -> Flow {
     let first_call = CHANGES + 2;
     let calls = part(N - first_call - 2, share);
     let end = first_call + calls;
@@ -249,9 +249,12 @@ fn clear([share, fill, known, touched]: Knobs, random: &mut Random) -> Flow {
     let both = [CHANGES as u16 + 1, first_call as u16];
     statements.push(Statement::new(line(CHANGES), Kind::Other, &both, &[]));
     statements.push(call(CHANGES + 1, vec![0], end + 1));
-    statements.extend((first_call..end).map(|i| call(i, vec![], i + 1)));
-    let references: Vec<u8> = (0..part(ARRAYS, touched)).map(|a| a as u8).collect();
-    statements.push(Statement::new(line(end), Kind::Other, &[end as u16 + 1], &references));
+    for i in first_call..end {
+        let mut s = call(i, vec![], i + 1);
+        s.successors.extend((0..listed * 16 / TURNS).map(|_| target(random, first_call, end, i, 0)));
+        statements.push(s);
+    }
+    statements.push(Statement::new(line(end), Kind::Other, &[end as u16 + 1], &[0]));
     statements.push(Statement::new(line(end + 1), Kind::Return, &[], &[]));
     let known = part(2 * N, known);
     let entered = |k: usize| (1 + k as u16, (end + k % 2) as u16);
@@ -272,15 +275,24 @@ fn dense([fill, referred, direction, _]: Knobs, random: &mut Random) -> Flow {
 
 // ----- The search ---------------------------------------------------------
 
+/// How long this thread was on a processor, where the system says so, as Linux does.
+fn processor_time() -> Option<Duration> {
+    let text = std::fs::read_to_string("/proc/thread-self/schedstat").ok()?;
+    text.split(' ').next()?.parse().ok().map(Duration::from_nanos)
+}
+
 /// How long the call takes, the shortest of some runs, and its visits; `None` without the call.
+/// It is the time on a processor if that can be had: another's work is no matter of the file's.
 fn measure(file: &[u8], runs: usize) -> Option<(Duration, u64)> {
     let mut areas = Lent::for_file(file, 0).areas();
     let mut best = (Duration::MAX, 0);
     for _ in 0..runs {
-        let start = Instant::now();
+        let (start, on_processor) = (Instant::now(), processor_time());
         let answer = sides::proved_states(file, &mut areas)?;
+        let wall = start.elapsed();
+        let taken = processor_time().zip(on_processor).map_or(wall, |(end, start)| end - start);
         assert_eq!(answer.number, 0, "a file of the search is refused");
-        best = best.min((start.elapsed(), answer.visits));
+        best = best.min((taken, answer.visits));
     }
     Some(best)
 }
@@ -305,12 +317,7 @@ fn climb(
             _ => Recipe::any(family, random),
         };
         let file = recipe.file();
-        let (first, visits) = measure(&file, 1)?;
-        if best.is_some_and(|(_, time)| first <= time) {
-            continue;
-        }
-        // Once more, so that a busy machine does not pass for a bad file.
-        let time = first.min(measure(&file, 1)?.0);
+        let (time, visits) = measure(&file, 1)?;
         if best.is_none_or(|(_, longest)| time > longest) {
             println!("{recipe}: {time:.2?}, {visits} visits, {} bytes", file.len());
             best = Some((recipe, time));
@@ -341,7 +348,7 @@ pub fn again() -> Result<bool, String> {
         println!("{recipe}: {time:.2?}, the shortest of 3 runs, {visits} visits, {} bytes", file.len());
         longest = longest.max(time);
     }
-    println!("longest {longest:.2?} (under 2 s)");
+    println!("longest {longest:.2?} (limit {LIMIT:?})");
     Ok(longest < LIMIT)
 }
 
