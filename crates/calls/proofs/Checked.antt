@@ -81,6 +81,10 @@ module _ {s ws : List ℕ} {n : ℕ} (r : Ready s ws n) where
     pub entered-room : waitingAt n ≤ length ws
     entered-room = omega (arith, ready-room (omega arith))
 
+    -- the row of entered statements
+    pub members-room : layout.enteredAt n + (n + 63) / 64 ≤ length ws
+    members-room = omega (arith, ready-room (omega arith))
+
     pub entered-word : layout.enteredAt n + i / 64 < length ws
     entered-word = omega (arith, member-word l, row-words-le n, ready-room (omega arith))
 

@@ -9,17 +9,19 @@ use borrow.Author.Tests.{eqb-true, eqb-false}
 use lib.Dec.{eqb}
 use lib.ListN.{length}
 use Rattle.words.specs.Row.{has}
-use Rattle.words.specs.Change.{Inserted, inserted}
+use Rattle.words.specs.Change.{Inserted, inserted, Unioned}
 use Rattle.words.proofs.Row.{has-lt}
 use Rattle.words.proofs.Inserted.{insert-same, insert-other}
+use Rattle.words.proofs.Unioned.{unioned-has}
 use Rattle.flow.specs.Flow.{Flow}
 use Rattle.theory.specs.Lists as lists
-use Rattle.theory.specs.Body.{kind, isReturn, entered}
+use Rattle.theory.specs.Body.{kind, isReturn}
 use Rattle.theory.proofs.Lists.{clash, not-so}
-use Rattle.statements.specs.Layout.{rowAt, queueAt, enteredAt, waitingAt}
-use Rattle.statements.proofs.WorkArea.{member-word, row-words-le, row-from, row-fits, insert-row}
-use Rattle.statements.proofs.Keeps.{keeps-refl, keeps-trans, keeps-inserted}
-use Rattle.calls.specs.Held.{EmptyEntered, EnteredIs}
+use Rattle.statements.specs.Layout.{rowAt, rowWords, queueAt, enteredAt, waitingAt}
+use Rattle.statements.specs.Ready.{Keeps}
+use Rattle.statements.proofs.WorkArea.{member-word, row-holds, row-words-le, row-from, row-fits, insert-row}
+use Rattle.statements.proofs.Keeps.{keeps-refl, keeps-trans, keeps-widen, keeps-has, keeps-inserted, keeps-unioned}
+use Rattle.calls.specs.Held.{EmptyEntered}
 use Rattle.calls.specs.Joins.{Joins, Adds, fromReturn}
 
 max-or : (a : ℕ) (p q : Bool) → max (max a (cond p 1 0)) (cond q 1 0) ≡ max a (cond (p || q) 1 0)
@@ -36,18 +38,22 @@ inserted-bit ws base i l j = go (eqb j i) refl
     go true e = rw (eqb-true j i e) (insert-same ws base i l ∙ omega (arith, has-lt ws base i))
     go false e = insert-other ws base i j l (eqb-false j i e) ∙ omega arith
 
-pub joins-none : {f : Flow} {ws : List ℕ} {n : ℕ} → Joins f ws ws n (λ r k. false)
+-- a change of the row of entered statements leaves the rows of the matrix
+pub row-stays : {ws vs : List ℕ} {n e i : ℕ} → Keeps (enteredAt n) (waitingAt n) ws vs → e < n → i < n → has vs (rowAt n e) i ≡ has ws (rowAt n e) i
+row-stays {n = n} {e = e} {i = i} a l m = keeps-has a (rowAt n e) i (λ x y. omega (arith, row-fits n l, member-word m))
+
+pub joins-none : {f : Flow} {ws : List ℕ} {n hi : ℕ} → Joins f ws ws n hi (λ r k. false)
 joins-none = record { kept = keeps-refl; others = λ e i l m h. refl; joined = λ r k l m h. omega arith }
 
-pub joins-then : {f : Flow} {ws vs us : List ℕ} {n : ℕ} {p q : ℕ → ℕ → Bool} → Joins f ws vs n p → Joins f vs us n q → Joins f ws us n (λ r k. p r k || q r k)
+pub joins-then : {f : Flow} {ws vs us : List ℕ} {n hi : ℕ} {p q : ℕ → ℕ → Bool} → Joins f ws vs n hi p → Joins f vs us n hi q → Joins f ws us n hi (λ r k. p r k || q r k)
 joins-then {ws = ws} {n = n} {p = p} {q = q} a b = record {
   kept = keeps-trans (a .kept) (b .kept);
   others = λ e i l m h. b .others e i l m h ∙ a .others e i l m h;
   joined = λ r k l m h. b .joined r k l m h ∙ ap (λ (x : ℕ). max x (cond (q r k) 1 0)) (a .joined r k l m h) ∙ max-or (has ws (rowAt n r) k) (p r k) (q r k);
 }
 
-pub joins-same : {f : Flow} {ws vs : List ℕ} {n : ℕ} {p q : ℕ → ℕ → Bool} → Joins f ws vs n p
-    → ((r k : ℕ) → r < n → k < n → isReturn (kind f r) ≡ true → p r k ≡ q r k) → Joins f ws vs n q
+pub joins-same : {f : Flow} {ws vs : List ℕ} {n hi : ℕ} {p q : ℕ → ℕ → Bool} → Joins f ws vs n hi p
+    → ((r k : ℕ) → r < n → k < n → isReturn (kind f r) ≡ true → p r k ≡ q r k) → Joins f ws vs n hi q
 joins-same {ws = ws} {n = n} a e = record {
   kept = a .kept;
   others = a .others;
@@ -56,8 +62,8 @@ joins-same {ws = ws} {n = n} a e = record {
 
 -- k joins the row of the RETURN r
 pub joins-insert : {f : Flow} {ws vs : List ℕ} {n r k : ℕ} {b : Bool} → Inserted ws vs (rowAt n r) k b → r < n → k < n → queueAt n ≤ length ws
-    → isReturn (kind f r) ≡ true → Joins f ws vs n (fromReturn r k)
-joins-insert {f} {ws} {vs} {n} {r} {k} i lr lk room is = subst (λ (us : List ℕ). Joins f ws us n (fromReturn r k)) (sym (i .slice)) (record {
+    → isReturn (kind f r) ≡ true → Joins f ws vs n (queueAt n) (fromReturn r k)
+joins-insert {f} {ws} {vs} {n} {r} {k} i lr lk room is = subst (λ (us : List ℕ). Joins f ws us n (queueAt n) (fromReturn r k)) (sym (i .slice)) (record {
   kept = keeps-inserted ws (rowAt n r) k (row-from n r) (omega (arith, row-fits n lr, member-word lk));
   others = λ e j le lj no. insert-row ws (λ same. clash (isReturn (kind f r)) is (subst (λ (x : ℕ). isReturn (kind f x) ≡ false) same no)) lk lj;
   joined = at;
@@ -72,11 +78,20 @@ joins-insert {f} {ws} {vs} {n} {r} {k} i lr lk room is = subst (λ (us : List �
         go false e = insert-row ws (eqb-false s r e) lk lj ∙ omega arith
 
 -- a statement that is no RETURN has no such row
-pub joins-skip : {f : Flow} {ws : List ℕ} {n : ℕ} (r k : ℕ) → isReturn (kind f r) ≡ false → Joins f ws ws n (fromReturn r k)
+pub joins-skip : {f : Flow} {ws : List ℕ} {n hi : ℕ} (r k : ℕ) → isReturn (kind f r) ≡ false → Joins f ws ws n hi (fromReturn r k)
 joins-skip {f} r k other = joins-same joins-none (λ s j ls lj is. sym (ap (λ (t : Bool). t && eqb j k) (apart s is)))
   where
     apart : (s : ℕ) → isReturn (kind f s) ≡ true → eqb s r ≡ false
     apart s is = not-so (eqb s r) (λ e. clash (isReturn (kind f r)) (subst (λ (x : ℕ). isReturn (kind f x) ≡ true) (eqb-true s r e) is) other)
+
+-- a change of the row of entered statements may come before
+pub joins-after : {f : Flow} {ws vs us : List ℕ} {n : ℕ} {q : ℕ → ℕ → Bool} → Keeps (enteredAt n) (waitingAt n) ws vs → Joins f vs us n (queueAt n) q
+    → Joins f ws us n (waitingAt n) q
+joins-after {ws = ws} {vs = vs} {n = n} {q = q} a js = record {
+  kept = keeps-trans (keeps-widen (omega (arith, row-from n n)) (omega arith) a) (keeps-widen (omega arith) (omega arith) (js .kept));
+  others = λ e i l m h. js .others e i l m h ∙ row-stays a l m;
+  joined = λ r k l m h. js .joined r k l m h ∙ ap (λ (x : ℕ). max x (cond (q r k) 1 0)) (row-stays a l m);
+}
 
 -- The row of entered statements
 
@@ -84,7 +99,7 @@ pub adds-none : {ws : List ℕ} {n : ℕ} → Adds ws ws n []
 unfolding lists.has
 adds-none = record { kept = keeps-refl; joined = λ j l. omega arith }
 
-has-append : (j : ℕ) (xs ys : List ℕ) → lists.has j (xs ++ ys) ≡ (lists.has j xs || lists.has j ys)
+pub has-append : (j : ℕ) (xs ys : List ℕ) → lists.has j (xs ++ ys) ≡ (lists.has j xs || lists.has j ys)
 unfolding lists.has
 has-append j [] ys = refl
 has-append j (x ∷ xs) ys = ap (λ (t : Bool). eqb j x || t) (has-append j xs ys) ∙ sym (or-assoc (eqb j x) (lists.has j xs) (lists.has j ys))
@@ -106,9 +121,25 @@ adds-insert {ws} {vs} {n} {b} i l room = subst (λ (us : List ℕ). Adds ws us n
       ∙ ap (λ (t : Bool). max (has ws (enteredAt n) j) (cond t 1 0)) (sym (or-false (eqb j b)));
 })
 
+-- the row e of the matrix joins it
+pub adds-union : {ws vs : List ℕ} {n e : ℕ} {t : Bool} (xs : List ℕ) → Unioned ws vs (enteredAt n) (rowAt n e) (rowWords n) t → e < n → waitingAt n ≤ length ws
+    → ((j : ℕ) → j < n → has ws (rowAt n e) j ≡ cond (lists.has j xs) 1 0) → Adds ws vs n xs
+adds-union {ws} {vs} {n} {e} xs u l room holds = subst (λ (us : List ℕ). Adds ws us n xs) (sym (u .slice)) (record {
+  kept = keeps-unioned ws (enteredAt n) (rowAt n e) (rowWords n) (omega arith) (omega (arith, row-words-le n));
+  joined = λ j lj.
+      unioned-has ws (enteredAt n) (rowAt n e) (rowWords n) (omega (arith, row-words-le n)) (λ i k a b q. omega (arith, row-fits n l)) j (omega (arith, row-holds n))
+      ∙ ap (max (has ws (enteredAt n) j)) (holds j lj);
+})
+
+pub adds-same : {ws vs : List ℕ} {n : ℕ} {xs ys : List ℕ} → Adds ws vs n xs → ((j : ℕ) → lists.has j xs ≡ lists.has j ys) → Adds ws vs n ys
+adds-same {ws} {n = n} a e = record {
+  kept = a .kept;
+  joined = λ j l. a .joined j l ∙ ap (λ (t : Bool). max (has ws (enteredAt n) j) (cond t 1 0)) (e j);
+}
+
 -- where the row was empty, it holds what was joined
-pub adds-all : (f : Flow) (i : ℕ) {ws vs : List ℕ} {n : ℕ} → EmptyEntered ws n → Adds ws vs n (entered f i) → EnteredIs f vs n i
-adds-all f i none a j l =
-    let t : ℕ = cond (lists.has j (entered f i)) 1 0 in
+pub adds-all : {ws vs : List ℕ} {n : ℕ} {xs : List ℕ} → EmptyEntered ws n → Adds ws vs n xs → (j : ℕ) → j < n → has vs (enteredAt n) j ≡ cond (lists.has j xs) 1 0
+adds-all {xs = xs} empty a j l =
+    let t : ℕ = cond (lists.has j xs) 1 0 in
     let only : max 0 t ≡ t = omega arith in
-    a .joined j l ∙ ap (λ (x : ℕ). max x t) (none j l) ∙ only
+    a .joined j l ∙ ap (λ (x : ℕ). max x t) (empty j l) ∙ only

@@ -1,5 +1,5 @@
--- What noting changes. Where RETURNs go: the rows of some RETURNs gain a continuation, and every other row and every word outside the matrix stays.
--- Which statements a call enters: the row of entered statements gains them, and every other word stays.
+-- What noting changes. Where RETURNs go: the rows of some RETURNs gain a continuation, and every other row and every word below the matrix stays.
+-- Which statements a call enters, or the bodies that it enters walk: the row of entered statements gains them, and every other word stays.
 use Prim.Native.Nat.{ℕ, _+_, _<_, max}
 use mathlib.Core.Bool.{Bool, true, false, cond, _&&_}
 use mathlib.Core.List.{List}
@@ -10,28 +10,32 @@ use lib.ListN.{getD}
 use Rattle.words.specs.Row.{has}
 use Rattle.flow.specs.Flow.{Flow}
 use Rattle.theory.specs.Lists as lists
-use Rattle.theory.specs.Lists.{In, any}
+use Rattle.theory.specs.Lists.{In, any, concatMap}
 use Rattle.theory.specs.Body.{kind, continuationOf, isReturn, entered, walked, opaqueCall}
-use Rattle.statements.specs.Layout.{callsAt, matrixAt, rowAt, queueAt, enteredAt, waitingAt}
+use Rattle.statements.specs.Layout.{callsAt, matrixAt, rowAt, enteredAt, waitingAt}
 use Rattle.statements.specs.Ready.{Keeps}
 use Rattle.calls.specs.Held.{WalkRow, clear, opaque}
 
--- vs is ws with k joined to the row of each RETURN r, for the r and k that pass the test
-pub record Joins (f : Flow) (ws vs : List ℕ) (n : ℕ) (q : ℕ → ℕ → Bool) : Type 0 where
-  pub kept : Keeps (matrixAt n) (queueAt n) ws vs
+-- vs is ws with k joined to the row of each RETURN r, for the r and k that pass the test; the words from hi on, too, are as they were
+pub record Joins (f : Flow) (ws vs : List ℕ) (n hi : ℕ) (q : ℕ → ℕ → Bool) : Type 0 where
+  pub kept : Keeps (matrixAt n) hi ws vs
   pub others : (e i : ℕ) → e < n → i < n → isReturn (kind f e) ≡ false → has vs (rowAt n e) i ≡ has ws (rowAt n e) i
   pub joined : (r k : ℕ) → r < n → k < n → isReturn (kind f r) ≡ true → has vs (rowAt n r) k ≡ max (has ws (rowAt n r) k) (cond (q r k) 1 0)
 
--- the RETURN r goes to k; so do the RETURNs on the walk of e, and those on the walks of the bodies bs
+-- the RETURN r goes to k; so do the RETURNs in the row of entered statements, and those on the walks of the bodies bs
 
 abbrev pub fromReturn : ℕ → ℕ → ℕ → ℕ → Bool
 fromReturn r k s j = eqb s r && eqb j k
 
-abbrev pub fromBody : Flow → ℕ → ℕ → ℕ → ℕ → Bool
-fromBody f e k s j = lists.has s (walked f e) && eqb j k
+abbrev pub fromEntered : List ℕ → ℕ → ℕ → ℕ → ℕ → Bool
+fromEntered ws n k s j = eqb (has ws (enteredAt n) s) 1 && eqb j k
 
 abbrev pub fromBodies : Flow → List ℕ → ℕ → ℕ → ℕ → Bool
 fromBodies f bs k s j = any (λ e. lists.has s (walked f e)) bs && eqb j k
+
+-- what the bodies bs walk, one after the other
+abbrev pub walks : Flow → List ℕ → List ℕ
+walks f bs = concatMap (walked f) bs
 
 -- the row of e holds its walk, unless e is a RETURN, whose walk is itself
 abbrev pub BodyRow : Flow → List ℕ → ℕ → ℕ → Type 0

@@ -22,7 +22,7 @@ use Rattle.records.proofs.Noting.{length-noted, noted-at, noted-other}
 use Rattle.records.proofs.Statements.{size-is}
 use Rattle.theory.specs.Masks.{nodeMask, maskOf, visitsOf}
 use Rattle.theory.specs.Live.{liveInWord, liveOutWord}
-use Rattle.statements.specs.Layout.{callsAt, callTouchedAt, matrixAt, rowAt, queueAt, enteredAt, maskRowAt, areaEnd}
+use Rattle.statements.specs.Layout.{callsAt, callTouchedAt, matrixAt, rowAt, queueAt, enteredAt, waitingAt, maskRowAt, areaEnd}
 use Rattle.theory.specs.Body.{callTouches}
 use Rattle.statements.specs.Ready.{Ready, Keeps, MembersWord}
 use Rattle.statements.proofs.Keeps.{keeps-word, keeps-has, keeps-cleared, ready-keeps, ready-most, ready-room}
@@ -67,10 +67,10 @@ module _ {s : List ℕ} {h : Header} where
       zero = λ x l b. k .above x l ∙ ap (λ v. getD v x 0) e ∙ past x (omega (arith, row-from (h .statements) (h .statements)));
     }
 
--- with the queue's words cleared, the forward solver can begin
+-- with the words of the queue and of the row of entered statements cleared, the forward solver can begin
 pub linked : {s : List ℕ} {h : Header} {ws vs us : List ℕ} → Begun s h ws → h ≡ headerOf s → 0 < h .statements
-    → Linked (flowOf s) vs (h .statements) → Keeps (matrixAt (h .statements)) (queueAt (h .statements)) ws vs
-    → us ≡ cleared vs (queueAt (h .statements)) (2 * h .statements) → SolverBlank s h us
+    → Linked (flowOf s) vs (h .statements) → Keeps (matrixAt (h .statements)) (waitingAt (h .statements)) ws vs
+    → us ≡ cleared vs (queueAt (h .statements)) (3 * h .statements) → SolverBlank s h us
 linked {s} {h} {ws} {vs} {us} begun e some l k c =
     subst (SolverBlank s h) (sym c)
     (record {
@@ -78,21 +78,21 @@ linked {s} {h} {ws} {vs} {us} begun e some l k c =
       header = e;
       linked = linked-stays clears l;
       some = some;
-      zero = λ x a b. zeros x a b (decLt x (enteredAt (h .statements)));
+      zero = λ x a b. zeros x a b (decLt x (waitingAt (h .statements)));
     })
   where
     ready′ : Ready s vs (h .statements)
     ready′ = ready-keeps (begun .ready) k (omega arith)
 
-    clears : Keeps (queueAt (h .statements)) (enteredAt (h .statements)) vs (cleared vs (queueAt (h .statements)) (2 * h .statements))
-    clears = keeps-cleared vs (queueAt (h .statements)) (2 * h .statements) (omega arith) (omega arith)
+    clears : Keeps (queueAt (h .statements)) (waitingAt (h .statements)) vs (cleared vs (queueAt (h .statements)) (3 * h .statements))
+    clears = keeps-cleared vs (queueAt (h .statements)) (3 * h .statements) (omega arith) (omega arith)
 
-    zeros : (x : ℕ) → queueAt (h .statements) ≤ x → x < areaEnd (h .statements) → Dec (x < enteredAt (h .statements)) → getD (cleared vs (queueAt (h .statements)) (2 * h .statements)) x 0 ≡ 0
+    zeros : (x : ℕ) → queueAt (h .statements) ≤ x → x < areaEnd (h .statements) → Dec (x < waitingAt (h .statements)) → getD (cleared vs (queueAt (h .statements)) (3 * h .statements)) x 0 ≡ 0
     zeros x a b (yes m) =
-        subst (λ y. getD (cleared vs (queueAt (h .statements)) (2 * h .statements)) y 0 ≡ 0) (omega arith)
-        (cleared-word vs (queueAt (h .statements)) (2 * h .statements) (omega (arith, ready-room ready′ some)) (x - queueAt (h .statements)) (omega arith))
+        subst (λ y. getD (cleared vs (queueAt (h .statements)) (3 * h .statements)) y 0 ≡ 0) (omega arith)
+        (cleared-word vs (queueAt (h .statements)) (3 * h .statements) (omega (arith, ready-room ready′ some)) (x - queueAt (h .statements)) (omega arith))
     zeros x a b (no m) =
-        cleared-other vs (queueAt (h .statements)) (2 * h .statements) x (λ j y z. m (omega arith)) ∙ k .above x a ∙ begun .zero x (omega arith) b
+        cleared-other vs (queueAt (h .statements)) (3 * h .statements) x (λ j y z. m (omega arith)) ∙ k .above x (omega (arith, m)) ∙ begun .zero x (omega (arith, m)) b
 
 -- the rows of the two copies are the masks of the statement
 pub masked : {s : List ℕ} {h : Header} {ws vs masks masks′ : List ℕ} {visits : ℕ} → SolverBlank s h ws

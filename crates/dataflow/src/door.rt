@@ -25,14 +25,14 @@ fn summarize(file: &[u8], h: flow::Header, work: &mut [u64])
     calls::summary::summarize_calls(file, h, work);
 }
 
-// The edges of the RETURNs. The queue's words served as a stack and are cleared for the solver.
+// The edges of the RETURNs. The queue's words served as a stack, and the row after them was used: both are cleared for the solver.
 fn link(file: &[u8], h: flow::Header, work: &mut [u64])
     requires { ⌜ Begun (now file) h (now work) × (h ≡ headerOf (now file)) × (0 < h .statements) ⌝ }
     ensures { λ _. ⌜ SolverBlank (now (file .entry)) h (now (work .exit)) ⌝ }
 {
     let n = h.statements;
     calls::returns::note_returns(file, h, work);
-    words::clear(work, layout::queue(n), 2 * n);
+    words::clear(work, layout::queue(n), 3 * n);
 }
 
 fn solve_arrays(file: &[u8], h: flow::Header, masks: &mut [u8], work: &mut [u64]) -> u64

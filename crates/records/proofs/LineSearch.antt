@@ -1,6 +1,6 @@
 -- The search for a line among the FL records of a fit file: what is below and above the part that is left to search, and that the first
 -- record with the line is the one at the line's rank. By the records' rising order, and by induction on their number.
-use Prim.Native.Nat.{ℕ, zero, suc, _+_, _-_, _*_, _/_, _≤_, _<_}
+use Prim.Native.Nat.{ℕ, zero, suc, _+_, _-_, _*_, _/_, _≤_, _<_, max}
 use native.Mathlib.Omega.{arith}
 use native.Mathlib.Nat.{eq-or-lt-of-le, le-of-suc-le-suc}
 use mathlib.Core.List.{List, [], _∷_, _++_}
@@ -9,64 +9,93 @@ use mathlib.Core.Option.{Option, none, some}
 use mathlib.Core.Bool.{Bool, true, false, cond}
 use mathlib.Core.Path.{_≡_, refl, sym, ap, _∙_}
 use lib.Dec.{eqb, ltb}
-use lib.ListN.{getD}
+use lib.ListN.{length, getD}
 use mir.Syntax.{w8}
 use mir.Val.{Fits}
 use borrow.Author.Tests.{eq-eqb, ne-eqb, ltb-true, ltb-false}
 use Rattle.flow.specs.Flow.{Line, firstOf, enters}
-use Rattle.flow.specs.Format.{tabulate, flowOf, lineCount, linePlace, lineNumber, lineFirst}
+use Rattle.flow.specs.Format.{u16At, tabulate, flowOf, lineCount, linesPlace, linePlace, lineNumber, lineFirst}
 use Rattle.flow.specs.Fields.{FitFile, LineRank}
 use Rattle.flow.proofs.Numbers.{leAt-lt}
-use Rattle.records.proofs.Files.{lines-rise}
+use Rattle.records.proofs.Files.{line-fits, lines-rise}
 
--- records below lo have lower lines, and records from lo + len on have not
-pub record Between (s : List ℕ) (l lo len : ℕ) : Type 0 where
+-- p is the place of record lo; records below lo have lower lines, and records from lo + len on have not
+pub record Between (s : List ℕ) (l p len : ℕ) : Type 0 where
+  pub lo : ℕ
+  pub place : p ≡ linePlace s lo
   pub all : lo + len ≤ lineCount s
   pub below : (j : ℕ) → j < lo → lineNumber s j < l
   pub above : (j : ℕ) → lo + len ≤ j → j < lineCount s → l ≤ lineNumber s j
 
-pub between-all : (s : List ℕ) (l : ℕ) → Between s l 0 (lineCount s)
-between-all s l = record { all = omega arith; below = λ j m. absurd (omega arith); above = λ j m k. absurd (omega arith) }
+pub between-all : (s : List ℕ) (l : ℕ) → Between s l (linesPlace s) (lineCount s)
+between-all s l = record {
+  lo = 0;
+  place = omega arith;
+  all = omega arith;
+  below = λ j m. absurd (omega arith);
+  above = λ j m k. absurd (omega arith);
+}
 
 -- what is passed over in a step: a half, or nothing
 pub passed-most : (half : ℕ) (t : Bool) → half * cond t 1 0 ≤ half
 passed-most half true = omega arith
 passed-most half false = omega arith
 
--- the last record of the lower half, which is the longer, decides a step
-pub halved : {s : List ℕ} {l lo len : ℕ} → FitFile s → Between s l lo len → 0 < len
-    → Between s l (lo + (len - len / 2) * cond (ltb (lineNumber s (lo + (len - len / 2) - 1)) l) 1 0) (len - (len - len / 2))
-halved {s} {l} {lo} {len} fits b left = go (ltb (lineNumber s m) l) refl
+-- the last record of the lower half, which is the longer, lies within the file and decides a step
+module _ {s : List ℕ} {l p len : ℕ} (fits : FitFile s) (b : Between s l p len) (left : 0 < len) where
+  pub middle-fits : p + 6 * (len - len / 2) ≤ length s
+  middle-fits =
+      let place = b .place in
+      let all = b .all in
+      let h = line-fits fits (b .lo + (len - len / 2) - 1) (omega arith) in omega arith
+
+  pub halved : Between s l (p + 6 * (len - len / 2) * cond (ltb (u16At s (p + 6 * (len - len / 2) - 4)) l) 1 0) (len - (len - len / 2))
+  halved = go (ltb (u16At s (p + 6 * half - 4)) l) refl
+    where
+      half : ℕ
+      half = len - len / 2
+
+      m : ℕ
+      m = b .lo + half - 1
+
+      inside : m < lineCount s
+      inside = let within = b .all in omega arith
+
+      read : u16At s (p + 6 * half - 4) ≡ lineNumber s m
+      read = let place = b .place in let at : p + 6 * half - 4 ≡ linePlace s m + 2 = omega arith in ap (u16At s) at
+
+      up-to : lineNumber s m < l → (j : ℕ) → j ≤ m → lineNumber s j < l
+      up-to h j k = ⊎-elim (λ e. rw e h) (λ q. omega (arith, lines-rise fits j m q inside)) (eq-or-lt-of-le k)
+
+      from : l ≤ lineNumber s m → (j : ℕ) → m ≤ j → j < lineCount s → l ≤ lineNumber s j
+      from h j k q = ⊎-elim (λ e. rw (← e) h) (λ r. omega (arith, lines-rise fits m j r q)) (eq-or-lt-of-le k)
+
+      go : (t : Bool) → ltb (u16At s (p + 6 * half - 4)) l ≡ t → Between s l (p + 6 * half * cond t 1 0) (len - half)
+      go true e = record {
+        lo = b .lo + half;
+        place = let place = b .place in omega arith;
+        all = let within = b .all in omega arith;
+        below = λ j k. up-to (omega (arith, read, ltb-true (u16At s (p + 6 * half - 4)) l e)) j (omega arith);
+        above = λ j k. b .above j (omega arith);
+      }
+      go false e = record {
+        lo = b .lo;
+        place = let place = b .place in omega arith;
+        all = let within = b .all in omega arith;
+        below = b .below;
+        above = λ j k. from (omega (arith, read, ltb-false (u16At s (p + 6 * half - 4)) l e)) j (omega arith);
+      }
+
+pub rank : {s : List ℕ} {l p len : ℕ} → Between s l p len → len ≤ 0 → (k : ℕ) × (p ≡ linePlace s k) × LineRank s l k
+rank b h = (b .lo, b .place, record { all = let a = b .all in omega arith; below = b .below; above = λ j k. b .above j (omega arith) })
+
+-- where the records end, if there are any
+pub lines-end : {s : List ℕ} → FitFile s → linesPlace s + 6 * lineCount s ≤ max (linesPlace s) (length s)
+lines-end {s} fits = go (lineCount s) refl
   where
-    half : ℕ
-    half = len - len / 2
-
-    m : ℕ
-    m = lo + half - 1
-
-    inside : m < lineCount s
-    inside = let within = b .all in omega arith
-
-    up-to : lineNumber s m < l → (j : ℕ) → j ≤ m → lineNumber s j < l
-    up-to h j k = ⊎-elim (λ e. rw e h) (λ q. omega (arith, lines-rise fits j m q inside)) (eq-or-lt-of-le k)
-
-    from : l ≤ lineNumber s m → (j : ℕ) → m ≤ j → j < lineCount s → l ≤ lineNumber s j
-    from h j k q = ⊎-elim (λ e. rw (← e) h) (λ r. omega (arith, lines-rise fits m j r q)) (eq-or-lt-of-le k)
-
-    go : (t : Bool) → ltb (lineNumber s m) l ≡ t → Between s l (lo + half * cond t 1 0) (len - half)
-    go true e = record {
-      all = let within = b .all in omega arith;
-      below = λ j k. up-to (ltb-true (lineNumber s m) l e) j (omega arith);
-      above = λ j k. b .above j (omega arith);
-    }
-    go false e = record {
-      all = let within = b .all in omega arith;
-      below = λ j k. b .below j (omega arith);
-      above = λ j k. from (ltb-false (lineNumber s m) l e) j (omega arith);
-    }
-
-pub rank : {s : List ℕ} {l lo len : ℕ} → Between s l lo len → len ≤ 0 → LineRank s l lo
-rank b h = record { all = let a = b .all in omega arith; below = b .below; above = λ j k. b .above j (omega arith) }
+    go : (n : ℕ) → lineCount s ≡ n → linesPlace s + 6 * n ≤ max (linesPlace s) (length s)
+    go zero e = omega arith
+    go (suc n) e = omega (arith, line-fits fits n (omega arith))
 
 -- the first record with a line
 

@@ -65,7 +65,7 @@ returns c =
     subst (λ (bs : List ℕ). Adds (now (a .work)) (c .before .loop .work) (a .h .statements) bs)
     (entered-all f (a .i) (c .before .loop .l) (omega (arith, c .before .before .line-count .ensures))) (c .before .loop .inv .1)
     in
-    (record { row = λ k e o. adds-all f (a .i) (start .pre .3) all }, all .kept)
+    (record { row = λ k e o. adds-all (start .pre .3) all }, all .kept)
 
 pub note-entered-spec : {M : Type 1} → statement M
 note-entered-spec =

@@ -41,8 +41,8 @@ enum-known-k c = search needs
 continued : (c : tie.After-k) → let a = c .before .before .before .before .before .before .before .before .before .args in continuationOf (kind (flowOf (now (a .file))) (a .c)) ≡ some (c .k .given .0 .0 .0)
 continued c = continues-to _ _ (sym (c .before .before .continuation .ensures) ∙ c .k .given .1)
 
-note-lines-requires : tie.Need-note-lines-requires
-note-lines-requires c κs =
+note-bodies-requires : tie.Need-note-bodies-requires
+note-bodies-requires c κs =
     let start = c .before .before .before .before .before .before .before .before .before .before .before in
     let p = start .pre in
     let k = c .before .before .k .given .0 .0 .0 in
@@ -60,7 +60,7 @@ returns-2 c =
     let start = c .before .before .before .before .before .before .before .before .before .before .before .before .before .before in
     let a = start .args in
     call-opaque (a .c) (c .before .before .before .before .before .k .given .0 .0 .0) (start .pre .3)
-    (sym (ap (λ (b : ℕ). getD (now (a .work)) (b + a .c) 0) (c .before .before .before .before .before .before .before .before .before .before .before .calls .ensures)) ∙ c .before .before .before .before .before .before .before .before .before .if1 .left) (continued (c .before .before .before .before .before)) (c .before .before .note-lines .ensures)
+    (sym (ap (λ (b : ℕ). getD (now (a .work)) (b + a .c) 0) (c .before .before .before .before .before .before .before .before .before .before .before .calls .ensures)) ∙ c .before .before .before .before .before .before .before .before .before .if1 .left) (continued (c .before .before .before .before .before)) (c .before .before .note-bodies .ensures)
 
 same-length-2 : tie.Need-same-length-2
 same-length-2 c = search needs
@@ -81,7 +81,7 @@ note-call-spec =
     returns
     continuation-requires
     enum-known-k
-    note-lines-requires
+    note-bodies-requires
     enum-told
     same-length
     returns-2

@@ -7,6 +7,7 @@ use denote.Ref.{now}
 use Rattle.flow.specs.Format.{flowOf}
 use Rattle.theory.specs.Lists.{any, upTo}
 use Rattle.theory.specs.Doubled.{returnsTo}
+use Rattle.statements.specs.Layout.{waitingAt}
 use Rattle.statements.proofs.Keeps.{ready-keeps}
 use Rattle.calls.specs.Joins.{Joins}
 use Rattle.calls.proofs.Checked.{ready-formed, ready-size}
@@ -54,7 +55,7 @@ returns c =
     let n = a .h .statements in
     let all : c .before .loop .c ≡ n = omega arith in (
       linked (ready-size (start .pre .0)) (start .pre .2)
-          (subst (λ (m : ℕ). Joins f (now (a .work)) (c .before .loop .work) n (λ r k. any (returnsTo f r k) (upTo m))) all (inv .joins)),
+          (subst (λ (m : ℕ). Joins f (now (a .work)) (c .before .loop .work) n (waitingAt n) (λ r k. any (returnsTo f r k) (upTo m))) all (inv .joins)),
       inv .joins .kept,
     )
 

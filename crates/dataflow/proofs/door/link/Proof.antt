@@ -1,4 +1,4 @@
--- `link` meets its contract: the RETURNs' rows are noted, the queue's words cleared, and the other words of the solver are still zero.
+-- `link` meets its contract: the RETURNs' rows are noted, the words that this used are cleared, and the other words of the solver are still zero.
 -- Assumes nothing.
 use borrow.Author.Needs.{needs}
 use native.Mathlib.Omega.{arith}
@@ -32,7 +32,7 @@ returns c =
     let start = c .before .before .before .before .before .before .before .before .before .before .before in
     let noted = c .before .before .before .before .before .before .before .note-returns in
     linked (start .pre .0) (start .pre .1) (start .pre .2) (noted .ensures .0) (noted .ensures .1)
-    (c .before .before .clear .ensures ∙ ap (λ q. cleared (noted .last .1 .1 .0) q (2 * start .args .h .statements)) (c .before .before .before .queue .ensures))
+    (c .before .before .clear .ensures ∙ ap (λ q. cleared (noted .last .1 .1 .0) q (3 * start .args .h .statements)) (c .before .before .before .queue .ensures))
 
 pub link-spec : {M : Type 1} → statement M
 link-spec =

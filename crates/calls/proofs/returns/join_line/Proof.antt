@@ -1,5 +1,5 @@
--- `note_line` meets its contract: the line enters a body, whose RETURNs go to k, or nothing.
--- By the laws of `Joins`. Assumes nothing.
+-- `join_line` meets its contract: the line enters a body, whose walk joins the row, or nothing.
+-- By the laws of `Adds`. Assumes nothing.
 use Prim.Native.Nat.{ℕ}
 use mathlib.Core.List.{List}
 use mathlib.Core.Option.{some}
@@ -11,11 +11,12 @@ use Rattle.flow.specs.Flow.{enters}
 use Rattle.flow.specs.Format.{flowOf}
 use Rattle.theory.specs.Lists.{optionList}
 use Rattle.theory.specs.Body.{kind, callLines}
-use Rattle.calls.specs.Joins.{Joins, fromBodies}
+use Rattle.calls.specs.Joins.{Adds, walks}
 use Rattle.calls.proofs.Checked.{ready-formed, ready-below, enters-at, enters-nothing}
-use Rattle.calls.proofs.Gathered.{entered-line, bodies-none, bodies-one}
-use Rattle.calls.proofs.returns.note_line.Statement.{statement}
-use Rattle.calls.proofs.returns.note_line.Tie as tie
+use Rattle.calls.proofs.Joined.{adds-none}
+use Rattle.calls.proofs.Gathered.{entered-line, walks-none, walks-one}
+use Rattle.calls.proofs.returns.join_line.Statement.{statement}
+use Rattle.calls.proofs.returns.join_line.Tie as tie
 
 entered-requires : tie.Need-entered-requires
 entered-requires c κs = search needs
@@ -28,8 +29,8 @@ enters-b : (c : tie.After-b) → let a = c .before .before .before .before .befo
     enters (flowOf (now (a .file))) (getD (callLines (kind (flowOf (now (a .file))) (a .c))) (a .l) 0) ≡ some (c .b .given .0 .0 .0)
 enters-b c = enters-at _ _ (sym (c .before .before .entered .ensures) ∙ c .b .given .1)
 
-note-body-requires : tie.Need-note-body-requires
-note-body-requires c κs =
+join-walk-requires : tie.Need-join-walk-requires
+join-walk-requires c κs =
     let start = c .before .before .before .before .before .before .before .before in
     let a = start .args in
     let f = flowOf (now (a .file)) in
@@ -38,8 +39,7 @@ note-body-requires c κs =
     let e = enters-b (c .before .before) in (
       ready,
       ready-below ready (ready-formed ready .first (getD (callLines (kind f (a .c))) (a .l) 0) b e),
-      start .pre .3,
-      start .pre .5 b (entered-line f (a .c) (a .l) b (start .pre .4) e),
+      start .pre .4 b (entered-line f (a .c) (a .l) b (start .pre .3) e),
     )
 
 enum-told : tie.Need-enum-told
@@ -53,8 +53,8 @@ unfolding optionList
 returns c =
     let a = c .before .before .before .before .before .before .before .before .before .before .before .args in
     let f = flowOf (now (a .file)) in
-    subst (λ (bs : List ℕ). Joins f (now (a .work)) (c .before .before .note-body .last .1 .0) (a .h .statements) (fromBodies f bs (a .k)))
-    (sym (ap optionList (enters-b (c .before .before .before .before .before)))) (bodies-one f (a .k) (c .before .before .before .before .before .b .given .0 .0 .0) (c .before .before .note-body .ensures))
+    subst (λ (xs : List ℕ). Adds (now (a .work)) (c .before .before .join-walk .last .1 .0) (a .h .statements) xs)
+    (sym (ap (λ o. walks f (optionList o)) (enters-b (c .before .before .before .before .before)) ∙ walks-one f (c .before .before .before .before .before .b .given .0 .0 .0))) (c .before .before .join-walk .ensures)
 
 same-length-2 : tie.Need-same-length-2
 same-length-2 c = search needs
@@ -64,17 +64,17 @@ unfolding optionList
 returns-2 c =
     let a = c .before .before .before .before .before .before .args in
     let f = flowOf (now (a .file)) in
-    subst (λ (bs : List ℕ). Joins f (now (a .work)) (now (a .work)) (a .h .statements) (fromBodies f bs (a .k)))
-    (sym (ap optionList (enters-nothing (enters f (getD (callLines (kind f (a .c))) (a .l) 0)) (sym (c .before .before .entered .ensures) ∙ c .enum-told .given .1))))
-    (bodies-none f (a .k))
+    subst (λ (xs : List ℕ). Adds (now (a .work)) (now (a .work)) (a .h .statements) xs)
+    (sym (ap (λ o. walks f (optionList o)) (enters-nothing (enters f (getD (callLines (kind f (a .c))) (a .l) 0)) (sym (c .before .before .entered .ensures) ∙ c .enum-told .given .1)) ∙ walks-none f))
+    adds-none
 
-pub note-line-spec : {M : Type 1} → statement M
-note-line-spec =
+pub join-line-spec : {M : Type 1} → statement M
+join-line-spec =
     tie.close
     (tie.spec
     entered-requires
     enum-known-b
-    note-body-requires
+    join-walk-requires
     enum-told
     same-length
     returns

@@ -1,0 +1,90 @@
+-- `join_lines` meets its contract. The invariant: the row has gained the walks of the bodies that the lines before l enter. So the rows of walks stay.
+-- The measure is how many lines are left. Assumes nothing.
+use Prim.Native.Nat.{ℕ, _-_, _≤_}
+use mathlib.Core.List.{List}
+use mathlib.Core.Path.{subst}
+use native.Mathlib.Omega.{arith}
+use borrow.Author.Needs.{needs}
+use denote.Ref.{now}
+use lib.ListN.{take}
+use Rattle.flow.specs.Format.{flowOf}
+use Rattle.theory.specs.Lists.{concatMap}
+use Rattle.theory.specs.Body.{kind, callLines}
+use Rattle.statements.proofs.WorkArea.{row-from}
+use Rattle.statements.proofs.Keeps.{ready-keeps}
+use Rattle.calls.specs.Joins.{Adds, walks}
+use Rattle.calls.proofs.Checked.{ready-formed, ready-size}
+use Rattle.calls.proofs.Joined.{adds-none, adds-then}
+use Rattle.calls.proofs.Gathered.{enteredBy, entered-all, rows-stay, walks-more}
+use Rattle.calls.proofs.returns.join_lines.Statement.{statement}
+use Rattle.calls.proofs.returns.join_lines.Tie as tie
+
+abbrev Inv-loop : tie.InvT-loop
+Inv-loop file h work₀ c n count l₀ work l =
+    (l ≤ count) × Adds work₀ work n (walks (flowOf file) (enteredBy (flowOf file) (take l (callLines (kind (flowOf file) c)))))
+
+abbrev μ-loop : tie.MeasureT-loop
+μ-loop file h work₀ c n count l₀ work l = count - l
+
+line-count-requires : tie.Need-line-count-requires Inv-loop μ-loop
+line-count-requires c κs = search needs
+
+loop-holds : tie.Need-loop-holds Inv-loop μ-loop
+unfolding concatMap
+loop-holds c = (omega arith, adds-none)
+
+join-line-requires : tie.Need-join-line-requires Inv-loop μ-loop
+join-line-requires c κs =
+    let start = c .before .before .before .before .before .before .before in
+    let p = start .pre in
+    let n = start .args .h .statements in
+    let kept = c .before .before .loop .inv .1 .kept in (
+      ready-keeps (p .0) kept (omega (arith, row-from n n)),
+      p .1,
+      p .2,
+      omega (arith, c .before .before .before .line-count .ensures),
+      rows-stay (start .args .c) (ready-formed (p .0)) (ready-size (p .0)) kept (p .3),
+    )
+
+add-l : tie.Need-add-l Inv-loop μ-loop
+add-l c = omega arith
+
+loop-less : tie.Need-loop-less Inv-loop μ-loop
+loop-less c = omega arith
+
+loop-again : tie.Need-loop-again Inv-loop μ-loop
+loop-again c =
+    let a = c .before .before .before .before .before .before .before .before .before .before .args in
+    let f = flowOf (now (a .file)) in
+    let lines = callLines (kind f (a .c)) in
+    let l = c .before .before .before .before .before .loop .l in (
+      omega arith,
+      subst (λ (xs : List ℕ). Adds (now (a .work)) (c .before .before .join-line .last .1 .1 .0) (a .h .statements) xs)
+          (walks-more f lines l (omega (arith, c .before .before .before .before .before .before .line-count .ensures)))
+          (adds-then (c .before .before .before .before .before .loop .inv .1) (c .before .before .join-line .ensures)),
+    )
+
+same-length : tie.Need-same-length Inv-loop μ-loop
+same-length c = c .before .loop .inv .1 .kept .size
+
+returns : tie.Need-returns Inv-loop μ-loop
+returns c =
+    let a = c .before .before .before .before .before .before .args in
+    let f = flowOf (now (a .file)) in
+    subst (λ (bs : List ℕ). Adds (now (a .work)) (c .before .loop .work) (a .h .statements) (walks f bs))
+    (entered-all f (a .c) (c .before .loop .l) (omega (arith, c .before .before .line-count .ensures))) (c .before .loop .inv .1)
+
+pub join-lines-spec : {M : Type 1} → statement M
+join-lines-spec =
+    tie.close
+    (tie.spec
+    Inv-loop
+    μ-loop
+    line-count-requires
+    loop-holds
+    join-line-requires
+    add-l
+    loop-less
+    loop-again
+    same-length
+    returns)
