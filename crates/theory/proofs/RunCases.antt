@@ -1,7 +1,6 @@
--- Runs exist: in P5 one goes through the subroutine and finds AUTO at statement 1, in P6 DIMMED; CLR and RUN leave an empty stack; an ON GOSUB is passed over; and P5 keeps
+-- Runs exist: in P5 one goes through the subroutine and finds AUTO at statement 1, in P6 DIMMED; CLR and RUN leave an empty stack; an ON GOSUB is entered and passed over; and P5 keeps
 -- the premise on listed successors. Each is the run itself, move by move, whose states and stack the checker computes.
 use Prim.Native.Nat.{ℕ, zero, suc}
-use mathlib.Core.Bool.{true}
 use mathlib.Core.List.{List, [], _∷_, List·Memᴰ·head, List·Memᴰ·not-nil}
 use mathlib.Core.Option.{none, some}
 use mathlib.Core.Path.{_≡_, refl}
@@ -12,26 +11,34 @@ use Rattle.flow.specs.Flow.{Kind, firstOf}
 use Rattle.theory.specs.Lists.{In, any, has, concatMap, optionList}
 use Rattle.theory.specs.Body.{kind, successors, entered}
 use Rattle.theory.specs.Doubled.{kindEffects, statementEffects}
-use Rattle.theory.specs.Runs.{Config, config, becomeAll, act, goesOn, empties, Move, Run, Listed}
+use Rattle.theory.specs.Runs.{Frame, Config, config, becomeAll, act, Move, Run, Listed}
 use Rattle.theory.specs.Cases.{p5With, item, p5, p5On, p6, p8}
 
--- GOSUB 30, where a statement goes on to RETURN, and back to statement 1
-call-run : (k : Kind) (rs : List ℕ) → goesOn k ≡ true → Run (p5With k rs) (config 1 (act (p5With k rs) 2 (λ a. State.none)) [])
+-- GOSUB 30 in P5 and its kin
+call-run : (k : Kind) (rs : List ℕ) → Run (p5With k rs) (config 2 (λ a. State.none) (Frame.back 1 ∷ []))
 unfolding entered concatMap optionList firstOf act becomeAll statementEffects kindEffects has
-call-run k rs h =
-    Run.move
-    (Run.move (Run.move (Run.start (lit< tt)) (Move.gosub refl (List·Memᴰ·head refl))) (Move.next h (List·Memᴰ·head refl)))
-    (Move.return refl)
+call-run k rs = Run.move (Run.start (lit< tt)) (Move.gosub refl (List·Memᴰ·head refl))
 
--- by its reference
+-- a reference, and RETURN to statement 1
 pub p5-run : (s : ℕ → State) × Run p5 (config 1 s []) × (s 0 ≡ State.auto)
 unfolding act becomeAll statementEffects kindEffects has
-p5-run = (_, call-run Kind.other (0 ∷ []) refl, refl)
+p5-run = (_, Run.move (Run.move (call-run Kind.other (0 ∷ [])) (Move.next refl (List·Memᴰ·head refl))) (Move.return refl), refl)
 
--- by its DIM
+-- a DIM, and RETURN
 pub p6-run : (s : ℕ → State) × Run p6 (config 1 s []) × (s 0 ≡ State.dimmed)
 unfolding act becomeAll statementEffects kindEffects has any
-p6-run = (_, call-run (Kind.dim (item 0 1 ∷ [])) [] refl, refl)
+p6-run = (_, Run.move (Run.move (call-run (Kind.dim (item 0 1 ∷ [])) []) (Move.next refl (List·Memᴰ·head refl))) (Move.return refl), refl)
+
+-- ON GOSUB 30, a reference, and RETURN
+pub on-run : (s : ℕ → State) × Run p5On (config 1 s []) × (s 0 ≡ State.auto)
+unfolding entered concatMap optionList firstOf act becomeAll statementEffects kindEffects has
+on-run = (
+  _,
+  Run.move
+      (Run.move (Run.move (Run.start (lit< tt)) (Move.on-gosub refl (List·Memᴰ·head refl))) (Move.next refl (List·Memᴰ·head refl)))
+      (Move.return refl),
+  refl,
+)
 
 clash : _≡_ {A = ℕ} 0 1 → ⊥
 clash h = omega arith
@@ -61,15 +68,12 @@ unfolding act becomeAll statementEffects kindEffects has
 skip-run = (_, Run.move (Run.start (lit< tt)) (Move.skip refl), refl)
 
 -- CLR and RUN in the subroutine empty the stack
-clear-run : (k : Kind) → empties k ≡ true → (s : ℕ → State) × Run (p5With k []) (config 3 s [])
-unfolding entered concatMap optionList firstOf
-clear-run k h = (_, Run.move (Run.move (Run.start (lit< tt)) (Move.gosub refl (List·Memᴰ·head refl))) (Move.clear h (List·Memᴰ·head refl)))
 
 pub p8-run : (s : ℕ → State) × Run p8 (config 3 s [])
-p8-run = clear-run Kind.clr refl
+p8-run = (_, Run.move (call-run Kind.clr []) (Move.clear refl (List·Memᴰ·head refl)))
 
 pub run-run : (s : ℕ → State) × Run (p5With Kind.run []) (config 3 s [])
-run-run = clear-run Kind.run refl
+run-run = (_, Run.move (call-run Kind.run []) (Move.clear refl (List·Memᴰ·head refl)))
 
 -- and RETURN then ends the run
 pub p8-ends : {s : ℕ → State} {y : Config} → Move p8 (config 3 s []) y → ⊥
