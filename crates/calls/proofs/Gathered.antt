@@ -25,12 +25,13 @@ use Rattle.theory.specs.Doubled.{returnsTo, isSome}
 use Rattle.theory.proofs.Lists.{same-test, not-so, In-has, has-In, has-not, concatMap-In, optionList-In}
 use Rattle.theory.proofs.Reach.{reach-below}
 use Rattle.theory.proofs.Body.{walkNext-below, entered-below, walked-sound, walked-complete}
-use Rattle.statements.specs.Layout.{callsAt, callTouchedAt, rowAt, queueAt, enteredAt, waitingAt}
+use Rattle.statements.specs.Layout.{callsAt, callTouchedAt, matrixAt, rowAt, queueAt, enteredAt, waitingAt}
 use Rattle.statements.specs.Ready.{Keeps, MembersWord}
 use Rattle.statements.proofs.Keeps.{keeps-has}
 use Rattle.calls.specs.Held.{WalkRow, EmptyEntered, Summarized, Linked, clear, opaque}
-use Rattle.calls.specs.Joins.{Joins, Adds, Summary, BodyRows, walks, fromReturn, fromEntered, fromBodies}
+use Rattle.calls.specs.Joins.{Joins, Adds, Notes, Summary, BodyRows, walks, fromReturn, fromEntered, fromBodies}
 use Rattle.calls.proofs.Checked.{getD-In}
+use Rattle.calls.proofs.Found.{nowhere}
 use Rattle.calls.proofs.Joined.{joins-none, joins-then, joins-same, row-stays, has-append, adds-all}
 
 -- The row of entered statements, member by member
@@ -280,14 +281,22 @@ summary-kept {f} {n = n} {c = c} w z s js l = record {
   bodies = λ k e. rows-kept c w z js (λ b m other. s .walks c b l (rw e m) other);
 }
 
-pub linked : {f : Flow} {ws vs : List ℕ} {n hi : ℕ} → size f ≡ n → Summarized f ws n → Joins f ws vs n hi (λ r k. any (returnsTo f r k) (upTo n)) → Linked f vs n
-linked {f} {ws} {vs} {n} z s js = record {
-  ordinary = λ c l e. js .kept .below (callsAt n + c) (omega arith) ∙ s .ordinary c l e;
-  call = λ c k l e. js .kept .below (callsAt n + c) (omega arith) ∙ s .call c k l e;
-  touched = λ c l e. subst (λ (w : ℕ). MembersWord w (callTouches f c)) (sym (js .kept .below (callTouchedAt n + c) (omega arith)))
-      (s .touched c l (sym (js .kept .below (callsAt n + c) (omega arith)) ∙ e));
+pub linked : {f : Flow} {ws us vs : List ℕ} {n hi : ℕ} → size f ≡ n → Summarized f ws n → Joins f ws us n hi (λ r k. any (returnsTo f r k) (upTo n)) → Notes f us vs n 0 n → Linked f vs n
+linked {f} {ws} {us} {vs} {n} z s js ns = record {
+  ordinary = λ c l e. word (callsAt n + c) (omega arith) ∙ s .ordinary c l e;
+  call = λ c k l e. word (callsAt n + c) (omega arith) ∙ s .call c k l e;
+  touched = λ c l e. subst (λ (w : ℕ). MembersWord w (callTouches f c)) (sym (word (callTouchedAt n + c) (omega arith))) (s .touched c l (sym (word (callsAt n + c) (omega arith)) ∙ e));
+  bodies = λ c j l lj e. ns .noted c j (omega arith) l lj (sym (ns .kept .below (callsAt n + c) (omega arith)) ∙ e);
   returns = λ r k lr lk is.
       let goes : ℕ → ℕ = λ m. cond (any (returnsTo f r k) (upTo m)) 1 0 in
       let only : max 0 (goes n) ≡ goes n = omega arith in
-      js .joined r k lr lk is ∙ ap (λ (x : ℕ). max x (goes n)) (s .free r lr is k lk) ∙ only ∙ ap goes (sym z);
+      ns .others r k lr lk (λ a b e. no-call r lr is e)
+      ∙ js .joined r k lr lk is ∙ ap (λ (x : ℕ). max x (goes n)) (s .free r lr is k lk) ∙ only ∙ ap goes (sym z);
 }
+  where
+    word : (x : ℕ) → x < matrixAt n → getD vs x 0 ≡ getD ws x 0
+    word x l = ns .kept .below x l ∙ js .kept .below x l
+
+    -- a RETURN is no clear call
+    no-call : (r : ℕ) → r < n → isReturn (kind f r) ≡ true → getD us (callsAt n + r) 0 ≡ clear → ⊥
+    no-call r l is e = omega (arith, e, js .kept .below (callsAt n + r) (omega arith), s .ordinary r l (nowhere (kind f r) is))

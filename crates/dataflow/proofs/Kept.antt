@@ -1,4 +1,4 @@
--- What the solver leaves alone: the calls' summaries, the rows of the RETURNs and the row of entered statements lie outside the words that it writes.
+-- What the solver leaves alone: the calls' summaries, the rows of the RETURNs and of the calls, and the row of entered statements lie outside the words that it writes.
 -- By the layout of the work area.
 use Prim.Native.Nat.{ℕ, _+_, _/_, _<_, _≤_}
 use mathlib.Core.List.{List}
@@ -27,11 +27,13 @@ module _ {ws vs : List ℕ} {n hi : ℕ} (k : Keeps (queueAt n) hi ws vs) where
   linked-stays {f} x =
       let h = queue-above n in
       let call : (c : ℕ) → c < n → getD vs (callsAt n + c) 0 ≡ getD ws (callsAt n + c) 0 = λ c l. k .below (callsAt n + c) (omega arith) in
+      let row : (r j : ℕ) → r < n → j < n → has vs (rowAt n r) j ≡ has ws (rowAt n r) j = λ r j l m. keeps-has k (rowAt n r) j (λ p q. let fits = row-fits n l in let word = member-word m in omega arith) in
       record {
         ordinary = λ c l e. call c l ∙ x .ordinary c l e;
         call = λ c j l e. call c l ∙ x .call c j l e;
         touched = λ c l e. subst (λ (w : ℕ). MembersWord w (callTouches f c)) (sym (k .below (callTouchedAt n + c) (omega arith))) (x .touched c l (sym (call c l) ∙ e));
-        returns = λ r j l m e. keeps-has k (rowAt n r) j (λ p q. let fits = row-fits n l in let word = member-word m in omega arith) ∙ x .returns r j l m e;
+        bodies = λ c j l m e. row c j l m ∙ x .bodies c j l m (sym (call c l) ∙ e);
+        returns = λ r j l m e. row r j l m ∙ x .returns r j l m e;
       }
 
 -- the row of entered statements goes by its words
