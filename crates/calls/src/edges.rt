@@ -97,12 +97,8 @@ pub fn note_entered(file: &[u8], work: &mut [u64], n: usize, i: usize)
     requires { ⌜ Ready (now file) (now work) n × Linked (flowOf (now file)) (now work) n × (i < n) × EmptyEntered (now work) n ⌝ }
     ensures { λ _. ⌜ EnteredRow (flowOf (now (file .entry))) (now (work .exit)) n i × Keeps (enteredAt n) (waitingAt n) (now (work .entry)) (now (work .exit)) ⌝ }
 {
-    words::union(
-        work,
-        layout::entered(n),
-        layout::row(n, i),
-        layout::row_words(n),
-    );
+    let row = layout::row(n, i);
+    words::union(work, layout::entered(n), row, layout::row_words(n));
 }
 
 // A call that is not opaque, with the continuation k: the entered statements, then the continuation, then the other successors.

@@ -107,7 +107,7 @@ fn note_call(file: &[u8], h: flow::Header, work: &mut [u64], c: usize)
     }
 }
 
-// The rows of the statements that are no RETURN held the walks; they are free at the end, for the statements that the other calls enter.
+// Once the RETURNs are noted, no walk is needed any more: the rows of the calls that are not opaque then hold the statements that they enter.
 pub fn note_returns(file: &[u8], h: flow::Header, work: &mut [u64])
     requires { ⌜ Ready (now file) (now work) (h .statements) × (h ≡ headerOf (now file)) × Summarized (flowOf (now file)) (now work) (h .statements) ⌝ }
     ensures { λ _. ⌜ Linked (flowOf (now (file .entry))) (now (work .exit)) (h .statements) ⌝ }

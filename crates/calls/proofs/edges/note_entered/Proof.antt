@@ -20,11 +20,11 @@ use Rattle.calls.proofs.Joined.{adds-union, adds-all}
 use Rattle.calls.proofs.edges.note_entered.Statement.{statement}
 use Rattle.calls.proofs.edges.note_entered.Tie as tie
 
-entered-requires : tie.Need-entered-requires
-entered-requires c κs = ready-few (c .before .before .before .pre .0)
-
 row-requires : tie.Need-row-requires
-row-requires c κs = (ready-few (c .before .before .before .before .pre .0), omega arith)
+row-requires c κs = (ready-few (c .before .before .pre .0), omega arith)
+
+entered-requires : tie.Need-entered-requires
+entered-requires c κs = ready-few (c .before .before .before .before .pre .0)
 
 row-words-requires : tie.Need-row-words-requires
 row-words-requires c κs = ready-few (c .before .before .before .before .before .pre .0)
@@ -35,8 +35,8 @@ union-requires c κs =
     let n = start .args .n in
     let room = ready-room (start .pre .0) (omega arith) in
     let words = c .row-words .ensures in (
-      omega (arith, c .before .before .entered .ensures, row-words-le n),
-      omega (arith, c .before .row .ensures, row-fits n (start .pre .2)),
+      omega (arith, c .before .entered .ensures, row-words-le n),
+      omega (arith, c .before .before .before .row .ensures, row-fits n (start .pre .2)),
     )
 
 same-length : tie.Need-same-length
@@ -52,11 +52,11 @@ returns c =
     let vs = c .before .before .union .last .0 in
     let grew = c .before .before .union .result in
     let width = c .before .before .before .row-words in
-    let from = c .before .before .before .before .row in
+    let from = c .before .before .before .before .before .before .row in
     let joined : Unioned ws vs (enteredAt n) (rowAt n (a .i)) (rowWords n) grew =
     subst (λ (w : ℕ). Unioned ws vs (enteredAt n) (rowAt n (a .i)) w grew) (width .ensures)
     (subst (λ (b : ℕ). Unioned ws vs (enteredAt n) b (width .result) grew) (from .ensures)
-    (subst (λ (b : ℕ). Unioned ws vs b (from .result) (width .result) grew) (c .before .before .before .before .before .entered .ensures) (c .before .before .union .ensures)))
+    (subst (λ (b : ℕ). Unioned ws vs b (from .result) (width .result) grew) (c .before .before .before .before .entered .ensures) (c .before .before .union .ensures)))
     in (
       record {
         row = λ k e o. adds-all (p .3)
@@ -70,4 +70,4 @@ returns c =
 pub note-entered-spec : {M : Type 1} → statement M
 note-entered-spec =
     tie.close
-    (tie.spec entered-requires row-requires row-words-requires union-requires same-length returns)
+    (tie.spec row-requires entered-requires row-words-requires union-requires same-length returns)
