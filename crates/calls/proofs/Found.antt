@@ -189,7 +189,7 @@ return-edge f r c ws base h = go (decLt c (size f))
 
 -- Which slots a statement has
 
-pub nowhere : (k : Kind) → isReturn k ≡ true → continuationOf k ≡ none
+nowhere : (k : Kind) → isReturn k ≡ true → continuationOf k ≡ none
 nowhere Kind.other h = clash false h refl
 nowhere Kind.return h = refl
 nowhere Kind.clr h = clash false h refl

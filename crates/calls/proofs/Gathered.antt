@@ -31,7 +31,7 @@ use Rattle.statements.proofs.Keeps.{keeps-has}
 use Rattle.calls.specs.Held.{WalkRow, EmptyEntered, Summarized, Linked, clear, opaque}
 use Rattle.calls.specs.Joins.{Joins, Adds, Notes, Summary, BodyRows, walks, fromReturn, fromEntered, fromBodies}
 use Rattle.calls.proofs.Checked.{getD-In}
-use Rattle.calls.proofs.Found.{nowhere}
+use Rattle.calls.proofs.BodySummary.{return-ordinary}
 use Rattle.calls.proofs.Joined.{joins-none, joins-then, joins-same, row-stays, has-append, adds-all}
 
 -- The row of entered statements, member by member
@@ -299,4 +299,4 @@ linked {f} {ws} {us} {vs} {n} z s js ns = record {
 
     -- a RETURN is no clear call
     no-call : (r : ℕ) → r < n → isReturn (kind f r) ≡ true → getD us (callsAt n + r) 0 ≡ clear → ⊥
-    no-call r l is e = omega (arith, e, js .kept .below (callsAt n + r) (omega arith), s .ordinary r l (nowhere (kind f r) is))
+    no-call r l is e = omega (arith, e, js .kept .below (callsAt n + r) (omega arith), s .ordinary r l (return-ordinary (kind f r) is))

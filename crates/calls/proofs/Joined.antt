@@ -121,6 +121,12 @@ adds-insert {ws} {vs} {n} {b} i l room = subst (λ (us : List ℕ). Adds ws us n
       ∙ ap (λ (t : Bool). max (has ws (enteredAt n) j) (cond t 1 0)) (sym (or-false (eqb j b)));
 })
 
+-- a union, its rows and their width in other words
+pub union-at : {ws vs : List ℕ} {to to′ from from′ width width′ : ℕ} {t : Bool} → to ≡ to′ → from ≡ from′ → width ≡ width′
+    → Unioned ws vs to from width t → Unioned ws vs to′ from′ width′ t
+union-at {ws} {vs} {to} {to′} {from} {from′} {width} {width′} {t} a b c u =
+    subst (λ (w : ℕ). Unioned ws vs to′ from′ w t) c (subst (λ (x : ℕ). Unioned ws vs to′ x width t) b (subst (λ (x : ℕ). Unioned ws vs x from width t) a u))
+
 -- the row e of the matrix joins it
 pub adds-union : {ws vs : List ℕ} {n e : ℕ} {t : Bool} (xs : List ℕ) → Unioned ws vs (enteredAt n) (rowAt n e) (rowWords n) t → e < n → waitingAt n ≤ length ws
     → ((j : ℕ) → j < n → has ws (rowAt n e) j ≡ cond (lists.has j xs) 1 0) → Adds ws vs n xs

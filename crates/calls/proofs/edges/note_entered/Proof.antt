@@ -7,27 +7,26 @@ use mathlib.Core.Path.{sym, ap, _∙_, subst}
 use native.Mathlib.Omega.{arith}
 use borrow.Author.Needs.{needs}
 use denote.Ref.{now}
-use Rattle.words.specs.Change.{Unioned}
 use Rattle.flow.specs.Format.{flowOf}
 use Rattle.theory.specs.Body.{entered}
 use Rattle.statements.specs.Layout.{rowAt, rowWords, enteredAt, waitingAt}
 use Rattle.statements.specs.Ready.{Keeps}
 use Rattle.statements.proofs.WorkArea.{row-fits, row-words-le}
-use Rattle.statements.proofs.Keeps.{keeps-unioned}
+use Rattle.statements.proofs.Keeps.{keeps-unioned, ready-most, ready-room}
 use Rattle.calls.specs.Held.{clear, opaque}
-use Rattle.calls.proofs.Checked.{ready-few, ready-room, entered-room}
-use Rattle.calls.proofs.Joined.{adds-union, adds-all}
+use Rattle.calls.proofs.Checked.{entered-room}
+use Rattle.calls.proofs.Joined.{union-at, adds-union, adds-all}
 use Rattle.calls.proofs.edges.note_entered.Statement.{statement}
 use Rattle.calls.proofs.edges.note_entered.Tie as tie
 
 row-requires : tie.Need-row-requires
-row-requires c κs = (ready-few (c .before .before .pre .0), omega arith)
+row-requires c κs = (ready-most (c .before .before .pre .0), omega arith)
 
 entered-requires : tie.Need-entered-requires
-entered-requires c κs = ready-few (c .before .before .before .before .pre .0)
+entered-requires c κs = ready-most (c .before .before .before .before .pre .0)
 
 row-words-requires : tie.Need-row-words-requires
-row-words-requires c κs = ready-few (c .before .before .before .before .before .pre .0)
+row-words-requires c κs = ready-most (c .before .before .before .before .before .pre .0)
 
 union-requires : tie.Need-union-requires
 union-requires c κs =
@@ -49,15 +48,7 @@ returns c =
     let p = start .pre in
     let n = a .n in
     let ws = now (a .work) in
-    let vs = c .before .before .union .last .0 in
-    let grew = c .before .before .union .result in
-    let width = c .before .before .before .row-words in
-    let from = c .before .before .before .before .before .before .row in
-    let joined : Unioned ws vs (enteredAt n) (rowAt n (a .i)) (rowWords n) grew =
-    subst (λ (w : ℕ). Unioned ws vs (enteredAt n) (rowAt n (a .i)) w grew) (width .ensures)
-    (subst (λ (b : ℕ). Unioned ws vs (enteredAt n) b (width .result) grew) (from .ensures)
-    (subst (λ (b : ℕ). Unioned ws vs b (from .result) (width .result) grew) (c .before .before .before .before .entered .ensures) (c .before .before .union .ensures)))
-    in (
+    let joined = union-at (c .before .before .before .before .entered .ensures) (c .before .before .before .before .before .before .row .ensures) (c .before .before .before .row-words .ensures) (c .before .before .union .ensures) in (
       record {
         row = λ k e o. adds-all (p .3)
             (adds-union (entered (flowOf (now (a .file))) (a .i)) joined (p .2) (entered-room (p .0) (p .2))

@@ -7,14 +7,14 @@ use borrow.Author.Needs.{needs}
 use denote.Ref.{now}
 use lib.ListN.{getD}
 use Rattle.statements.proofs.WorkArea.{row-from}
-use Rattle.statements.proofs.Keeps.{keeps-trans, ready-keeps}
-use Rattle.calls.proofs.Checked.{ready-few, entered-room}
+use Rattle.statements.proofs.Keeps.{keeps-trans, ready-keeps, ready-most}
+use Rattle.calls.proofs.Checked.{entered-room}
 use Rattle.calls.proofs.CallRows.{notes-skip, notes-row}
 use Rattle.calls.proofs.edges.note_row.Statement.{statement}
 use Rattle.calls.proofs.edges.note_row.Tie as tie
 
 calls-requires : tie.Need-calls-requires
-calls-requires c κs = ready-few (c .before .before .pre .0)
+calls-requires c κs = ready-most (c .before .before .pre .0)
 
 add-if1 : tie.Need-add-if1
 add-if1 c = search needs
@@ -33,7 +33,7 @@ returns c =
 clear-entered-requires : tie.Need-clear-entered-requires
 clear-entered-requires c κs =
     let ready = c .before .before .before .before .before .before .pre .0 in
-    (omega arith, ready-few ready, ready .room)
+    (omega arith, ready-most ready, ready .room)
 
 note-lines-requires : tie.Need-note-lines-requires
 note-lines-requires c κs =
@@ -46,7 +46,7 @@ copy-entered-requires c κs =
     let start = c .before .before .before .before .before .before .before .before .before .before .before .before .before .before in
     let n = start .args .h .statements in
     let kept = keeps-trans (c .before .before .before .before .before .before .before .clear-entered .ensures .1) (c .before .before .before .note-lines .ensures .kept) in
-    (ready-few (start .pre .0), entered-room (ready-keeps (start .pre .0) kept (omega (arith, row-from n n))) (start .pre .2), start .pre .2)
+    (ready-most (start .pre .0), entered-room (ready-keeps (start .pre .0) kept (omega (arith, row-from n n))) (start .pre .2), start .pre .2)
 
 same-length : tie.Need-same-length
 same-length c = search needs

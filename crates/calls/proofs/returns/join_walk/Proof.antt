@@ -5,14 +5,14 @@ use mathlib.Core.Path.{sym, _∙_, subst}
 use native.Mathlib.Omega.{arith}
 use borrow.Author.Needs.{needs}
 use denote.Ref.{now}
-use Rattle.words.specs.Change.{Inserted, Unioned}
+use Rattle.words.specs.Change.{Inserted}
 use Rattle.flow.specs.Flow.{size}
 use Rattle.flow.specs.Format.{flowOf}
 use Rattle.theory.specs.Body.{walked}
-use Rattle.statements.specs.Layout.{rowAt, enteredAt}
+use Rattle.statements.specs.Layout.{enteredAt}
 use Rattle.statements.proofs.WorkArea.{row-fits, row-words-le}
 use Rattle.calls.proofs.Checked.{ready-few, ready-formed, ready-size, ready-room, entered-room, entered-word}
-use Rattle.calls.proofs.Joined.{adds-insert, adds-union, adds-same}
+use Rattle.calls.proofs.Joined.{adds-insert, union-at, adds-union, adds-same}
 use Rattle.calls.proofs.Gathered.{return-walk, row-walked}
 use Rattle.calls.proofs.returns.join_walk.Statement.{statement}
 use Rattle.calls.proofs.returns.join_walk.Tie as tie
@@ -69,16 +69,7 @@ returns-2 c =
     let start = c .before .before .before .before .before .before .before .before .before .before .before .before in
     let a = start .args in
     let ready = start .pre .0 in
-    let ws = now (a .work) in
-    let vs = c .before .before .union .last .0 in
-    let grew = c .before .before .union .result in
-    let width = c .before .before .before .row-words in
-    let from = c .before .before .before .before .row in
-    let joined =
-    subst (λ (w : ℕ). Unioned ws vs (enteredAt (a .n)) (rowAt (a .n) (a .e)) w grew) (width .ensures)
-    (subst (λ (b : ℕ). Unioned ws vs (enteredAt (a .n)) b (width .result) grew) (from .ensures)
-    (subst (λ (b : ℕ). Unioned ws vs b (from .result) (width .result) grew) (c .before .before .before .before .before .entered2 .ensures) (c .before .before .union .ensures)))
-    in
+    let joined = union-at (c .before .before .before .before .before .entered2 .ensures) (c .before .before .before .before .row .ensures) (c .before .before .before .row-words .ensures) (c .before .before .union .ensures) in
     adds-union (walked (flowOf (now (a .file))) (a .e)) joined (start .pre .1) (entered-room ready (start .pre .1))
     (row-walked (ready-formed ready) (ready-size ready) (start .pre .1) (start .pre .2 (sym (c .before .before .before .before .before .before .before .before .is-return .ensures) ∙ c .before .before .before .before .before .before .before .if1 .left)))
 
