@@ -1,5 +1,5 @@
 -- The laws of `stepOf` on the masks 0 to 7: it keeps them, preserves union, is monotone and idempotent, and is the union of its steps on single states.
--- Each is a test that antt computes at every effect and every mask; that it is idempotent holds of any number. Assumes nothing.
+-- Each is a test that antt computes at every effect and every mask; that it is idempotent, and what a union holds, is shown of any number. Assumes nothing.
 use mathlib.Core.Path.{_≡_, refl, sym, ap, subst, _∙_}
 use mathlib.Core.Logic.{_⊎_, inl, inr}
 use mathlib.Core.Bool.{Bool, true, false, _&&_, _||_}
