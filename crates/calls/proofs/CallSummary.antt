@@ -18,12 +18,11 @@ use Rattle.theory.specs.Lists.{In, concatMap, optionList}
 use Rattle.theory.specs.Body as theory
 use Rattle.theory.specs.Body.{kind, callLines, continuationOf, entered, ifSome, callees, Calls⁺, Opaque, OpaqueCall, CallTouches, touches, opaqueCall, callTouches}
 use Rattle.theory.specs.WellFormed.{WellFormed}
-use Rattle.theory.proofs.Lists.{clash, or-cases, any-find, none-any, concatMap-In, In-concatMap, In-optionList, optionList-In}
+use Rattle.theory.proofs.Lists.{getD-In, clash, or-cases, any-find, none-any, concatMap-In, In-concatMap, In-optionList, optionList-In}
 use Rattle.theory.proofs.Body.{touches-sound, opaque-sound, opaqueCall-complete, callTouches-complete}
 use Rattle.statements.specs.Layout.{callsAt, callTouchedAt, bodiesAt, matrixAt}
 use Rattle.calls.specs.Held.{unentered, clear, opaque}
 use Rattle.calls.specs.Summing.{body, call, touchedBy, callTouchedBy, settled, Holds, BodyState, Entered, CallState, Summing, Onward, Leads, BodyJoined, BodySummed, CallSummed}
-use Rattle.calls.proofs.Checked.{getD-In}
 use Rattle.calls.proofs.Summing.{joined-has, onward-refl, onward-trans, callee-low, onward-callTouched, summing-callTouched, call-set, call-other, onward-call, summing-call}
 use Rattle.calls.proofs.BodySummary.{settled-not, or-first, or-second}
 
@@ -110,7 +109,7 @@ module _ (f : Flow) (c : ℕ) {k′ : ℕ} (cont : continuationOf (kind f c) ≡
   unfolding enteredBy
   line-callee {k} {b} l e =
       subst (λ z. In b z) (sym callees-are)
-      (concatMap-In (λ l. optionList (enters f l)) (getD-In (callLines (kind f c)) k l) (optionList-In (enters f (getD (callLines (kind f c)) k 0)) b e))
+      (concatMap-In (λ l. optionList (enters f l)) (getD-In (callLines (kind f c)) k 0 l) (optionList-In (enters f (getD (callLines (kind f c)) k 0)) b e))
 
   module _ {n : ℕ} (w : WellFormed f) (sz : size f ≡ n) (lc : c < n) where
     callee-hides : {b : ℕ} → In b (callees f c) → (theory.opaque f b ≡ true) ⊎ Calls⁺ f b b → opaqueCall f c ≡ true

@@ -1,7 +1,7 @@
 -- A file that was found fit stands for a flow that is well formed and has n statements, at most 2,048.
 -- By what a fit file gives its readers, and what is asked of the work area before statements are read by number.
 use Prim.Native.Nat.{ℕ, zero, suc, _+_, _/_, _≤_, _<_}
-use mathlib.Core.List.{List, [], _∷_, List·Memᴰ·head, List·Memᴰ·tail}
+use mathlib.Core.List.{List}
 use mathlib.Core.Option.{Option, none, some}
 use mathlib.Core.Path.{_≡_, refl, sym, ap, _∙_, subst}
 use native.Mathlib.Omega.{arith}
@@ -21,6 +21,7 @@ use Rattle.theory.specs.Lists.{In}
 use Rattle.theory.specs.Body.{kind, callLines, successors, walkNext}
 use Rattle.theory.specs.WellFormed.{WellFormed}
 use Rattle.theory.proofs.Body.{walkNext-below}
+use Rattle.theory.proofs.Lists.{getD-In}
 use Rattle.statements.specs.Layout as layout
 use Rattle.statements.specs.Layout.{rowAt, rowWords, queueAt, waitingAt, areaEnd}
 use Rattle.statements.specs.Ready.{Ready}
@@ -106,11 +107,5 @@ pub enters-nothing : (o : Option ℕ) → enteredAt o ≡ E.the-variants.Nothing
 enters-nothing none e = refl
 enters-nothing (some t) e = let z : _≡_ {A = ℕ} 0 1 = cc in absurd (omega arith)
 
--- the element at a place of a list is one of it
-pub getD-In : (l : List ℕ) (k : ℕ) → k < length l → In (getD l k 0) l
-getD-In [] k h = absurd (omega arith)
-getD-In (x ∷ l) zero h = List·Memᴰ·head refl
-getD-In (x ∷ l) (suc k) h = List·Memᴰ·tail (getD-In l k (omega arith))
-
 pub successor-below : {s ws : List ℕ} {n : ℕ} → Ready s ws n → (i k : ℕ) → k < length (successors (flowOf s) i) → getD (successors (flowOf s) i) k 0 < n
-successor-below {s} r i k h = ready-below r (ready-formed r .successor i (getD (successors (flowOf s) i) k 0) (getD-In (successors (flowOf s) i) k h))
+successor-below {s} r i k h = ready-below r (ready-formed r .successor i (getD (successors (flowOf s) i) k 0) (getD-In (successors (flowOf s) i) k 0 h))

@@ -22,7 +22,7 @@ use Rattle.theory.specs.Reach.{Reach}
 use Rattle.theory.specs.Body.{kind, continuationOf, callLines, isReturn, entered, callees, Walks, walkNext, walked, opaqueCall, callTouches}
 use Rattle.theory.specs.WellFormed.{WellFormed}
 use Rattle.theory.specs.Doubled.{returnsTo, isSome}
-use Rattle.theory.proofs.Lists.{same-test, not-so, In-has, has-In, has-not, concatMap-In, optionList-In}
+use Rattle.theory.proofs.Lists.{getD-In, same-test, not-so, In-has, has-In, has-not, concatMap-In, optionList-In}
 use Rattle.theory.proofs.Reach.{reach-below}
 use Rattle.theory.proofs.Body.{walkNext-below, entered-below, walked-sound, walked-complete}
 use Rattle.statements.specs.Layout.{callsAt, callTouchedAt, rowAt, queueAt, enteredAt, waitingAt}
@@ -30,7 +30,6 @@ use Rattle.statements.specs.Ready.{Keeps, MembersWord}
 use Rattle.statements.proofs.Keeps.{keeps-has}
 use Rattle.calls.specs.Held.{WalkRow, EmptyEntered, Summarized, Linked, clear, opaque}
 use Rattle.calls.specs.Joins.{Joins, Adds, Summary, BodyRows, walks, fromReturn, fromEntered, fromBodies}
-use Rattle.calls.proofs.Checked.{getD-In}
 use Rattle.calls.proofs.Joined.{joins-none, joins-then, joins-same, row-stays, has-append, adds-all}
 
 -- The row of entered statements, member by member
@@ -181,7 +180,7 @@ entered-all f c l h = ap (enteredBy f) (take-all l (callLines (kind f c)) h)
 pub entered-line : (f : Flow) (c l b : ℕ) → l < length (callLines (kind f c)) → enters f (getD (callLines (kind f c)) l 0) ≡ some b → In b (entered f c)
 unfolding entered
 entered-line f c l b h e =
-    concatMap-In (λ x. optionList (enters f x)) (getD-In (callLines (kind f c)) l h) (optionList-In (enters f (getD (callLines (kind f c)) l 0)) b e)
+    concatMap-In (λ x. optionList (enters f x)) (getD-In (callLines (kind f c)) l 0 h) (optionList-In (enters f (getD (callLines (kind f c)) l 0)) b e)
 
 any-append : {A : Type 0} (p : A → Bool) (xs ys : List A) → any p (xs ++ ys) ≡ (any p xs || any p ys)
 unfolding any

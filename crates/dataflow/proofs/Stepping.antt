@@ -2,10 +2,9 @@
 -- None at first, then one element more, and at last those of the whole list.
 use Prim.Native.Nat.{ℕ, _+_, _≤_, _<_, zero-le}
 use mathlib.Core.Bool.{Bool, true, false, cond, _||_, or-false}
-use mathlib.Core.List.{List, [], _∷_, _++_, List·Memᴰ, List·Memᴰ·head, List·Memᴰ·tail}
+use mathlib.Core.List.{List, [], _∷_, _++_}
 use mathlib.Core.Path.{_≡_, refl, sym, ap, _∙_}
 use native.Mathlib.Numerals.{add-one}
-use native.Mathlib.Nat.{not-suc-le-zero, le-of-suc-le-suc}
 use native.Mathlib.Decide.{ℕ-discrete}
 use native.Mathlib.Omega.{arith}
 use borrow.Author.Tests.{eq-eqb, ne-eqb}
@@ -15,7 +14,7 @@ use lib.Seq.{take-suc, take-length}
 use Rattle.words.specs.Byte.{byteAt}
 use Rattle.masks.specs.declared.Effect.{Effect}
 use Rattle.masks.specs.Step.{stepOf}
-use Rattle.theory.specs.Lists.{In, any, has}
+use Rattle.theory.specs.Lists.{any, has}
 use Rattle.solve.specs.Rows.{RowIs, stepWhere}
 use Rattle.solve.proofs.RowChanges.{row-as, none-stepped, more-stepped}
 
@@ -39,11 +38,6 @@ pub has-any : (x : ℕ) (l : List ℕ) → any (eqb x) l ≡ has x l
 unfolding any has
 has-any x [] = refl
 has-any x (y ∷ l) = ap (λ b. eqb x y || b) (has-any x l)
-
-pub getD-In : {A : Type 0} (l : List A) (k : ℕ) (d : A) → k < length l → In (getD l k d) l
-getD-In [] k d h = absurd (not-suc-le-zero h)
-getD-In (x ∷ l) ℕ.zero d h = List·Memᴰ·head refl
-getD-In (x ∷ l) (ℕ.suc k) d h = List·Memᴰ·tail (getD-In l k d (le-of-suc-le-suc h))
 
 -- what steps goes by what passes the test
 pub step-as : (p q : ℕ → Bool) (e : Effect) {ws vs : List ℕ} {row : ℕ} → RowIs ws vs row (stepWhere p e (byteAt ws row)) → ((a : ℕ) → p a ≡ q a)

@@ -1,8 +1,8 @@
 -- What the noted places of a fit file give: n is within the limit, the parts of the work area fit, successors are statements, and sets of names are words.
 -- By the checks that a fit file passed.
-use Prim.Native.Nat.{ℕ, zero, suc, _+_, _/_, _^_, _<_, _≤_}
-use mathlib.Core.List.{List, [], _∷_, List·Memᴰ·head, List·Memᴰ·tail}
-use mathlib.Core.Path.{_≡_, refl}
+use Prim.Native.Nat.{ℕ, _+_, _/_, _^_, _<_, _≤_}
+use mathlib.Core.List.{List}
+use mathlib.Core.Path.{_≡_}
 use native.Mathlib.Nat.{lt-of-lt-of-le}
 use native.Mathlib.Omega.{arith}
 use lib.ListN.{length, getD}
@@ -14,15 +14,11 @@ use Rattle.records.proofs.Files.{limited}
 use Rattle.records.proofs.Statements.{size-is}
 use Rattle.theory.specs.Lists.{In}
 use Rattle.theory.specs.Body.{successors}
+use Rattle.theory.proofs.Lists.{getD-In}
 use Rattle.statements.specs.Layout.{rowWords, rowAt, queueAt, visitedAt, areaEnd}
 use Rattle.statements.specs.Ready.{Ready}
 use Rattle.statements.proofs.WorkArea.{row-fits, area-fits}
 use Rattle.statements.proofs.WellFormed.{well-formed, statement-in}
-
-In-getD : (l : List ℕ) (k : ℕ) → k < length l → In (getD l k 0) l
-In-getD [] k h = absurd (omega arith)
-In-getD (x ∷ xs) zero h = List·Memᴰ·head refl
-In-getD (x ∷ xs) (suc k) h = List·Memᴰ·tail (In-getD xs k (omega arith))
 
 -- a row of the matrix, for those who read its words
 pub row-room : {n j row size : ℕ} → row ≡ rowAt n j → j < n → visitedAt n ≤ size → row + (n + 63) / 64 ≤ size
@@ -43,7 +39,7 @@ module _ {s ws : List ℕ} {n : ℕ} (r : Ready s ws n) where
   successor-in i j m = let h = well-formed (r .fit) .successor i j m in let e = flow-size in omega arith
 
   pub target-in : (i k : ℕ) → k < length (successors (flowOf s) i) → getD (successors (flowOf s) i) k 0 < n
-  target-in i k l = successor-in i _ (In-getD (successors (flowOf s) i) k l)
+  target-in i k l = successor-in i _ (getD-In (successors (flowOf s) i) k 0 l)
 
   pub written-word : (i : ℕ) → statement (flowOf s) i .written < 2 ^ 64
   written-word i = lt-of-lt-of-le (statement-in (r .fit) i .written) (pow-mono (limited (r .fit) .names))

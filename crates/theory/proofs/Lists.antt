@@ -1,14 +1,15 @@
 -- The Boolean functions on lists say what membership says: `any`, `has`, `select`, `concatMap`, `map`, `optionList` and `upTo`, both ways each; and sums
 -- compare as their terms do. By induction on the list, on the proof of membership or on the bound. Assumes nothing.
 use Prim.Native.Nat.{ℕ, zero, suc, _+_, _<_, _≤_}
-use mathlib.Core.Bool.{Bool, true, false, cond, _&&_, _||_, true≢false}
+use mathlib.Core.Bool.{Bool, true, false, cond, _&&_, _||_, true≢false, or-false, or-assoc}
 use mathlib.Core.List.{List, [], _∷_, _++_, map, List·Memᴰ·head, List·Memᴰ·tail, List·Memᴰ·not-nil, List·Memᴰ·append-cases, List·Memᴰ·eq-of-singleton, Memᴰ·append-left, Memᴰ·append-right}
 use mathlib.Core.Logic.{_⊎_, inl, inr, ⊎-elim}
 use mathlib.Core.Option.{Option, none, some}
 use mathlib.Core.Path.{_≡_, refl, sym, _∙_, ap, subst}
 use native.Mathlib.Omega.{arith}
 use lib.Dec.{eqb}
-use borrow.Author.Tests.{eqb-true, eqb-false, eq-eqb}
+use lib.ListN.{length, getD}
+use borrow.Author.Tests.{eqb-true, eqb-false, eq-eqb, ne-eqb}
 use Rattle.theory.specs.Lists.{In, any, has, select, concatMap, optionList, upTo, sumBelow}
 
 -- Tests
@@ -50,6 +51,12 @@ pub member-cases : {A P : Type 0} {x y : A} {l : List A} → In x (y ∷ l) → 
 member-cases (List·Memᴰ·head e) h k = h e
 member-cases (List·Memᴰ·tail m) h k = k m
 
+-- the element at a place of a list is one of it
+pub getD-In : {A : Type 0} (l : List A) (k : ℕ) (d : A) → k < length l → In (getD l k d) l
+getD-In [] k d h = absurd (omega arith)
+getD-In (x ∷ l) zero d h = List·Memᴰ·head refl
+getD-In (x ∷ l) (suc k) d h = List·Memᴰ·tail (getD-In l k d (omega arith))
+
 -- any
 
 pub any-In : {A : Type 0} (p : A → Bool) {x : A} {l : List A} → In x l → p x ≡ true → any p l ≡ true
@@ -90,14 +97,16 @@ has-not x l h m = clash (has x l) (In-has m) h
 
 -- one more element at the end
 
+pub has-append : (l : List ℕ) (x y : ℕ) → has y (l ++ (x ∷ [])) ≡ (has y l || eqb y x)
+unfolding has
+has-append [] x y = or-false (eqb y x)
+has-append (z ∷ l) x y = ap (λ t. eqb y z || t) (has-append l x y) ∙ sym (or-assoc (eqb y z) (has y l) (eqb y x))
+
 pub has-last : (l : List ℕ) (x : ℕ) → has x (l ++ (x ∷ [])) ≡ true
-has-last l x = In-has (Memᴰ·append-right l (List·Memᴰ·head refl))
+has-last l x = has-append l x x ∙ or-right (has x l) (eqb x x) (eq-eqb x x refl)
 
 pub has-before : (l : List ℕ) {x y : ℕ} → (y ≡ x → ⊥) → has y (l ++ (x ∷ [])) ≡ has y l
-has-before l {x} {y} d =
-    same-test (has y (l ++ (x ∷ []))) (has y l)
-    (λ t. In-has (⊎-elim (λ m. m) (λ m. absurd (d (List·Memᴰ·eq-of-singleton m))) (List·Memᴰ·append-cases l (has-In y (l ++ (x ∷ [])) t))))
-    (λ t. In-has (Memᴰ·append-left (x ∷ []) (has-In y l t)))
+has-before l {x} {y} d = has-append l x y ∙ rw (ne-eqb y x d) (or-false (has y l))
 
 -- select
 
