@@ -15,7 +15,8 @@ use Rattle.theory.specs.Lists.{has}
 use Rattle.theory.specs.Body.{references}
 use Rattle.statements.proofs.Keeps.{ready-keeps}
 use Rattle.statements.proofs.WellFormed.{statement-in}
-use Rattle.dataflow.proofs.Stepping.{Stepping, stepping-none, stepping-more, stepping-all, has-any, getD-In}
+use Rattle.theory.proofs.Lists.{has-any}
+use Rattle.dataflow.proofs.Stepping.{Stepping, stepping-none, stepping-more, stepping-all, getD-In}
 use Rattle.dataflow.proofs.transfer.step_references.Statement.{statement}
 use Rattle.dataflow.proofs.transfer.step_references.Tie as tie
 
