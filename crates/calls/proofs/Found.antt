@@ -19,7 +19,7 @@ use Rattle.flow.specs.Flow.{Flow, Kind, size, enters}
 use Rattle.theory.specs.Lists.{any, has, upTo}
 use Rattle.theory.specs.Body.{kind, successors, callLines, continuationOf, entered, isReturn, opaqueCall}
 use Rattle.theory.specs.Doubled.{Base, Node, Edge, at, plain, offset, number, node, sameNode, returnsTo}
-use Rattle.theory.proofs.Lists.{clash, same-test}
+use Rattle.theory.proofs.Lists.{clash, same-test, length-upTo}
 use Rattle.theory.proofs.Edges.{node-same}
 use Rattle.statements.specs.Layout.{callsAt, enteredAt}
 use Rattle.calls.specs.Held.{EnteredIs, Linked, clear, opaque}
@@ -133,11 +133,6 @@ module _ (f : Flow) (b : Base) (i k c p : ℕ) where
 
 -- a RETURN
 
-length-upTo : (n : ℕ) → length (upTo n) ≡ n
-unfolding upTo
-length-upTo zero = refl
-length-upTo (suc n) = omega (arith, length-append (upTo n) (n ∷ []), length-upTo n)
-
 getD-upTo : (n c : ℕ) → c < n → getD (upTo n) c 0 ≡ c
 unfolding upTo
 getD-upTo zero c l = absurd (omega arith)
@@ -249,7 +244,7 @@ left-out-is f ws i k s r l = ap (λ (x : ℕ). eqb s k || eqb x 1) (r s l) ∙ g
 
 pub call-opaque : {f : Flow} {ws : List ℕ} {n i k : ℕ} → Linked f ws n → i < n → (getD ws (callsAt n + i) 0 ≡ clear → ⊥) → continuationOf (kind f i) ≡ some k
     → opaqueCall f i ≡ true
-call-opaque {f} {ws} {n} {i} {k} h l other e = go (opaqueCall f i) (h .call i k l e)
+call-opaque {f} {ws} {n} {i} {k} h l other e = go (opaqueCall f i) (h .calls .call i k l e)
   where
     go : (b : Bool) → getD ws (callsAt n + i) 0 ≡ cond b opaque clear → b ≡ true
     go true q = refl
@@ -257,7 +252,7 @@ call-opaque {f} {ws} {n} {i} {k} h l other e = go (opaqueCall f i) (h .call i k 
 
 pub call-clear : {f : Flow} {ws : List ℕ} {n i k : ℕ} → Linked f ws n → i < n → getD ws (callsAt n + i) 0 ≡ clear → continuationOf (kind f i) ≡ some k
     → opaqueCall f i ≡ false
-call-clear {f} {ws} {n} {i} {k} h l is e = go (opaqueCall f i) (sym (h .call i k l e) ∙ is)
+call-clear {f} {ws} {n} {i} {k} h l is e = go (opaqueCall f i) (sym (h .calls .call i k l e) ∙ is)
   where
     go : (b : Bool) → cond b opaque clear ≡ clear → b ≡ false
     go true q = absurd (omega arith)

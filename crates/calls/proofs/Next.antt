@@ -70,7 +70,7 @@ next-clear {f} {ws} {n} v h l x = go (continuationOf (kind f (v .stmt))) refl (o
     go : (o : Option ℕ) → continuationOf (kind f (v .stmt)) ≡ o → (b : Bool) → opaqueCall f (v .stmt) ≡ b → getD ws (callsAt n + v .stmt) 0 ≡ clear
     go none e b q = still (λ k s. let z : _≡_ {A = ℕ} 0 1 = cc in absurd (omega arith))
     go (some k) e true q = still (λ m s. q)
-    go (some k) e false q = h .call (v .stmt) k l e ∙ ap (λ (t : Bool). cond t opaque clear) q
+    go (some k) e false q = h .calls .call (v .stmt) k l e ∙ ap (λ (t : Bool). cond t opaque clear) q
 
 -- a statement that is no clear call needs no row of entered statements
 pub entered-vain : {f : Flow} {ws : List ℕ} {n i : ℕ} → Linked f ws n → i < n → (getD ws (callsAt n + i) 0 ≡ clear → ⊥) → EnteredRow f ws n i

@@ -14,17 +14,15 @@ use Rattle.theory.specs.Lists.{In, has, select, concatMap, optionList}
 use Rattle.theory.specs.Body.{kind, successors, callLines, continuationOf, entered, isReturn, opaqueCall}
 use Rattle.theory.specs.Doubled.{Base, Node, Edge, at, plain, number, node, sameNode, returnEdges, listedEdges, callEdges, edgesOf, edges, once, arcsOf, doubled}
 use Rattle.theory.specs.Queue.{Arc, brings, enqueue, stepAll}
-use Rattle.theory.proofs.Lists.{In-has, has-In, In-map, select-In}
+use Rattle.theory.proofs.Lists.{In-has, has-In, In-map, select-In, concatMap-append}
 use Rattle.theory.proofs.Edges.{same-node, in-once}
 use Rattle.calls.specs.Slots.{edgeTo, ifEntered, otherSlots, callSlots, returnSlots, listedSlots, slotsOf, slots, present, toArc}
 
 -- Present slots
 
 present-append : (xs ys : List (Option Edge)) → present (xs ++ ys) ≡ present xs ++ present ys
-unfolding present concatMap optionList
-present-append [] ys = refl
-present-append (none ∷ xs) ys = present-append xs ys
-present-append (some x ∷ xs) ys = ap (λ (es : List Edge). x ∷ es) (present-append xs ys)
+unfolding present
+present-append xs ys = concatMap-append optionList xs ys
 
 present-all : {A : Type 0} (g : A → Edge) (l : List A) → present (map (λ x. some (g x)) l) ≡ map g l
 unfolding present concatMap optionList

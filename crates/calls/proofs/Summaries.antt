@@ -162,9 +162,11 @@ callee-continues f c {b} m = go (continuationOf (kind f c)) refl m
 
 pub summarized : {f : Flow} {ws₀ ws : List ℕ} {n c : ℕ} → WellFormed f → size f ≡ n → Words ws → SummedBelow f ws₀ ws n c → n ≤ c → Summarized f ws n
 summarized {f} {ws₀} {ws} {n} {c} w sz words p end = record {
-  ordinary = λ d l h. ordinary h (p .summing .calls d l);
-  call = λ d k l h. settled-is (p .done d k (omega arith) h) (p .summing .calls d l);
-  touched = λ d l h. members (words (callTouchedAt n + d)) (p .summing .callTouched d l) (clear-touches h (p .summing .calls d l));
+  calls = record {
+    ordinary = λ d l h. ordinary h (p .summing .calls d l);
+    call = λ d k l h. settled-is (p .done d k (omega arith) h) (p .summing .calls d l);
+    touched = λ d l h. members (words (callTouchedAt n + d)) (p .summing .callTouched d l) (clear-touches h (p .summing .calls d l));
+  };
   walks = λ d b l m h. let k = callee-continues f d m in entered-row (callee-entered (p .done d (k .0) (omega arith) (k .1)) m (p .summing .calls d l)) h (p .summing .bodies b (callee-low w sz d b m));
   free = λ r l h. p .summing .free r l h;
 }
