@@ -108,7 +108,7 @@ return-wipes (Kind.dim items) h = clash false h refl
 return-wipes (Kind.gosub l c) h = refl
 return-wipes (Kind.onGosub ls c) h = refl
 
-return-ordinary : (k : Kind) → isReturn k ≡ true → continuationOf k ≡ none
+pub return-ordinary : (k : Kind) → isReturn k ≡ true → continuationOf k ≡ none
 return-ordinary Kind.other h = refl
 return-ordinary Kind.return h = refl
 return-ordinary Kind.clr h = refl

@@ -20,7 +20,7 @@ use Rattle.theory.specs.Reach.{Reach}
 use Rattle.theory.specs.Body.{kind, continuationOf, isReturn, entered, callees, walked, opaqueCall, callTouches}
 use Rattle.theory.specs.WellFormed.{WellFormed}
 use Rattle.theory.specs.Doubled.{returnsTo, isSome}
-use Rattle.theory.proofs.Lists.{same-test, not-so, eqb-sym, any-append, In-has, has-In, has-not, has-append, concatMap-append}
+use Rattle.theory.proofs.Lists.{same-test, not-so, eqb-sym, says-one, any-append, In-has, has-In, has-not, has-append, concatMap-append}
 use Rattle.theory.proofs.Body.{entered-below, walked-sound, walked-complete}
 use Rattle.statements.specs.Layout.{callsAt, callTouchedAt, matrixAt, rowAt, queueAt, enteredAt, waitingAt}
 use Rattle.statements.specs.Ready.{Keeps, MembersWord}
@@ -132,11 +132,7 @@ module _ (f : Flow) where
   -- once the row has the bodies' walks and no more, its RETURNs are those of the bodies
   pub bodies-noted : {ws us vs : List ℕ} {n : ℕ} (k : ℕ) (bs : List ℕ) → EmptyEntered ws n → Adds ws us n (walks f bs)
       → Joins f us vs n (queueAt n) (fromEntered us n k) → Joins f us vs n (queueAt n) (fromBodies f bs k)
-  bodies-noted k bs empty a js = joins-same js (λ s j ls lj is. ap (λ (t : Bool). t && eqb j k) (ap (λ (x : ℕ). eqb x 1) (adds-all empty a s ls) ∙ one (has s (walks f bs)) ∙ has-walks s bs))
-    where
-      one : (b : Bool) → eqb (cond b 1 0) 1 ≡ b
-      one true = refl
-      one false = refl
+  bodies-noted k bs empty a js = joins-same js (λ s j ls lj is. ap (λ (t : Bool). t && eqb j k) (ap (λ (x : ℕ). eqb x 1) (adds-all empty a s ls) ∙ says-one (has s (walks f bs)) ∙ has-walks s bs))
 
 -- Call by call
 

@@ -1,6 +1,6 @@
 -- The members of a set, found one after the other: those below the first member are none, and one member on, they are those below it and itself.
 -- By what the next member is. Assumes nothing.
-use Prim.Native.Nat.{ℕ, _+_, _<_}
+use Prim.Native.Nat.{ℕ, _+_, _/_, _%_, _<_}
 use mathlib.Core.Bool.{false, _&&_, _||_, or-false}
 use mathlib.Core.List.{List}
 use mathlib.Core.Path.{_≡_, sym, ap, _∙_}
@@ -8,8 +8,15 @@ use native.Mathlib.Decide.{decLt, ℕ-discrete}
 use native.Mathlib.Omega.{arith}
 use borrow.Author.Tests.{eq-eqb, ne-eqb, lt-ltb, le-ltb}
 use lib.Dec.{eqb, ltb}
-use Rattle.words.specs.Row.{has, nextMember, First}
+use lib.ListN.{getD}
+use Rattle.words.specs.Row.{bit, has, nextMember, First}
+use Rattle.words.proofs.Bit.{bit-of-zero}
 use Rattle.words.proofs.NextMember.{first}
+
+-- a word of zero has no members
+pub zero-has : (ws : List ℕ) (base i : ℕ) → getD ws (base + i / 64) 0 ≡ 0 → has ws base i ≡ 0
+unfolding has
+zero-has ws base i e = ap (λ w. bit w (i % 64)) e ∙ bit-of-zero (i % 64)
 
 -- a set goes by its members
 pub first-as : {ws vs : List ℕ} {base from bound r : ℕ} → First vs base from bound r → ((j : ℕ) → j < bound → has vs base j ≡ has ws base j) → First ws base from bound r

@@ -56,6 +56,11 @@ same-test false false h k = refl
 pub eqb-sym : (x y : ℕ) → eqb x y ≡ eqb y x
 eqb-sym x y = same-test (eqb x y) (eqb y x) (λ e. eq-eqb y x (sym (eqb-true x y e))) (λ e. eq-eqb x y (sym (eqb-true y x e)))
 
+-- a word that says 1 where the test passes says so
+pub says-one : (b : Bool) → eqb (cond b 1 0) 1 ≡ b
+says-one true = refl
+says-one false = refl
+
 -- Membership
 
 pub member-cases : {A P : Type 0} {x y : A} {l : List A} → In x (y ∷ l) → (x ≡ y → P) → (In x l → P) → P
