@@ -8,5 +8,6 @@ pub mod Slots
 pub mod Cursor
 pub mod Found
 pub mod Joined
+pub mod Lines
 pub mod Gathered
 pub mod Next

@@ -2,18 +2,18 @@
 -- By the layout of the work area.
 use Prim.Native.Nat.{ℕ, _+_, _/_, _<_, _≤_}
 use mathlib.Core.List.{List}
-use mathlib.Core.Path.{_≡_, sym, ap, subst, _∙_}
+use mathlib.Core.Path.{_≡_, ap, _∙_}
 use native.Mathlib.Omega.{arith}
 use lib.ListN.{length, getD}
 use Rattle.words.specs.Row.{has}
 use Rattle.words.proofs.Row.{has-cong}
 use Rattle.flow.specs.Flow.{Flow}
-use Rattle.statements.specs.Layout.{callsAt, callTouchedAt, rowAt, rowWords, queueAt, enteredAt, waitingAt, areaEnd}
-use Rattle.statements.specs.Ready.{Ready, Keeps, MembersWord}
+use Rattle.statements.specs.Layout.{rowAt, rowWords, queueAt, enteredAt, waitingAt, areaEnd}
+use Rattle.statements.specs.Ready.{Ready, Keeps}
 use Rattle.statements.proofs.WorkArea.{row-from, row-fits, row-words-le, member-word}
 use Rattle.statements.proofs.Keeps.{keeps-has, ready-keeps}
-use Rattle.theory.specs.Body.{callTouches}
 use Rattle.calls.specs.Held.{Linked, EnteredRow, EmptyEntered}
+use Rattle.calls.proofs.Gathered.{summaries-kept}
 
 -- the words from the queue on are the solver's
 pub queue-above : (n : ℕ) → n + n + n + n + n ≤ queueAt n
@@ -24,15 +24,10 @@ module _ {ws vs : List ℕ} {n hi : ℕ} (k : Keeps (queueAt n) hi ws vs) where
   ready-stays r = let h = queue-above n in ready-keeps r k (omega arith)
 
   pub linked-stays : {f : Flow} → Linked f ws n → Linked f vs n
-  linked-stays {f} x =
-      let h = queue-above n in
-      let call : (c : ℕ) → c < n → getD vs (callsAt n + c) 0 ≡ getD ws (callsAt n + c) 0 = λ c l. k .below (callsAt n + c) (omega arith) in
-      record {
-        ordinary = λ c l e. call c l ∙ x .ordinary c l e;
-        call = λ c j l e. call c l ∙ x .call c j l e;
-        touched = λ c l e. subst (λ (w : ℕ). MembersWord w (callTouches f c)) (sym (k .below (callTouchedAt n + c) (omega arith))) (x .touched c l (sym (call c l) ∙ e));
-        returns = λ r j l m e. keeps-has k (rowAt n r) j (λ p q. let fits = row-fits n l in let word = member-word m in omega arith) ∙ x .returns r j l m e;
-      }
+  linked-stays x = record {
+    calls = summaries-kept (let h = queue-above n in omega arith) k (x .calls);
+    returns = λ r j l m e. keeps-has k (rowAt n r) j (λ p q. let fits = row-fits n l in let word = member-word m in omega arith) ∙ x .returns r j l m e;
+  }
 
 -- the row of entered statements goes by its words
 module _ (ws vs : List ℕ) (n : ℕ) (k : (x : ℕ) → enteredAt n ≤ x → x < waitingAt n → getD vs x 0 ≡ getD ws x 0) where

@@ -14,7 +14,7 @@ use Rattle.words.proofs.Bit.{bit-of-zero, bit-or, bit-pow-same, bit-pow-other}
 use Rattle.flow.specs.Format.{tabulate}
 use Rattle.flow.specs.Fields.{bitIn, wordOf}
 use Rattle.theory.specs.Lists.{has}
-use Rattle.theory.proofs.Lists.{has-append}
+use Rattle.theory.proofs.Lists.{has-one-more}
 use Rattle.statements.specs.Ready.{MembersWord}
 
 bit-in-lt : (x : ℕ) → bitIn 0 x < 2 ^ 64
@@ -56,7 +56,7 @@ module _ (f : ℕ → ℕ) where
   word-bit (suc n) a l =
       bit-or (wordOf n f 0) (bitIn 0 (f n)) a ∙ ap₂ max (word-bit n a l) (bit-in a (f n) l)
       ∙ max-or (has a (tabulate n f)) (eqb a (f n))
-      ∙ ap (λ t. cond t 1 0) (sym (has-append (tabulate n f) (f n) a))
+      ∙ ap (λ t. cond t 1 0) (sym (has-one-more (tabulate n f) (f n) a))
 
   pub members-word : (n : ℕ) → MembersWord (wordOf n f 0) (λ a. has a (tabulate n f))
   members-word n = record { word = word-lt n; member = word-bit n }
