@@ -27,10 +27,10 @@ use Rattle.statements.specs.Ready.{Keeps, MembersWord}
 use Rattle.statements.proofs.Keeps.{keeps-has}
 use Rattle.statements.proofs.Members.{first-as, members-none, members-next}
 use Rattle.calls.specs.Held.{WalkRow, EmptyEntered, CallSummaries, Summarized, Linked, clear, opaque}
-use Rattle.calls.specs.Joins.{Joins, Adds, Summary, BodyRows, walks, fromReturn, fromEntered, fromBodies}
+use Rattle.calls.specs.Joins.{Joins, Adds, Notes, Summary, BodyRows, walks, fromReturn, fromEntered, fromBodies}
 use Rattle.calls.proofs.Joined.{joins-none, joins-then, joins-same, row-stays, adds-all}
 use Rattle.calls.proofs.Summing.{walk-low, walk-kept}
-use Rattle.calls.proofs.BodySummary.{return-stays}
+use Rattle.calls.proofs.BodySummary.{return-stays, return-ordinary}
 
 -- The row of entered statements, member by member
 
@@ -204,11 +204,17 @@ summary-kept {f} {n = n} {c = c} w z s js l = record {
   bodies = λ k e. rows-kept c w z js (λ b m other. s .walks c b l (rw e m) other);
 }
 
-pub linked : {f : Flow} {ws vs : List ℕ} {n hi : ℕ} → size f ≡ n → Summarized f ws n → Joins f ws vs n hi (λ r k. any (returnsTo f r k) (upTo n)) → Linked f vs n
-linked {f} {ws} {vs} {n} z s js = record {
-  calls = summaries-kept (omega arith) (js .kept) (s .calls);
+pub linked : {f : Flow} {ws us vs : List ℕ} {n hi : ℕ} → size f ≡ n → Summarized f ws n → Joins f ws us n hi (λ r k. any (returnsTo f r k) (upTo n)) → Notes f us vs n 0 n → Linked f vs n
+linked {f} {ws} {us} {vs} {n} z s js ns = record {
+  calls = summaries-kept (omega arith) (ns .kept) (summaries-kept (omega arith) (js .kept) (s .calls));
+  bodies = λ c j l lj e. ns .noted c j (omega arith) l lj (sym (ns .kept .below (callsAt n + c) (omega arith)) ∙ e);
   returns = λ r k lr lk is.
       let goes : ℕ → ℕ = λ m. cond (any (returnsTo f r k) (upTo m)) 1 0 in
       let only : max 0 (goes n) ≡ goes n = omega arith in
-      js .joined r k lr lk is ∙ ap (λ (x : ℕ). max x (goes n)) (s .free r lr is k lk) ∙ only ∙ ap goes (sym z);
+      ns .others r k lr lk (λ a b e. no-call r lr is e)
+      ∙ js .joined r k lr lk is ∙ ap (λ (x : ℕ). max x (goes n)) (s .free r lr is k lk) ∙ only ∙ ap goes (sym z);
 }
+  where
+    -- a RETURN is no clear call
+    no-call : (r : ℕ) → r < n → isReturn (kind f r) ≡ true → getD us (callsAt n + r) 0 ≡ clear → ⊥
+    no-call r l is e = omega (arith, e, js .kept .below (callsAt n + r) (omega arith), s .calls .ordinary r l (return-ordinary (kind f r) is))

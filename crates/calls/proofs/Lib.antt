@@ -9,5 +9,6 @@ pub mod Cursor
 pub mod Found
 pub mod Joined
 pub mod Lines
+pub mod CallRows
 pub mod Gathered
 pub mod Next

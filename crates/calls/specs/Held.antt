@@ -1,5 +1,5 @@
--- What the phases leave in the work area of a flow of n statements: the walk of a body in its row, the summary of each call, and the
--- continuations that each RETURN goes to in its row.
+-- What the phases leave in the work area of a flow of n statements: the walk of a body in its row, the summary of each call, then the
+-- continuations that each RETURN goes to in its row, and the statements that each clear call enters in its own.
 use Prim.Native.Nat.{ℕ, _+_, _<_, _≤_}
 use mathlib.Core.Bool.{true, false, cond}
 use mathlib.Core.List.{List}
@@ -71,9 +71,10 @@ pub record Summarized (f : Flow) (ws : List ℕ) (n : ℕ) : Type 0 where
   pub walks : (c b : ℕ) → c < n → In b (callees f c) → isReturn (kind f b) ≡ false → WalkRow f ws n b
   pub free : (r : ℕ) → r < n → isReturn (kind f r) ≡ true → EmptyRow ws n r
 
--- what the edges are made from: the summaries, and the continuations that each RETURN goes to
+-- what the edges are made from: the summaries, the statements that a clear call enters, and the continuations that each RETURN goes to
 pub record Linked (f : Flow) (ws : List ℕ) (n : ℕ) : Type 0 where
   pub calls : CallSummaries f ws n
+  pub bodies : (c j : ℕ) → c < n → j < n → getD ws (callsAt n + c) 0 ≡ clear → has ws (rowAt n c) j ≡ cond (lists.has j (entered f c)) 1 0
   pub returns : (r k : ℕ) → r < n → k < n → isReturn (kind f r) ≡ true → has ws (rowAt n r) k ≡ cond (any (returnsTo f r k) (upTo (size f))) 1 0
 
 -- the row of entered statements is empty; it holds those of the call i

@@ -1,6 +1,7 @@
 -- What noting changes. Where RETURNs go: the rows of some RETURNs gain a continuation, and every other row and every word below the matrix stays.
 -- Which statements a call enters, or the bodies that it enters walk: the row of entered statements gains them, and every other word stays.
-use Prim.Native.Nat.{ℕ, _+_, _<_, max}
+-- And the rows of the calls that are clear: each becomes the row of the statements that the call enters.
+use Prim.Native.Nat.{ℕ, _+_, _≤_, _<_, max}
 use mathlib.Core.Bool.{Bool, true, false, cond, _&&_}
 use mathlib.Core.List.{List}
 use mathlib.Core.Option.{some}
@@ -53,3 +54,9 @@ pub record Summary (f : Flow) (ws : List ℕ) (n c : ℕ) : Type 0 where
 pub record Adds (ws vs : List ℕ) (n : ℕ) (bs : List ℕ) : Type 0 where
   pub kept : Keeps (enteredAt n) (waitingAt n) ws vs
   pub joined : (j : ℕ) → j < n → has vs (enteredAt n) j ≡ max (has ws (enteredAt n) j) (cond (lists.has j bs) 1 0)
+
+-- vs is ws with the statements that it enters in the row of each clear call from lo to below hi; every other row stays
+pub record Notes (f : Flow) (ws vs : List ℕ) (n lo hi : ℕ) : Type 0 where
+  pub kept : Keeps (matrixAt n) (waitingAt n) ws vs
+  pub noted : (c j : ℕ) → lo ≤ c → c < hi → j < n → getD ws (callsAt n + c) 0 ≡ clear → has vs (rowAt n c) j ≡ cond (lists.has j (entered f c)) 1 0
+  pub others : (e j : ℕ) → e < n → j < n → (lo ≤ e → e < hi → getD ws (callsAt n + e) 0 ≡ clear → ⊥) → has vs (rowAt n e) j ≡ has ws (rowAt n e) j

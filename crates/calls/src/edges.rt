@@ -1,5 +1,5 @@
 // The edges of a doubled number, in the paper's order, one after the other by a cursor.
-ghost use Prim.Native.Nat.{_+_, _-_, _/_, _^_, _≤_, _<_};
+ghost use Prim.Native.Nat.{ℕ, _+_, _-_, _/_, _^_, _≤_, _<_};
 ghost use mathlib.Core.Bool.{false, _||_};
 ghost use mathlib.Core.Option.{some};
 ghost use mathlib.Core.Path.{_≡_};
@@ -11,13 +11,13 @@ ghost use Rattle.flow.specs.Limits.{maxStatements, workWords};
 ghost use Rattle.flow.specs.Format.{flowOf};
 ghost use Rattle.flow.specs.Answers.{headerOf};
 ghost use Rattle.theory.specs.Lists.{optionList};
-ghost use Rattle.theory.specs.Body.{kind, callLines, continuationOf};
+ghost use Rattle.theory.specs.Body.{kind, callLines, continuationOf, entered};
 ghost use Rattle.theory.specs.Doubled.{at, node, offset};
-ghost use Rattle.statements.specs.Layout.{enteredAt, waitingAt};
+ghost use Rattle.statements.specs.Layout.{rowAt, rowWords, enteredAt, waitingAt};
 ghost use Rattle.statements.specs.Ready.{Ready, Keeps};
 ghost use Rattle.calls.specs.Held.{Linked, EnteredRow, EnteredIs, EmptyEntered};
 ghost use Rattle.calls.specs.Slots.{slots, listedSlots, callSlots, otherSlots, edgeFrom, copyOf, memberEdge};
-ghost use Rattle.calls.specs.Joins.{Adds};
+ghost use Rattle.calls.specs.Joins.{Adds, Notes};
 use crate::CLEAR;
 use crate::Edge;
 use statements::fields;
@@ -34,10 +34,9 @@ fn note_line(file: &[u8], h: flow::Header, work: &mut [u64], i: usize, l: usize)
     }
 }
 
-// Sets the row of entered statements for statement i, which is empty.
-pub fn note_entered(file: &[u8], h: flow::Header, work: &mut [u64], i: usize)
-    requires { ⌜ Ready (now file) (now work) (h .statements) × (h ≡ headerOf (now file)) × (i < h .statements) × EmptyEntered (now work) (h .statements) ⌝ }
-    ensures { λ _. ⌜ EnteredRow (flowOf (now (file .entry))) (now (work .exit)) (h .statements) i × Keeps (enteredAt (h .statements)) (waitingAt (h .statements)) (now (work .entry)) (now (work .exit)) ⌝ }
+fn note_lines(file: &[u8], h: flow::Header, work: &mut [u64], i: usize)
+    requires { ⌜ Ready (now file) (now work) (h .statements) × (h ≡ headerOf (now file)) × (i < h .statements) ⌝ }
+    ensures { λ _. ⌜ Adds (now (work .entry)) (now (work .exit)) (h .statements) (entered (flowOf (now (file .entry))) i) ⌝ }
 {
     let n = h.statements;
     let count = fields::line_count(file, work, n, i);
@@ -53,6 +52,53 @@ pub fn clear_entered(work: &mut [u64], n: usize)
     ensures { λ _. ⌜ EmptyEntered (now (work .exit)) n × Keeps (enteredAt n) (waitingAt n) (now (work .entry)) (now (work .exit)) ⌝ }
 {
     words::clear(work, layout::entered(n), layout::row_words(n));
+}
+
+// Row i of the matrix becomes the row of entered statements.
+fn copy_entered(work: &mut [u64], n: usize, i: usize)
+    requires { ⌜ (n ≤ maxStatements) × (waitingAt n ≤ length (now work)) × (i < n) ⌝ }
+    ensures { λ _. ⌜ ((j : ℕ) → j < n → has (now (work .exit)) (rowAt n i) j ≡ has (now (work .entry)) (enteredAt n) j) × Keeps (rowAt n i) (rowAt n i + rowWords n) (now (work .entry)) (now (work .exit)) ⌝ }
+{
+    let row = layout::row(n, i);
+    let width = layout::row_words(n);
+    words::clear(work, row, width);
+    words::union(work, row, layout::entered(n), width);
+}
+
+// Statement i, if it is a call that is not opaque.
+fn note_row(file: &[u8], h: flow::Header, work: &mut [u64], i: usize)
+    requires { ⌜ Ready (now file) (now work) (h .statements) × (h ≡ headerOf (now file)) × (i < h .statements) ⌝ }
+    ensures { λ _. ⌜ Notes (flowOf (now (file .entry))) (now (work .entry)) (now (work .exit)) (h .statements) i (i + 1) ⌝ }
+{
+    let n = h.statements;
+    if work[layout::calls(n) + i] != CLEAR {
+        return;
+    }
+    clear_entered(work, n);
+    note_lines(file, h, work, i);
+    copy_entered(work, n, i);
+}
+
+// The statements that each call that is not opaque enters, in its row of the matrix: a visit then need not look up its lines.
+pub fn note_rows(file: &[u8], h: flow::Header, work: &mut [u64])
+    requires { ⌜ Ready (now file) (now work) (h .statements) × (h ≡ headerOf (now file)) ⌝ }
+    ensures { λ _. ⌜ Notes (flowOf (now (file .entry))) (now (work .entry)) (now (work .exit)) (h .statements) 0 (h .statements) ⌝ }
+{
+    let n = h.statements;
+    let mut i = 0;
+    while i < n {
+        note_row(file, h, work, i);
+        i += 1;
+    }
+}
+
+// Sets the row of entered statements for statement i, which is empty.
+pub fn note_entered(file: &[u8], work: &mut [u64], n: usize, i: usize)
+    requires { ⌜ Ready (now file) (now work) n × Linked (flowOf (now file)) (now work) n × (i < n) × EmptyEntered (now work) n ⌝ }
+    ensures { λ _. ⌜ EnteredRow (flowOf (now (file .entry))) (now (work .exit)) n i × Keeps (enteredAt n) (waitingAt n) (now (work .entry)) (now (work .exit)) ⌝ }
+{
+    let row = layout::row(n, i);
+    words::union(work, layout::entered(n), row, layout::row_words(n));
 }
 
 // A call that is not opaque, with the continuation k: the entered statements, then the continuation, then the other successors.

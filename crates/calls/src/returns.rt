@@ -107,6 +107,7 @@ fn note_call(file: &[u8], h: flow::Header, work: &mut [u64], c: usize)
     }
 }
 
+// Once the RETURNs are noted, no walk is needed any more: the rows of the calls that are not opaque then hold the statements that they enter.
 pub fn note_returns(file: &[u8], h: flow::Header, work: &mut [u64])
     requires { ⌜ Ready (now file) (now work) (h .statements) × (h ≡ headerOf (now file)) × Summarized (flowOf (now file)) (now work) (h .statements) ⌝ }
     ensures { λ _. ⌜ Linked (flowOf (now (file .entry))) (now (work .exit)) (h .statements) ⌝ }
@@ -118,4 +119,5 @@ pub fn note_returns(file: &[u8], h: flow::Header, work: &mut [u64])
         note_call(file, h, work, c);
         c += 1;
     }
+    edges::note_rows(file, h, work);
 }

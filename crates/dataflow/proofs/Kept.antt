@@ -1,14 +1,14 @@
--- What the solver leaves alone: the calls' summaries, the rows of the RETURNs and the row of entered statements lie outside the words that it writes.
+-- What the solver leaves alone: the calls' summaries, the rows of the RETURNs and of the calls, and the row of entered statements lie outside the words that it writes.
 -- By the layout of the work area.
 use Prim.Native.Nat.{ℕ, _+_, _/_, _<_, _≤_}
 use mathlib.Core.List.{List}
-use mathlib.Core.Path.{_≡_, ap, _∙_}
+use mathlib.Core.Path.{_≡_, sym, ap, _∙_}
 use native.Mathlib.Omega.{arith}
 use lib.ListN.{length, getD}
 use Rattle.words.specs.Row.{has}
 use Rattle.words.proofs.Row.{has-cong}
 use Rattle.flow.specs.Flow.{Flow}
-use Rattle.statements.specs.Layout.{rowAt, rowWords, queueAt, enteredAt, waitingAt, areaEnd}
+use Rattle.statements.specs.Layout.{callsAt, rowAt, rowWords, queueAt, enteredAt, waitingAt, areaEnd}
 use Rattle.statements.specs.Ready.{Ready, Keeps}
 use Rattle.statements.proofs.WorkArea.{row-from, row-fits, row-words-le, member-word}
 use Rattle.statements.proofs.Keeps.{keeps-has, ready-keeps}
@@ -24,10 +24,15 @@ module _ {ws vs : List ℕ} {n hi : ℕ} (k : Keeps (queueAt n) hi ws vs) where
   ready-stays r = let h = queue-above n in ready-keeps r k (omega arith)
 
   pub linked-stays : {f : Flow} → Linked f ws n → Linked f vs n
-  linked-stays x = record {
-    calls = summaries-kept (let h = queue-above n in omega arith) k (x .calls);
-    returns = λ r j l m e. keeps-has k (rowAt n r) j (λ p q. let fits = row-fits n l in let word = member-word m in omega arith) ∙ x .returns r j l m e;
-  }
+  linked-stays {f} x =
+      let h = queue-above n in
+      let call : (c : ℕ) → c < n → getD vs (callsAt n + c) 0 ≡ getD ws (callsAt n + c) 0 = λ c l. k .below (callsAt n + c) (omega arith) in
+      let row : (r j : ℕ) → r < n → j < n → has vs (rowAt n r) j ≡ has ws (rowAt n r) j = λ r j l m. keeps-has k (rowAt n r) j (λ p q. let fits = row-fits n l in let word = member-word m in omega arith) in
+      record {
+        calls = summaries-kept (omega arith) k (x .calls);
+        bodies = λ c j l m e. row c j l m ∙ x .bodies c j l m (sym (call c l) ∙ e);
+        returns = λ r j l m e. row r j l m ∙ x .returns r j l m e;
+      }
 
 -- the row of entered statements goes by its words
 module _ (ws vs : List ℕ) (n : ℕ) (k : (x : ℕ) → enteredAt n ≤ x → x < waitingAt n → getD vs x 0 ≡ getD ws x 0) where

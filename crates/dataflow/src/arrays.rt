@@ -74,7 +74,7 @@ fn send(file: &[u8], h: flow::Header, work: &mut [u64], first: Queue, d: usize) 
     transfer::transfer(file, h, work, d, i);
     if work[layout::calls(n) + i] == CLEAR {
         transfer::transfer_back(work, h, i);
-        edges::note_entered(file, h, work, i);
+        edges::note_entered(file, work, n, i);
         let queue = push_edges(file, h, work, first, d);
         edges::clear_entered(work, n);
         return queue;

@@ -1,75 +1,73 @@
--- `note_entered` meets its contract. The invariant: the row has gained what the lines before l enter. The measure is how many lines are left.
--- By what a line adds. Assumes nothing.
-use Prim.Native.Nat.{_-_, _≤_}
-use mathlib.Core.Path.{refl}
+-- `note_entered` meets its contract: the row of a clear call holds the statements that it enters, and joins the empty row.
+-- By the laws of `Adds`. Assumes nothing.
+use Prim.Native.Nat.{ℕ}
+use mathlib.Core.Bool.{Bool, cond}
+use mathlib.Core.List.{List}
+use mathlib.Core.Path.{sym, ap, _∙_, subst}
 use native.Mathlib.Omega.{arith}
 use borrow.Author.Needs.{needs}
 use denote.Ref.{now}
-use lib.ListN.{take}
+use Rattle.words.specs.Change.{Unioned}
 use Rattle.flow.specs.Format.{flowOf}
-use Rattle.theory.specs.Lists.{concatMap}
-use Rattle.theory.specs.Body.{kind, callLines}
-use Rattle.statements.proofs.WorkArea.{row-from}
-use Rattle.statements.proofs.Keeps.{ready-keeps}
-use Rattle.calls.specs.Joins.{Adds}
-use Rattle.calls.proofs.Joined.{adds-none, adds-all}
-use Rattle.calls.proofs.Lines.{enteredBy, adds-line, adds-lines}
+use Rattle.theory.specs.Body.{entered}
+use Rattle.statements.specs.Layout.{rowAt, rowWords, enteredAt, waitingAt}
+use Rattle.statements.specs.Ready.{Keeps}
+use Rattle.statements.proofs.WorkArea.{row-fits, row-words-le}
+use Rattle.statements.proofs.Keeps.{keeps-unioned, ready-most, ready-room}
+use Rattle.calls.specs.Held.{clear, opaque}
+use Rattle.calls.proofs.Checked.{entered-room}
+use Rattle.calls.proofs.Joined.{adds-union, adds-all}
 use Rattle.calls.proofs.edges.note_entered.Statement.{statement}
 use Rattle.calls.proofs.edges.note_entered.Tie as tie
 
-abbrev Inv-loop : tie.InvT-loop
-Inv-loop file h work₀ i n count l₀ work l = (l ≤ count) × Adds work₀ work n (enteredBy (flowOf file) (take l (callLines (kind (flowOf file) i))))
+row-requires : tie.Need-row-requires
+row-requires c κs = (ready-most (c .before .before .pre .0), omega arith)
 
-abbrev μ-loop : tie.MeasureT-loop
-μ-loop file h work₀ i n count l₀ work l = count - l
+entered-requires : tie.Need-entered-requires
+entered-requires c κs = ready-most (c .before .before .before .before .pre .0)
 
-line-count-requires : tie.Need-line-count-requires Inv-loop μ-loop
-line-count-requires c κs = search needs
+row-words-requires : tie.Need-row-words-requires
+row-words-requires c κs = ready-most (c .before .before .before .before .before .pre .0)
 
-loop-holds : tie.Need-loop-holds Inv-loop μ-loop
-unfolding concatMap
-loop-holds c = (omega arith, adds-none)
-
-note-line-requires : tie.Need-note-line-requires Inv-loop μ-loop
-note-line-requires c κs =
-    let start = c .before .before .before .before .before .before .before in
-    let n = start .args .h .statements in
-    (ready-keeps (start .pre .0) (c .before .before .loop .inv .1 .kept) (omega (arith, row-from n n)), start .pre .1, start .pre .2, omega (arith, c .before .before .before .line-count .ensures))
-
-add-l : tie.Need-add-l Inv-loop μ-loop
-add-l c = omega arith
-
-loop-less : tie.Need-loop-less Inv-loop μ-loop
-loop-less c = omega arith
-
-loop-again : tie.Need-loop-again Inv-loop μ-loop
-loop-again c =
-    let a = c .before .before .before .before .before .before .before .before .before .before .args in
-    let turn = c .before .before .before .before .before in
-    let f = flowOf (now (a .file)) in
-    (omega arith, adds-line (λ bs. bs) (λ xs ys. refl) f (callLines (kind f (a .i))) (turn .loop .l) (omega (arith, turn .before .line-count .ensures)) (turn .loop .inv .1) (c .before .before .note-line .ensures))
-
-same-length : tie.Need-same-length Inv-loop μ-loop
-same-length c = c .before .loop .inv .1 .kept .size
-
-returns : tie.Need-returns Inv-loop μ-loop
-returns c =
+union-requires : tie.Need-union-requires
+union-requires c κs =
     let start = c .before .before .before .before .before .before in
+    let n = start .args .n in
+    let room = ready-room (start .pre .0) (omega arith) in
+    let words = c .row-words .ensures in (
+      omega (arith, c .before .entered .ensures, row-words-le n),
+      omega (arith, c .before .before .before .row .ensures, row-fits n (start .pre .2)),
+    )
+
+same-length : tie.Need-same-length
+same-length c = search needs
+
+returns : tie.Need-returns
+returns c =
+    let start = c .before .before .before .before .before .before .before .before .before in
     let a = start .args in
-    let all = adds-lines (λ bs. bs) (flowOf (now (a .file))) (a .i) (c .before .loop .l) (omega (arith, c .before .before .line-count .ensures)) (c .before .loop .inv .1) in
-    (record { row = λ k e o. adds-all (start .pre .3) all }, all .kept)
+    let p = start .pre in
+    let n = a .n in
+    let ws = now (a .work) in
+    let vs = c .before .before .union .last .0 in
+    let grew = c .before .before .union .result in
+    let width = c .before .before .before .row-words in
+    let from = c .before .before .before .before .before .before .row in
+    let joined : Unioned ws vs (enteredAt n) (rowAt n (a .i)) (rowWords n) grew =
+    subst (λ (w : ℕ). Unioned ws vs (enteredAt n) (rowAt n (a .i)) w grew) (width .ensures)
+    (subst (λ (b : ℕ). Unioned ws vs (enteredAt n) b (width .result) grew) (from .ensures)
+    (subst (λ (b : ℕ). Unioned ws vs b (from .result) (width .result) grew) (c .before .before .before .before .entered .ensures) (c .before .before .union .ensures)))
+    in (
+      record {
+        row = λ k e o. adds-all (p .3)
+            (adds-union (entered (flowOf (now (a .file))) (a .i)) joined (p .2) (entered-room (p .0) (p .2))
+            (λ j l. p .1 .bodies (a .i) j (p .2) l (p .1 .calls .call (a .i) k (p .2) e ∙ ap (λ (b : Bool). cond b opaque clear) o)));
+      },
+      subst (λ (us : List ℕ). Keeps (enteredAt n) (waitingAt n) ws us) (sym (joined .slice))
+          (keeps-unioned ws (enteredAt n) (rowAt n (a .i)) (rowWords n) (omega arith) (omega (arith, row-words-le n))),
+    )
 
 pub note-entered-spec : {M : Type 1} → statement M
 note-entered-spec =
     tie.close
-    (tie.spec
-    Inv-loop
-    μ-loop
-    line-count-requires
-    loop-holds
-    note-line-requires
-    add-l
-    loop-less
-    loop-again
-    same-length
-    returns)
+    (tie.spec row-requires entered-requires row-words-requires union-requires same-length returns)

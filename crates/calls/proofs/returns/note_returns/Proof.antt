@@ -1,14 +1,14 @@
 -- `note_returns` meets its contract. The invariant, `Calling`: the RETURNs go where the calls before c make them go.
--- The measure is how many statements are left. Assumes nothing.
+-- The measure is how many statements are left. Then the clear calls' rows are noted, and no RETURN's row is one of them. Assumes nothing.
 use Prim.Native.Nat.{ℕ, _-_}
-use mathlib.Core.Path.{_≡_, subst}
+use mathlib.Core.Path.{_≡_, _∙_, subst}
 use native.Mathlib.Omega.{arith}
 use denote.Ref.{now}
 use Rattle.flow.specs.Format.{flowOf}
 use Rattle.theory.specs.Lists.{any, upTo}
 use Rattle.theory.specs.Doubled.{returnsTo}
 use Rattle.statements.specs.Layout.{waitingAt}
-use Rattle.statements.proofs.Keeps.{ready-keeps, ready-formed, ready-size}
+use Rattle.statements.proofs.Keeps.{keeps-trans, ready-keeps, ready-formed, ready-size}
 use Rattle.calls.specs.Joins.{Joins}
 use Rattle.calls.proofs.Gathered.{Calling, calling-start, calling-on, summary-kept, linked}
 use Rattle.calls.proofs.returns.note_returns.Statement.{statement}
@@ -42,20 +42,24 @@ loop-less c = omega arith
 loop-again : tie.Need-loop-again Inv-loop μ-loop
 loop-again c = calling-on (c .before .before .before .before .before .loop .inv) (c .before .before .before .before .loop-test .taken) (c .before .before .note-call .ensures)
 
+note-rows-requires : tie.Need-note-rows-requires Inv-loop μ-loop
+note-rows-requires c κs = let p = c .before .before .before .before .before .pre in (ready-keeps (p .0) (c .before .before .loop .inv .joins .kept) (omega arith), p .1)
+
 same-length : tie.Need-same-length Inv-loop μ-loop
-same-length c = c .before .loop .inv .joins .kept .size
+same-length c = c .before .before .note-rows .ensures .kept .size ∙ c .before .before .before .before .before .loop .inv .joins .kept .size
 
 returns : tie.Need-returns Inv-loop μ-loop
 returns c =
-    let start = c .before .before .before .before in
+    let start = c .before .before .before .before .before .before .before .before in
     let a = start .args in
     let f = flowOf (now (a .file)) in
-    let inv = c .before .loop .inv in
+    let loop = c .before .before .before .before .before .loop in
+    let rows = c .before .before .note-rows .ensures in
     let n = a .h .statements in
-    let all : c .before .loop .c ≡ n = omega arith in (
+    let all : loop .c ≡ n = omega arith in (
       linked (ready-size (start .pre .0)) (start .pre .2)
-          (subst (λ (m : ℕ). Joins f (now (a .work)) (c .before .loop .work) n (waitingAt n) (λ r k. any (returnsTo f r k) (upTo m))) all (inv .joins)),
-      inv .joins .kept,
+          (subst (λ (m : ℕ). Joins f (now (a .work)) (loop .work) n (waitingAt n) (λ r k. any (returnsTo f r k) (upTo m))) all (loop .inv .joins)) rows,
+      keeps-trans (loop .inv .joins .kept) (rows .kept),
     )
 
 pub note-returns-spec : {M : Type 1} → statement M
@@ -69,5 +73,6 @@ note-returns-spec =
     add-c
     loop-less
     loop-again
+    note-rows-requires
     same-length
     returns)

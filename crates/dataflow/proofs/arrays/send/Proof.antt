@@ -104,10 +104,10 @@ note-entered-requires c κs =
     let act = c .before .before .before .before .before .before .before .before .before .before .transfer .ensures .keeps in
     let back = c .before .before .before .transfer-back .ensures .keeps in
     let both = aside-trans (acts (c .before .before .before .before .before .before .before .before .before .before)) (aside-row (omega arith) (omega arith) back) in
-    (ready-stays (both .keeps) (s .pre .0), s .pre .1, below (c .before .before .before .before .before .before .before .before .before .before .before .before), empty-stays _ _ _ (λ x l h. back .below x (omega arith) ∙ act .below x (omega arith)) (s .pre .4))
+    (ready-stays (both .keeps) (s .pre .0), linked-stays (both .keeps) (s .pre .2), below (c .before .before .before .before .before .before .before .before .before .before .before .before), empty-stays _ _ _ (λ x l h. back .below x (omega arith) ∙ act .below x (omega arith)) (s .pre .4))
 
 -- the rows of the edges of a call that is not opaque
-prepared : (c : tie.After-note-entered) → let a = c .before .before .before .before .before .before .before .before .before .before .before .before .before .before .before .before .args in Prepared (flowOf (now (a .file))) (now (a .work)) (c .note-entered .last .1 .1 .0) (a .h .statements) (a .d)
+prepared : (c : tie.After-note-entered) → let a = c .before .before .before .before .before .before .before .before .before .before .before .before .before .before .before .before .args in Prepared (flowOf (now (a .file))) (now (a .work)) (c .note-entered .last .1 .0) (a .h .statements) (a .d)
 prepared c =
     let a = c .before .before .before .before .before .before .before .before .before .before .before .before .before .before .before .before .args in
     prepared-back (flowOf (now (a .file))) _ _ _ (a .d) _ _ (stmt (c .before .before .before .before .before .before .before .before .before .before .before)) (count (c .before .before .before .before .before .before .before .before .before .before .before)) (c .before .before .before .before .before .before .before .before .before .before .before .transfer .ensures) _ _ (touched (c .before .before .before .before .before .before))
@@ -121,7 +121,7 @@ push-edges-requires c κs =
       s .pre .1,
       linked-stays (beside .keeps) (s .pre .2),
       s .pre .3,
-      subst (λ (i : ℕ). EnteredRow (flowOf (now (s .args .file))) (c .before .before .before .note-entered .last .1 .1 .0) (s .args .h .statements) i) (stmt (c .before .before .before .before .before .before .before .before .before .before .before .before .before .before)) (c .before .before .before .note-entered .ensures .0),
+      subst (λ (i : ℕ). EnteredRow (flowOf (now (s .args .file))) (c .before .before .before .note-entered .last .1 .0) (s .args .h .statements) i) (stmt (c .before .before .before .before .before .before .before .before .before .before .before .before .before .before)) (c .before .before .before .note-entered .ensures .0),
       (s .pre .5 .0, aside-waits beside (s .pre .5 .1)),
     )
 
