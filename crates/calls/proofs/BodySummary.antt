@@ -19,7 +19,7 @@ use Rattle.theory.specs.Reach.{Reach}
 use Rattle.theory.specs.Body as theory
 use Rattle.theory.specs.Body.{kind, references, continuationOf, entered, ifSome, callees, isReturn, successors, orElse, walkNext, Walks, Calls, Touches, wipes, Calls⁺, Opaque, OpaqueCall, CallTouches, walked, touches, opaqueCall, callTouches}
 use Rattle.theory.specs.WellFormed.{WellFormed}
-use Rattle.theory.proofs.Lists.{clash, or-cases, any-find, In-has, has-In}
+use Rattle.theory.proofs.Lists.{clash, or-cases, or-first, or-second, any-find, In-has, has-In}
 use Rattle.theory.proofs.Body.{walked-sound, touches-sound, touches-complete, touches-equation, opaque-complete, opaqueCall-sound, callTouches-sound}
 use Rattle.theory.proofs.Clear.{Clear, clear-opaque, callee-clear}
 use Rattle.statements.specs.Layout.{bodiesAt, touchedAt, matrixAt, rowAt}
@@ -89,14 +89,6 @@ pub settled-not : (b : Bool) (v : ℕ) → opaque ≢ v → clear ≢ v → sett
 settled-not true v h k = h
 settled-not false v h k = k
 
-pub or-first : (a b : Bool) → (a || b) ≡ false → a ≡ false
-or-first true b h = h
-or-first false b h = refl
-
-pub or-second : (a b : Bool) → (a || b) ≡ false → b ≡ false
-or-second true b h = clash true refl h
-or-second false b h = h
-
 -- Calls lead to the bodies that the calls on the walk enter, from every open body
 pub body-leads : {f : Flow} {ws vs : List ℕ} {n e i b : ℕ} → OnwardBut e ws vs n → Leads f ws n e → Walks f e i → In b (callees f i) → Leads f vs n b
 body-leads {f} {ws} {vs} {n} {e} {i} {b} p lead r m o l h = go (ℕ-discrete o e)
@@ -130,9 +122,9 @@ unfolding walkNext
 return-stops f e j h m = List·Memᴰ·not-nil (subst (λ b. In j (cond b [] (orElse (continuationOf (kind f e)) (successors f e)))) h m)
 
 -- the walk of a RETURN is itself
-return-walk : (f : Flow) {e i : ℕ} → isReturn (kind f e) ≡ true → Walks f e i → i ≡ e
-return-walk f h Reach.here = refl
-return-walk f {e} h (Reach.on {i = i} {j = j} r m) = absurd (return-stops f e j h (subst (λ x. In j (walkNext f x)) (return-walk f h r) m))
+pub return-stays : (f : Flow) {e i : ℕ} → isReturn (kind f e) ≡ true → Walks f e i → i ≡ e
+return-stays f h Reach.here = refl
+return-stays f {e} h (Reach.on {i = i} {j = j} r m) = absurd (return-stops f e j h (subst (λ x. In j (walkNext f x)) (return-stays f h r) m))
 
 -- The walk, statement by statement
 
@@ -318,10 +310,10 @@ module _ {f : Flow} {n : ℕ} (w : WellFormed f) (sz : size f ≡ n) where
       (j : Referred f ws vs n e e) where
     no-call : {c b : ℕ} → Walks f e c → In b (callees f c) → ⊥
     no-call {c} {b} r m =
-        List·Memᴰ·not-nil (subst (λ l. In b l) (no-callees f e (return-ordinary (kind f e) ret)) (subst (λ x. In b (callees f x)) (return-walk f ret r) m))
+        List·Memᴰ·not-nil (subst (λ l. In b l) (no-callees f e (return-ordinary (kind f e) ret)) (subst (λ x. In b (callees f x)) (return-stays f ret r) m))
 
     return-clear : Clear f e
-    return-clear = Clear.clear (λ i r. subst (λ x. wipes (kind f x) ≡ false) (sym (return-walk f ret r)) (return-wipes (kind f e) ret)) (λ b k. go b k)
+    return-clear = Clear.clear (λ i r. subst (λ x. wipes (kind f x) ≡ false) (sym (return-stays f ret r)) (return-wipes (kind f e) ret)) (λ b k. go b k)
       where
         go : (b : ℕ) → Calls f e b → Clear f b
         go b (Calls.calls r m) = absurd (no-call r m)
@@ -330,7 +322,7 @@ module _ {f : Flow} {n : ℕ} (w : WellFormed f) (sz : size f ≡ n) where
     return-touches a t = go e refl t
       where
         go : (x : ℕ) → x ≡ e → Touches f a x → lists.has a (references f e) ≡ true
-        go x q (Touches.own {i = i} r m) = In-has (subst (λ y. In a (references f y)) (return-walk f ret (subst (λ y. Walks f y i) q r)) m)
+        go x q (Touches.own {i = i} r m) = In-has (subst (λ y. In a (references f y)) (return-stays f ret (subst (λ y. Walks f y i) q r)) m)
         go x q (Touches.nested (Calls.calls {c = c} r m) t) = absurd (no-call (subst (λ y. Walks f y c) q r) m)
 
     vs-summing : Summing f vs n

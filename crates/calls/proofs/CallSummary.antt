@@ -2,34 +2,28 @@
 -- An open body that the call enters lies on a cycle of calls, since calls lead from every open body to each body that the call enters.
 use Prim.Native.Nat.{ℕ, _+_, _<_, _≤_, zero-le}
 use mathlib.Core.Bool.{Bool, true, false, not, _||_}
-use mathlib.Core.List.{List, [], List·Memᴰ·not-nil, List·Memᴰ·append-cases, List·Memᴰ·eq-of-singleton}
+use mathlib.Core.List.{List, [], List·Memᴰ·not-nil, List·Memᴰ·append-cases}
 use mathlib.Core.Logic.{_≢_, _⊎_, inl, inr, ⊎-elim}
 use mathlib.Core.Option.{none, some}
 use mathlib.Core.Path.{_≡_, refl, sym, ap, _∙_, subst}
-use native.Mathlib.Numerals.{add-one}
 use native.Mathlib.Omega.{arith}
 use borrow.Author.Tests.{eqb-true, eqb-false, not-true, not-false}
 use lib.Dec.{eqb}
 use lib.ListN.{length, getD, set, take}
-use lib.Seq.{take-suc, take-all}
 use Rattle.words.specs.Row.{bit}
 use Rattle.flow.specs.Flow.{Flow, size, enters}
 use Rattle.theory.specs.Lists.{In, concatMap, optionList}
 use Rattle.theory.specs.Body as theory
 use Rattle.theory.specs.Body.{kind, callLines, continuationOf, entered, ifSome, callees, Calls⁺, Opaque, OpaqueCall, CallTouches, touches, opaqueCall, callTouches}
 use Rattle.theory.specs.WellFormed.{WellFormed}
-use Rattle.theory.proofs.Lists.{clash, or-cases, any-find, none-any, concatMap-In, In-concatMap, In-optionList, optionList-In}
+use Rattle.theory.proofs.Lists.{clash, or-cases, or-first, or-second, any-find, none-any, In-concatMap, In-optionList}
 use Rattle.theory.proofs.Body.{touches-sound, opaque-sound, opaqueCall-complete, callTouches-complete}
 use Rattle.statements.specs.Layout.{callsAt, callTouchedAt, bodiesAt, matrixAt}
 use Rattle.calls.specs.Held.{unentered, clear, opaque}
 use Rattle.calls.specs.Summing.{body, call, touchedBy, callTouchedBy, settled, Holds, BodyState, Entered, CallState, Summing, Onward, Leads, BodyJoined, BodySummed, CallSummed}
-use Rattle.calls.proofs.Checked.{getD-In}
+use Rattle.calls.proofs.Lines.{enteredBy, entered-more, entered-all, entered-line}
 use Rattle.calls.proofs.Summing.{joined-has, onward-refl, onward-trans, callee-low, onward-callTouched, summing-callTouched, call-set, call-other, onward-call, summing-call}
-use Rattle.calls.proofs.BodySummary.{settled-not, or-first, or-second}
-
--- the bodies that lines enter
-pub enteredBy : Flow → List ℕ → List ℕ
-enteredBy f ls = concatMap (λ l. optionList (enters f l)) ls
+use Rattle.calls.proofs.BodySummary.{settled-not}
 
 -- calls lead to b still
 pub leads-onward : {f : Flow} {ws vs : List ℕ} {n b : ℕ} → Onward ws vs n → Leads f ws n b → Leads f vs n b
@@ -68,7 +62,7 @@ pub record CallLoop (f : Flow) (ws₀ ws : List ℕ) (n c : ℕ) (hidden : Bool)
   pub found : hidden ≡ true → opaqueCall f c ≡ true
 
 pub call-first : {f : Flow} {ws : List ℕ} {n c : ℕ} → Summing f ws n → CallLoop f ws ws n c false 0
-unfolding enteredBy concatMap
+unfolding concatMap
 call-first {ws = ws} {n} s = record {
   high = zero-le;
   summing = s;
@@ -81,13 +75,10 @@ some-same : {x y : ℕ} → some x ≡ some y → x ≡ y
 some-same e = cc
 
 -- one line more
-entered-more : (f : Flow) (ls : List ℕ) (k : ℕ) {b : ℕ} → k < length ls → In b (enteredBy f (take (k + 1) ls)) → In b (enteredBy f (take k ls)) ⊎ (enters f (getD ls k 0) ≡ some b)
-unfolding enteredBy
-entered-more f ls k {b} l m =
-    let r = In-concatMap (λ l. optionList (enters f l)) (take (k + 1) ls) m in
-    ⊎-elim (λ p. inl (concatMap-In (λ l. optionList (enters f l)) p (r .2)))
-    (λ p. inr (subst (λ x. enters f x ≡ some b) (List·Memᴰ·eq-of-singleton p) (In-optionList (enters f (r .0)) (r .2))))
-    (List·Memᴰ·append-cases (take k ls) (subst (λ z. In (r .0) z) (ap (λ x. take x ls) (add-one k) ∙ take-suc ls k 0 l) (r .1)))
+entered-cases : (f : Flow) (ls : List ℕ) (k : ℕ) {b : ℕ} → k < length ls → In b (enteredBy f (take (k + 1) ls)) → In b (enteredBy f (take k ls)) ⊎ (enters f (getD ls k 0) ≡ some b)
+entered-cases f ls k {b} l m =
+    ⊎-elim inl (λ p. inr (In-optionList (enters f (getD ls k 0)) p))
+    (List·Memᴰ·append-cases (enteredBy f (take k ls)) (subst (λ z. In b z) (sym (entered-more f ls k l)) m))
 
 -- the line enters nothing
 pub call-nothing : {f : Flow} {ws₀ ws : List ℕ} {n c k : ℕ} {hidden : Bool} → CallLoop f ws₀ ws n c hidden k → k < length (callLines (kind f c)) → enters f (getD (callLines (kind f c)) k 0) ≡ none
@@ -96,21 +87,18 @@ call-nothing {f} {c = c} {k} p l e = record {
   high = omega arith;
   summing = p .summing;
   onward = p .onward;
-  passed = λ b m. ⊎-elim (p .passed b) (λ q. let z : none ≡ some b = sym e ∙ q in let y : _≡_ {A = ℕ} 0 1 = cc in absurd (omega arith)) (entered-more f (callLines (kind f c)) k l m);
+  passed = λ b m. ⊎-elim (p .passed b) (λ q. let z : none ≡ some b = sym e ∙ q in let y : _≡_ {A = ℕ} 0 1 = cc in absurd (omega arith)) (entered-cases f (callLines (kind f c)) k l m);
   found = p .found;
 }
 
 module _ (f : Flow) (c : ℕ) {k′ : ℕ} (cont : continuationOf (kind f c) ≡ some k′) where
-  callees-are : callees f c ≡ enteredBy f (callLines (kind f c))
-  unfolding callees entered enteredBy
+  callees-are : callees f c ≡ entered f c
+  unfolding callees
   callees-are = ap (λ o. ifSome o (entered f c) []) cont
 
   -- the body that a line of the call enters
   pub line-callee : {k b : ℕ} → k < length (callLines (kind f c)) → enters f (getD (callLines (kind f c)) k 0) ≡ some b → In b (callees f c)
-  unfolding enteredBy
-  line-callee {k} {b} l e =
-      subst (λ z. In b z) (sym callees-are)
-      (concatMap-In (λ l. optionList (enters f l)) (getD-In (callLines (kind f c)) k l) (optionList-In (enters f (getD (callLines (kind f c)) k 0)) b e))
+  line-callee {k} {b} l e = subst (λ z. In b z) (sym callees-are) (entered-line f c k b l e)
 
   module _ {n : ℕ} (w : WellFormed f) (sz : size f ≡ n) (lc : c < n) where
     callee-hides : {b : ℕ} → In b (callees f c) → (theory.opaque f b ≡ true) ⊎ Calls⁺ f b b → opaqueCall f c ≡ true
@@ -161,7 +149,6 @@ module _ (f : Flow) (c : ℕ) {k′ : ℕ} (cont : continuationOf (kind f c) ≡
           (not-clear lb (leads-onward (s .onward) lead) (s .done) (eqb-false (body us n b) clear (not-true (eqb (body us n b) clear) (sym (j .state) ∙ h))) (s .summing .bodies b lb))
 
       line-low : {x : ℕ} → In x (enteredBy f (take k (callLines (kind f c)))) → x < n
-      unfolding enteredBy
       line-low {x} m =
           let r = In-concatMap (λ l. optionList (enters f l)) (take k (callLines (kind f c))) m in
           subst (λ y. x < y) sz (w .first (r .0) x (In-optionList (enters f (r .0)) (r .2)))
@@ -171,14 +158,14 @@ module _ (f : Flow) (c : ℕ) {k′ : ℕ} (cont : continuationOf (kind f c) ≡
         high = omega arith;
         summing = rw (j .slice) (summing-callTouched w sz (s .summing) room-then lc (touchedBy us n b) (λ a m h. callee-touches a callee (s .summing .touched b lb a m h)));
         onward = onward-trans (p .onward) onward-line;
-        passed = λ x m. ⊎-elim (λ q. further (line-low q) (p .passed x q)) (λ q. let same : b ≡ x = some-same (sym e ∙ q) in subst (λ y. BodyPassed f vs n c y (before || hidden)) same here) (entered-more f (callLines (kind f c)) k l m);
+        passed = λ x m. ⊎-elim (λ q. further (line-low q) (p .passed x q)) (λ q. let same : b ≡ x = some-same (sym e ∙ q) in subst (λ y. BodyPassed f vs n c y (before || hidden)) same here) (entered-cases f (callLines (kind f c)) k l m);
         found = λ h. ⊎-elim (p .found) hides (or-cases before hidden h);
       }
 
     -- every line is passed by: the call is settled
     module _ {ws₀ ws : List ℕ} {k : ℕ} {hidden : Bool} (room : matrixAt n ≤ length ws) (p : CallLoop f ws₀ ws n c hidden k) (end : length (callLines (kind f c)) ≤ k) where
       passed-all : (b : ℕ) → In b (callees f c) → BodyPassed f ws n c b hidden
-      passed-all b m = p .passed b (subst (λ z. In b (enteredBy f z)) (sym (take-all k (callLines (kind f c)) end)) (subst (λ z. In b z) callees-are m))
+      passed-all b m = p .passed b (subst (λ z. In b z) (callees-are ∙ sym (entered-all f c k end)) m)
 
       is-entered : (v : ℕ) → Entered f (set ws (callsAt n + c) v) n c
       is-entered v = record {

@@ -1,13 +1,12 @@
--- A file that was found fit stands for a flow that is well formed and has n statements, at most 2,048.
+-- What a fit file gives those who go along its flow: a statement has few lines and successors, which are statements, and the rows of statements lie in the work area.
 -- By what a fit file gives its readers, and what is asked of the work area before statements are read by number.
 use Prim.Native.Nat.{ℕ, zero, suc, _+_, _/_, _≤_, _<_}
-use mathlib.Core.List.{List, [], _∷_, List·Memᴰ·head, List·Memᴰ·tail}
+use mathlib.Core.List.{List}
 use mathlib.Core.Option.{Option, none, some}
-use mathlib.Core.Path.{_≡_, refl, sym, ap, _∙_, subst}
+use mathlib.Core.Path.{_≡_, refl, ap, _∙_}
 use native.Mathlib.Omega.{arith}
 use lib.ListN.{length, getD}
-use Rattle.flow.specs.Limits.{maxFile, maxStatements}
-use Rattle.flow.specs.Flow.{size}
+use Rattle.flow.specs.Limits.{maxFile}
 use Rattle.flow.specs.declared.StmtId.{StmtId}
 use Rattle.flow.specs.declared.Continuation as C
 use Rattle.flow.specs.declared.Entered as E
@@ -15,36 +14,21 @@ use Rattle.flow.specs.Fields.{FitRecord, callLineCount, callLineAt, continuatio
 use Rattle.flow.specs.Format.{flowOf, statementsOf, recordPlace, successorCount, successorAt}
 use Rattle.records.proofs.Files.{limited, record-fit}
 use Rattle.flow.proofs.Records.{call-line-fits, references-fit}
-use Rattle.records.proofs.Statements.{says, size-is}
+use Rattle.records.proofs.Statements.{says}
 use Rattle.records.proofs.Tabulated.{length-tabulate}
 use Rattle.theory.specs.Lists.{In}
 use Rattle.theory.specs.Body.{kind, callLines, successors, walkNext}
-use Rattle.theory.specs.WellFormed.{WellFormed}
 use Rattle.theory.proofs.Body.{walkNext-below}
+use Rattle.theory.proofs.Lists.{getD-In}
 use Rattle.statements.specs.Layout as layout
-use Rattle.statements.specs.Layout.{rowAt, rowWords, queueAt, waitingAt, areaEnd}
+use Rattle.statements.specs.Layout.{rowAt, rowWords, queueAt, waitingAt}
 use Rattle.statements.specs.Ready.{Ready}
-use Rattle.statements.proofs.WellFormed.{well-formed}
-use Rattle.statements.proofs.WorkArea.{area-fits, member-word, row-words-le, row-fits}
+use Rattle.statements.proofs.Keeps.{ready-formed, ready-below, ready-room}
+use Rattle.statements.proofs.WorkArea.{member-word, row-words-le, row-fits}
 
 module _ {s ws : List ℕ} {n : ℕ} (r : Ready s ws n) where
-  pub ready-few : n ≤ maxStatements
-  ready-few = let q = r .count in omega (arith, limited (r .fit) .statements)
-
-  pub ready-size : size (flowOf s) ≡ n
-  ready-size = size-is s ∙ sym (r .count)
-
-  pub ready-formed : WellFormed (flowOf s)
-  ready-formed = well-formed (r .fit)
-
-  pub ready-below : {j : ℕ} → j < size (flowOf s) → j < n
-  ready-below {j} l = subst (λ m. j < m) ready-size l
-
   pub ready-next : (i j : ℕ) → In j (walkNext (flowOf s) i) → j < n
-  ready-next i j m = ready-below (walkNext-below ready-formed i j m)
-
-  pub ready-room : 0 < n → areaEnd n ≤ length ws
-  ready-room p = let h = r .room in omega (arith, area-fits p ready-few)
+  ready-next i j m = ready-below r (walkNext-below (ready-formed r) i j m)
 
   module _ {i : ℕ} (l : i < n) where
     -- a statement has no more lines and successors than its record has room for
@@ -70,23 +54,23 @@ module _ {s ws : List ℕ} {n : ℕ} (r : Ready s ws n) where
     -- the rows of statements, whole and word by word
     pub row-room : rowAt n i + (n + 63) / 64 ≤ length ws
     unfolding rowWords
-    row-room = omega (arith, row-fits n l, ready-room (omega arith))
+    row-room = omega (arith, row-fits n l, ready-room r (omega arith))
 
     pub row-word : {j : ℕ} → j < n → rowAt n i + j / 64 < length ws
-    row-word m = omega (arith, member-word m, row-fits n l, ready-room (omega arith))
+    row-word m = omega (arith, member-word m, row-fits n l, ready-room r (omega arith))
 
     pub matrix-room : queueAt n ≤ length ws
-    matrix-room = omega (arith, ready-room (omega arith))
+    matrix-room = omega (arith, ready-room r (omega arith))
 
     pub entered-room : waitingAt n ≤ length ws
-    entered-room = omega (arith, ready-room (omega arith))
+    entered-room = omega (arith, ready-room r (omega arith))
 
     -- the row of entered statements
     pub members-room : layout.enteredAt n + (n + 63) / 64 ≤ length ws
-    members-room = omega (arith, ready-room (omega arith))
+    members-room = omega (arith, ready-room r (omega arith))
 
     pub entered-word : layout.enteredAt n + i / 64 < length ws
-    entered-word = omega (arith, member-word l, row-words-le n, ready-room (omega arith))
+    entered-word = omega (arith, member-word l, row-words-le n, ready-room r (omega arith))
 
 -- What a continuation and an entered statement are told as
 
@@ -106,11 +90,5 @@ pub enters-nothing : (o : Option ℕ) → enteredAt o ≡ E.the-variants.Nothing
 enters-nothing none e = refl
 enters-nothing (some t) e = let z : _≡_ {A = ℕ} 0 1 = cc in absurd (omega arith)
 
--- the element at a place of a list is one of it
-pub getD-In : (l : List ℕ) (k : ℕ) → k < length l → In (getD l k 0) l
-getD-In [] k h = absurd (omega arith)
-getD-In (x ∷ l) zero h = List·Memᴰ·head refl
-getD-In (x ∷ l) (suc k) h = List·Memᴰ·tail (getD-In l k (omega arith))
-
 pub successor-below : {s ws : List ℕ} {n : ℕ} → Ready s ws n → (i k : ℕ) → k < length (successors (flowOf s) i) → getD (successors (flowOf s) i) k 0 < n
-successor-below {s} r i k h = ready-below r (ready-formed r .successor i (getD (successors (flowOf s) i) k 0) (getD-In (successors (flowOf s) i) k h))
+successor-below {s} r i k h = ready-below r (ready-formed r .successor i (getD (successors (flowOf s) i) k 0) (getD-In (successors (flowOf s) i) k 0 h))

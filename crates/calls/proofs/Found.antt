@@ -1,7 +1,7 @@
 -- The slot at a cursor, by the kind of statement: the next edge is the one in it, or that from the next slot on. The slots of a RETURN are the members
 -- of its row. By the list that the slots are made from.
 use Prim.Native.Nat.{ℕ, zero, suc, _+_, _-_, _≤_, _<_}
-use mathlib.Core.Bool.{Bool, true, false, cond, not, _||_, or-true, or-false}
+use mathlib.Core.Bool.{Bool, true, false, cond, not, _||_, or-comm}
 use mathlib.Core.List.{List, [], _∷_, _++_, map}
 use mathlib.Core.Option.{Option, none, some}
 use mathlib.Core.Path.{_≡_, refl, sym, _∙_, ap}
@@ -15,16 +15,17 @@ use lib.ListN.{length, getD, drop, length-append, length-map, List·getD-append,
 use lib.Seq.{drop-cons, drop-nil, drop-append-add, drop-at, getD-at}
 use Rattle.words.specs.Row as row
 use Rattle.words.specs.Row.{seek, nextMember, pick}
-use Rattle.flow.specs.Flow.{Flow, Kind, size, enters}
+use Rattle.flow.specs.Flow.{Flow, size, enters}
 use Rattle.theory.specs.Lists.{any, has, upTo}
 use Rattle.theory.specs.Body.{kind, successors, callLines, continuationOf, entered, isReturn, opaqueCall}
 use Rattle.theory.specs.Doubled.{Base, Node, Edge, at, plain, offset, number, node, sameNode, returnsTo}
-use Rattle.theory.proofs.Lists.{clash, same-test}
+use Rattle.theory.proofs.Lists.{same-test, or-second, says-one, length-upTo}
 use Rattle.theory.proofs.Edges.{node-same}
 use Rattle.statements.specs.Layout.{callsAt, enteredAt}
 use Rattle.calls.specs.Held.{EnteredIs, Linked, clear, opaque}
 use Rattle.calls.specs.Slots.{edgeTo, ifEntered, otherSlots, callSlots, returnSlots, listedSlots, slotsOf, slots, edgeFrom, copyOf, memberEdge}
 use Rattle.calls.specs.declared.Edge as E
+use Rattle.calls.proofs.BodySummary.{return-ordinary}
 
 abbrev pub to : Flow → Node → Bool → ℕ → E.Edge
 to f v c next = E.the-variants.To (record { 0 = number f v }) c next
@@ -54,10 +55,6 @@ module _ (f : Flow) (b : Base) (i c p : ℕ) where
 
 -- a call with the continuation k
 
-or-false-right : (a b : Bool) → (a || b) ≡ false → b ≡ false
-or-false-right true b e = clash true refl e
-or-false-right false b e = e
-
 not-back : (b : Base) (j k : ℕ) → eqb j k ≡ false → sameNode (at b j) (at b k) ≡ false
 not-back Base.zero j k e = e
 not-back Base.n j k e = e
@@ -71,7 +68,7 @@ module _ (f : Flow) (b : Base) (i k c p : ℕ) where
   unfolding otherSlots edgeFrom other
   other-here h e =
       let j = getD (successors f i) c 0 in
-      mapped f other (successors f i) 0 c p h ∙ simp (e, not-back b j k (or-false-right (has j (entered f i)) (eqb j k) e))
+      mapped f other (successors f i) 0 c p h ∙ simp (e, not-back b j k (or-second (has j (entered f i)) (eqb j k) e))
 
   pub other-skip : c < length (successors f i) → (has (getD (successors f i) c 0) (entered f i) || eqb (getD (successors f i) c 0) k) ≡ true
       → edgeFrom f (drop c (otherSlots f b i k)) p ≡ edgeFrom f (drop (c + 1) (otherSlots f b i k)) (p + 1)
@@ -133,11 +130,6 @@ module _ (f : Flow) (b : Base) (i k c p : ℕ) where
 
 -- a RETURN
 
-length-upTo : (n : ℕ) → length (upTo n) ≡ n
-unfolding upTo
-length-upTo zero = refl
-length-upTo (suc n) = omega (arith, length-append (upTo n) (n ∷ []), length-upTo n)
-
 getD-upTo : (n c : ℕ) → c < n → getD (upTo n) c 0 ≡ c
 unfolding upTo
 getD-upTo zero c l = absurd (omega arith)
@@ -189,19 +181,10 @@ return-edge f r c ws base h = go (decLt c (size f))
 
 -- Which slots a statement has
 
-nowhere : (k : Kind) → isReturn k ≡ true → continuationOf k ≡ none
-nowhere Kind.other h = clash false h refl
-nowhere Kind.return h = refl
-nowhere Kind.clr h = clash false h refl
-nowhere Kind.run h = clash false h refl
-nowhere (Kind.dim items) h = clash false h refl
-nowhere (Kind.gosub l c) h = clash false h refl
-nowhere (Kind.onGosub ls c) h = clash false h refl
-
 module _ (f : Flow) (b : Base) (i : ℕ) where
   pub slots-return : isReturn (kind f i) ≡ true → slots f (at b i) ≡ returnSlots f b i
   unfolding slots slotsOf
-  slots-return h = rw (nowhere (kind f i) h, h) refl
+  slots-return h = rw (return-ordinary (kind f i) h, h) refl
 
   pub slots-call : (k : ℕ) → continuationOf (kind f i) ≡ some k → opaqueCall f i ≡ false → slots f (at b i) ≡ callSlots f b i k
   unfolding slots slotsOf
@@ -239,17 +222,13 @@ same-number f Base.n {base} e k o l =
 -- what is left out, by the row of entered statements
 pub left-out-is : (f : Flow) (ws : List ℕ) {n : ℕ} (i k s : ℕ) → EnteredIs f ws n i → s < n
     → (eqb s k || eqb (row.has ws (enteredAt n) s) 1) ≡ (has s (entered f i) || eqb s k)
-left-out-is f ws i k s r l = ap (λ (x : ℕ). eqb s k || eqb x 1) (r s l) ∙ go (has s (entered f i)) (eqb s k)
-  where
-    go : (a b : Bool) → (b || eqb (cond a 1 0) 1) ≡ (a || b)
-    go true b = or-true b
-    go false b = or-false b
+left-out-is f ws i k s r l = ap (λ (x : ℕ). eqb s k || eqb x 1) (r s l) ∙ ap (λ (b : Bool). eqb s k || b) (says-one (has s (entered f i))) ∙ or-comm (eqb s k) (has s (entered f i))
 
 -- the state of a call as its summary says it
 
 pub call-opaque : {f : Flow} {ws : List ℕ} {n i k : ℕ} → Linked f ws n → i < n → (getD ws (callsAt n + i) 0 ≡ clear → ⊥) → continuationOf (kind f i) ≡ some k
     → opaqueCall f i ≡ true
-call-opaque {f} {ws} {n} {i} {k} h l other e = go (opaqueCall f i) (h .call i k l e)
+call-opaque {f} {ws} {n} {i} {k} h l other e = go (opaqueCall f i) (h .calls .call i k l e)
   where
     go : (b : Bool) → getD ws (callsAt n + i) 0 ≡ cond b opaque clear → b ≡ true
     go true q = refl
@@ -257,7 +236,7 @@ call-opaque {f} {ws} {n} {i} {k} h l other e = go (opaqueCall f i) (h .call i k 
 
 pub call-clear : {f : Flow} {ws : List ℕ} {n i k : ℕ} → Linked f ws n → i < n → getD ws (callsAt n + i) 0 ≡ clear → continuationOf (kind f i) ≡ some k
     → opaqueCall f i ≡ false
-call-clear {f} {ws} {n} {i} {k} h l is e = go (opaqueCall f i) (sym (h .call i k l e) ∙ is)
+call-clear {f} {ws} {n} {i} {k} h l is e = go (opaqueCall f i) (sym (h .calls .call i k l e) ∙ is)
   where
     go : (b : Bool) → cond b opaque clear ≡ clear → b ≡ false
     go true q = absurd (omega arith)

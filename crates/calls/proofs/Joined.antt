@@ -1,7 +1,7 @@
 -- Laws of `Joins`, what noting changes in the rows of RETURNs: nothing, one insertion, one change after another, and the same test in other words;
 -- and of `Adds`, the same for the row of entered statements. By the laws of rows.
 use Prim.Native.Nat.{ℕ, _+_, _/_, _≤_, _<_, max}
-use mathlib.Core.Bool.{Bool, true, false, cond, _&&_, _||_, or-assoc, or-false}
+use mathlib.Core.Bool.{Bool, true, false, cond, _&&_, _||_, or-false}
 use mathlib.Core.List.{List, [], _∷_, _++_}
 use mathlib.Core.Path.{_≡_, refl, sym, _∙_, ap, subst}
 use native.Mathlib.Omega.{arith}
@@ -16,7 +16,7 @@ use Rattle.words.proofs.Unioned.{unioned-has}
 use Rattle.flow.specs.Flow.{Flow}
 use Rattle.theory.specs.Lists as lists
 use Rattle.theory.specs.Body.{kind, isReturn}
-use Rattle.theory.proofs.Lists.{clash, not-so}
+use Rattle.theory.proofs.Lists.{clash, not-so, has-append}
 use Rattle.statements.specs.Layout.{rowAt, rowWords, queueAt, enteredAt, waitingAt}
 use Rattle.statements.specs.Ready.{Keeps}
 use Rattle.statements.proofs.WorkArea.{member-word, row-holds, row-words-le, row-from, row-fits, insert-row}
@@ -98,11 +98,6 @@ joins-after {ws = ws} {vs = vs} {n = n} {q = q} a js = record {
 pub adds-none : {ws : List ℕ} {n : ℕ} → Adds ws ws n []
 unfolding lists.has
 adds-none = record { kept = keeps-refl; joined = λ j l. omega arith }
-
-pub has-append : (j : ℕ) (xs ys : List ℕ) → lists.has j (xs ++ ys) ≡ (lists.has j xs || lists.has j ys)
-unfolding lists.has
-has-append j [] ys = refl
-has-append j (x ∷ xs) ys = ap (λ (t : Bool). eqb j x || t) (has-append j xs ys) ∙ sym (or-assoc (eqb j x) (lists.has j xs) (lists.has j ys))
 
 pub adds-then : {ws vs us : List ℕ} {n : ℕ} {xs ys : List ℕ} → Adds ws vs n xs → Adds vs us n ys → Adds ws us n (xs ++ ys)
 adds-then {ws} {n = n} {xs = xs} {ys = ys} a b = record {

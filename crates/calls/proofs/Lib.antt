@@ -8,6 +8,7 @@ pub mod Slots
 pub mod Cursor
 pub mod Found
 pub mod Joined
+pub mod Lines
 pub mod CallRows
 pub mod Gathered
 pub mod Next

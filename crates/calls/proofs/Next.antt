@@ -58,19 +58,22 @@ none-continue f b i {x} none h m = go (isReturn (kind f i)) b m
     go false b m = plain-only (at b) (successors f i) m
 none-continue f b i {x} (some k) h m = plain-only (at b) (successors f i) (rw (h k refl) at m)
 
+pub plain-edge : (f : Flow) (v : Node) {x : Edge} → ((k : ℕ) → continuationOf (kind f (v .stmt)) ≡ some k → opaqueCall f (v .stmt) ≡ true) → In x (edges f v) → x .continues ≡ false
+unfolding edges
+plain-edge f v op m = none-continue f (v .base) (v .stmt) (continuationOf (kind f (v .stmt))) op m
+
 -- where an edge carries the touched step, the call is clear
 pub next-clear : {f : Flow} {ws : List ℕ} {n : ℕ} (v : Node) {cursor : ℕ} {t : NodeId} {next : ℕ} → Linked f ws n → v .stmt < n → NextEdge f (slots f v) cursor t true next
     → getD ws (callsAt n + v .stmt) 0 ≡ clear
-unfolding edges
 next-clear {f} {ws} {n} v h l x = go (continuationOf (kind f (v .stmt))) refl (opaqueCall f (v .stmt)) refl
   where
     still : ((k : ℕ) → continuationOf (kind f (v .stmt)) ≡ some k → opaqueCall f (v .stmt) ≡ true) → getD ws (callsAt n + v .stmt) 0 ≡ clear
-    still op = clash (x .edge .continues) (sym (x .step)) (none-continue f (v .base) (v .stmt) (continuationOf (kind f (v .stmt))) op (next-edge v x))
+    still op = clash (x .edge .continues) (sym (x .step)) (plain-edge f v op (next-edge v x))
 
     go : (o : Option ℕ) → continuationOf (kind f (v .stmt)) ≡ o → (b : Bool) → opaqueCall f (v .stmt) ≡ b → getD ws (callsAt n + v .stmt) 0 ≡ clear
     go none e b q = still (λ k s. let z : _≡_ {A = ℕ} 0 1 = cc in absurd (omega arith))
     go (some k) e true q = still (λ m s. q)
-    go (some k) e false q = h .call (v .stmt) k l e ∙ ap (λ (t : Bool). cond t opaque clear) q
+    go (some k) e false q = h .calls .call (v .stmt) k l e ∙ ap (λ (t : Bool). cond t opaque clear) q
 
 -- a statement that is no clear call needs no row of entered statements
 pub entered-vain : {f : Flow} {ws : List ℕ} {n i : ℕ} → Linked f ws n → i < n → (getD ws (callsAt n + i) 0 ≡ clear → ⊥) → EnteredRow f ws n i

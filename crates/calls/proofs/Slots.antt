@@ -2,7 +2,7 @@
 -- takes the same from both. By induction on the lists.
 use Prim.Native.Nat.{ℕ}
 use mathlib.Core.Bool.{Bool, true, false, cond, not, _||_}
-use mathlib.Core.List.{List, [], _∷_, _++_, map, map-append, List·Memᴰ·head, List·Memᴰ·tail, Memᴰ·append-left, Memᴰ·append-right}
+use mathlib.Core.List.{List, [], _∷_, _++_, map, map-append, List·Memᴰ·head, List·Memᴰ·tail}
 use mathlib.Core.Option.{Option, none, some}
 use mathlib.Core.Path.{_≡_, refl, sym, _∙_, ap, ap₂, subst}
 use native.Mathlib.Omega.{arith}
@@ -13,18 +13,17 @@ use Rattle.flow.specs.Flow.{Flow, enters}
 use Rattle.theory.specs.Lists.{In, has, select, concatMap, optionList}
 use Rattle.theory.specs.Body.{kind, successors, callLines, continuationOf, entered, isReturn, opaqueCall}
 use Rattle.theory.specs.Doubled.{Base, Node, Edge, at, plain, number, node, sameNode, returnEdges, listedEdges, callEdges, edgesOf, edges, once, arcsOf, doubled}
-use Rattle.theory.specs.Queue.{Arc, brings, enqueue, stepAll}
-use Rattle.theory.proofs.Lists.{In-has, has-In, In-map, select-In}
+use Rattle.theory.specs.Queue.{Arc, brings, join, enqueue, stepAll}
+use Rattle.theory.proofs.Lists.{In-has, In-map, select-In, concatMap-append}
 use Rattle.theory.proofs.Edges.{same-node, in-once}
+use Rattle.theory.proofs.Enqueue.{join-keeps, join-adds}
 use Rattle.calls.specs.Slots.{edgeTo, ifEntered, otherSlots, callSlots, returnSlots, listedSlots, slotsOf, slots, present, toArc}
 
 -- Present slots
 
 present-append : (xs ys : List (Option Edge)) → present (xs ++ ys) ≡ present xs ++ present ys
-unfolding present concatMap optionList
-present-append [] ys = refl
-present-append (none ∷ xs) ys = present-append xs ys
-present-append (some x ∷ xs) ys = ap (λ (es : List Edge). x ∷ es) (present-append xs ys)
+unfolding present
+present-append xs ys = concatMap-append optionList xs ys
 
 present-all : {A : Type 0} (g : A → Edge) (l : List A) → present (map (λ x. some (g x)) l) ≡ map g l
 unfolding present concatMap optionList
@@ -147,34 +146,14 @@ slot-edge f v {x} m = go (same-edges f v)
 
 -- The queue: a number that waits does not join again
 
-join : List ℕ → ℕ → List ℕ
-join w t = cond (has t w) w (w ++ (t ∷ []))
-
 join-waiting : {w : List ℕ} {t : ℕ} → In t w → join w t ≡ w
-unfolding join
 join-waiting {w} {t} m = rw (In-has m) refl
-
-join-keeps : {w : List ℕ} {x : ℕ} (t : ℕ) → In x w → In x (join w t)
-unfolding join
-join-keeps {w} {x} t m = go (has t w)
-  where
-    go : (b : Bool) → In x (cond b w (w ++ (t ∷ [])))
-    go true = m
-    go false = Memᴰ·append-left (t ∷ []) m
-
-join-new : (w : List ℕ) (t : ℕ) → In t (join w t)
-unfolding join
-join-new w t = go (has t w) refl
-  where
-    go : (b : Bool) → has t w ≡ b → In t (cond b w (w ++ (t ∷ [])))
-    go true e = has-In t w e
-    go false e = Memᴰ·append-right w (List·Memᴰ·head refl)
 
 module _ (f : Flow) (i : ℕ) where
   -- without the edges to v, which waits, the same numbers join
   enqueue-rest : (v : Node) (es : List Edge) (w : List ℕ) → In (number f v) w
       → enqueue (map (toArc f i) (select (λ x. not (sameNode (x .to) v)) es)) w ≡ enqueue (map (toArc f i) es) w
-  unfolding enqueue select join
+  unfolding enqueue select
   enqueue-rest v [] w m = refl
   enqueue-rest v (x ∷ es) w m = go (sameNode (x .to) v) refl (λ u n. enqueue-rest v es u n)
     where
@@ -186,14 +165,14 @@ module _ (f : Flow) (i : ℕ) where
       go true e ih =
           let waits : In (number f (x .to)) w = subst (λ (u : Node). In (number f u) w) (sym (same-node (x .to) v e)) m in
           ih w m ∙ ap (enqueue (map (toArc f i) es)) (sym (join-waiting waits))
-      go false e ih = ih (join w (number f (x .to))) (join-keeps (number f (x .to)) m)
+      go false e ih = ih (join w (number f (x .to))) (join-keeps w (number f (x .to)) m)
 
   enqueue-once : (es : List Edge) (w : List ℕ) → enqueue (map (toArc f i) (once es)) w ≡ enqueue (map (toArc f i) es) w
-  unfolding enqueue once join
+  unfolding enqueue once
   enqueue-once [] w = refl
   enqueue-once (x ∷ es) w =
       let v : List ℕ = join w (number f (x .to)) in
-      enqueue-rest (x .to) (once es) v (join-new w (number f (x .to))) ∙ enqueue-once es v
+      enqueue-rest (x .to) (once es) v (join-adds w (number f (x .to))) ∙ enqueue-once es v
 
 pub enqueue-slots : (f : Flow) (d : ℕ) (w : List ℕ)
     → enqueue (map (toArc f (node f d .stmt)) (present (slots f (node f d)))) w ≡ enqueue (doubled f .arcs d) w
@@ -209,7 +188,7 @@ enqueue-slots f d w = go (same-edges f (node f d))
 
 -- The masks: what an edge brings twice it brings once
 
-or-assoc : (a b c : ℕ) → bitOr (bitOr a b) c ≡ bitOr a (bitOr b c)
+pub or-assoc : (a b c : ℕ) → bitOr (bitOr a b) c ≡ bitOr a (bitOr b c)
 or-assoc a b c =
     bits-ext (bitOr (bitOr a b) c) (bitOr a (bitOr b c))
     (λ k. omega (arith, bit-or (bitOr a b) c k, bit-or a b k, bit-or a (bitOr b c) k, bit-or b c k))

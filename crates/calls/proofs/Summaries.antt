@@ -1,6 +1,6 @@
 -- The summaries of all calls: at first nothing is entered, and in the end, with no body open, each call's state is that of the definitions.
 -- How many bodies are unentered never rises, and falls when one is opened: so the summaries come to an end.
-use Prim.Native.Nat.{ℕ, _+_, _/_, _%_, _^_, _<_, _≤_}
+use Prim.Native.Nat.{ℕ, _+_, _/_, _^_, _<_, _≤_}
 use mathlib.Core.Bool.{Bool, true, false, cond}
 use mathlib.Core.List.{List, [], List·Memᴰ·not-nil}
 use mathlib.Core.Logic.{_≢_}
@@ -21,6 +21,7 @@ use Rattle.theory.proofs.Lists.{clash, sumBelow-le, sumBelow-lt}
 use Rattle.statements.specs.Layout.{callsAt, callTouchedAt, bodiesAt, touchedAt, matrixAt, rowAt}
 use Rattle.statements.specs.Ready.{MembersWord}
 use Rattle.statements.proofs.WorkArea.{member-word, row-from, row-fits}
+use Rattle.statements.proofs.Members.{zero-has}
 use Rattle.calls.specs.Held.{unentered, opened, clear, opaque, EmptyRow, WalkRow, Fresh, Summarized}
 use Rattle.calls.specs.Summing.{body, call, callTouchedBy, Within, Holds, BodyState, CallState, Summing, OnwardBut, Onward, CallSummed}
 use Rattle.calls.proofs.Summing.{onward-refl, onward-trans, callee-low}
@@ -66,9 +67,7 @@ module _ {ws : List ℕ} {n : ℕ} (z : Fresh ws n) where
   state-zero x l h = z .words x l (omega (arith, row-from n n))
 
   row-empty : (b : ℕ) → b < n → EmptyRow ws n b
-  unfolding has
-  row-empty b l i m =
-      ap (λ w. bit w (i % 64)) (z .words (rowAt n b + i / 64) (omega (arith, row-from n b)) (omega (arith, row-fits n l, member-word m))) ∙ bit-of-zero (i % 64)
+  row-empty b l i m = zero-has ws (rowAt n b) i (z .words (rowAt n b + i / 64) (omega (arith, row-from n b)) (omega (arith, row-fits n l, member-word m)))
 
   nothing-within : (p : ℕ → Bool) (x : ℕ) → callsAt n ≤ x → x < matrixAt n → Within (getD ws x 0) p
   nothing-within p x l h a m q = absurd (omega (arith, ap (λ w. bit w a) (state-zero x l h), bit-of-zero a, q))
@@ -162,9 +161,11 @@ callee-continues f c {b} m = go (continuationOf (kind f c)) refl m
 
 pub summarized : {f : Flow} {ws₀ ws : List ℕ} {n c : ℕ} → WellFormed f → size f ≡ n → Words ws → SummedBelow f ws₀ ws n c → n ≤ c → Summarized f ws n
 summarized {f} {ws₀} {ws} {n} {c} w sz words p end = record {
-  ordinary = λ d l h. ordinary h (p .summing .calls d l);
-  call = λ d k l h. settled-is (p .done d k (omega arith) h) (p .summing .calls d l);
-  touched = λ d l h. members (words (callTouchedAt n + d)) (p .summing .callTouched d l) (clear-touches h (p .summing .calls d l));
+  calls = record {
+    ordinary = λ d l h. ordinary h (p .summing .calls d l);
+    call = λ d k l h. settled-is (p .done d k (omega arith) h) (p .summing .calls d l);
+    touched = λ d l h. members (words (callTouchedAt n + d)) (p .summing .callTouched d l) (clear-touches h (p .summing .calls d l));
+  };
   walks = λ d b l m h. let k = callee-continues f d m in entered-row (callee-entered (p .done d (k .0) (omega arith) (k .1)) m (p .summing .calls d l)) h (p .summing .bodies b (callee-low w sz d b m));
   free = λ r l h. p .summing .free r l h;
 }

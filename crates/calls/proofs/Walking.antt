@@ -91,8 +91,7 @@ module _ {ws vs us : List ℕ} {n e top mid height : ℕ} {l k : List ℕ} (a : 
 -- what holds of the area goes on
 pub met-stack : {ws vs : List ℕ} {n e top height : ℕ} {l : List ℕ} → Stack ws n e top → Met ws vs n e top height l → Stack vs n e height
 met-stack s m = record {
-  few = s .few;
-  room = let r = s .room in let q = m .only .size in omega arith;
+  area = record { few = s .area .few; room = let r = s .area .room in let q = m .only .size in omega arith };
   high = let h = s .high in let q = m .count in omega arith;
 }
 
@@ -108,7 +107,7 @@ met-more {k = k} l a b h q = rw (add-one k, take-suc l k 0, ← q) (met-trans a 
 
 module _ {ws : List ℕ} {n e top i : ℕ} (s : Stack ws n e top) (le : e < n) (li : i < n) where
   pub in-row : rowAt n e + i / 64 < length ws
-  in-row = omega (arith, s .room, area-fits (omega arith) (s .few), row-fits n le, member-word li)
+  in-row = omega (arith, s .area .room, area-fits (omega arith) (s .area .few), row-fits n le, member-word li)
 
   only-inserted : OnlyRow ws (inserted ws (rowAt n e) i) n e
   only-inserted = record {
@@ -189,7 +188,7 @@ module _ {ws : List ℕ} {n e top i : ℕ} (s : Stack ws n e top) (le : e < n) (
       low = not-full h
 
       in-queue : queueAt n + top < length us
-      in-queue = omega (arith, s .room, area-fits (omega arith) (s .few), length-inserted ws (rowAt n e) i, low)
+      in-queue = omega (arith, s .area .room, area-fits (omega arith) (s .area .few), length-inserted ws (rowAt n e) i, low)
 
       pushed-only : OnlyRow us vs n e
       pushed-only = record {
@@ -264,10 +263,10 @@ walking-first {f} {ws} {vs} {n} {e} {height} s l empty m = record {
 
 -- the stack stands within the area
 pub stack-fits : {ws : List ℕ} {n e top : ℕ} → Stack ws n e top → queueAt n + top ≤ 38 * n
-stack-fits {ws} {n} {e} s = omega (arith, s .high, met-le ws n e, row-below (s .few) (le-refl n))
+stack-fits {ws} {n} {e} s = omega (arith, s .high, met-le ws n e, row-below (s .area .few) (le-refl n))
 
 pub stack-less : {ws : List ℕ} {n e top up : ℕ} → up ≡ suc top → Stack ws n e up → Stack ws n e top
-stack-less q s = record { few = s .few; room = s .room; high = let h = s .high in omega arith }
+stack-less q s = record { area = s .area; high = let h = s .high in omega arith }
 
 -- where the walk goes on
 
@@ -296,11 +295,7 @@ module _ {f : Flow} {n e : ℕ} (le : e < n) (below : (i j : ℕ) → In j (walk
     next-at : Walking f ws₀ vs n e height
     next-at = record {
       only = only-trans (w .only) (m .only);
-      stack = record {
-        few = w .stack .few;
-        room = let r = w .stack .room in let q = m .only .size in omega arith;
-        high = let q = m .count in let h = w .stack .high in omega arith;
-      };
+      stack = met-stack (stack-less refl (w .stack)) m;
       entries = λ k h. entries k h (decLt k top);
       first = m .still e le (w .first);
       sound = λ i h g. ⊎-elim (w .sound i h) (λ p. Reach.on (w .sound _ (at-top .statement) (at-top .member)) (p .0)) (m .new i h g);

@@ -8,12 +8,18 @@ use mathlib.Core.Path.{_≡_}
 use lib.ListN.{length, getD}
 use Rattle.words.specs.Row.{has}
 use Rattle.flow.specs.Flow.{Flow, size}
+use Rattle.flow.specs.Limits.{maxStatements, workWords}
 use Rattle.theory.specs.Lists as lists
 use Rattle.theory.specs.Lists.{In, any, upTo}
 use Rattle.theory.specs.Body.{kind, continuationOf, isReturn, callees, entered, Walks, opaqueCall, callTouches}
 use Rattle.theory.specs.Doubled.{returnsTo}
 use Rattle.statements.specs.Layout.{callsAt, callTouchedAt, rowAt, rowWords, queueAt, enteredAt}
 use Rattle.statements.specs.Ready.{MembersWord}
+
+-- the work area of n statements
+pub record Area (ws : List ℕ) (n : ℕ) : Type 0 where
+  pub few : n ≤ maxStatements
+  pub room : workWords n ≤ length ws
 
 -- the states of a body and of a call
 abbrev pub unentered : ℕ
@@ -53,19 +59,21 @@ pub record Walked (f : Flow) (ws vs : List ℕ) (n e : ℕ) : Type 0 where
 pub record Fresh (ws : List ℕ) (n : ℕ) : Type 0 where
   pub words : (x : ℕ) → callsAt n ≤ x → x < queueAt n → getD ws x 0 ≡ 0
 
--- the summary of each call with a continuation, the walks of the bodies that they enter, and the RETURNs' rows still empty
-pub record Summarized (f : Flow) (ws : List ℕ) (n : ℕ) : Type 0 where
+-- the summary of each call with a continuation; any other statement has none
+pub record CallSummaries (f : Flow) (ws : List ℕ) (n : ℕ) : Type 0 where
   pub ordinary : (c : ℕ) → c < n → continuationOf (kind f c) ≡ none → getD ws (callsAt n + c) 0 ≡ unentered
   pub call : (c k : ℕ) → c < n → continuationOf (kind f c) ≡ some k → getD ws (callsAt n + c) 0 ≡ cond (opaqueCall f c) opaque clear
   pub touched : (c : ℕ) → c < n → getD ws (callsAt n + c) 0 ≡ clear → MembersWord (getD ws (callTouchedAt n + c) 0) (callTouches f c)
+
+-- the summaries, the walks of the bodies that the calls enter, and the RETURNs' rows still empty
+pub record Summarized (f : Flow) (ws : List ℕ) (n : ℕ) : Type 0 where
+  pub calls : CallSummaries f ws n
   pub walks : (c b : ℕ) → c < n → In b (callees f c) → isReturn (kind f b) ≡ false → WalkRow f ws n b
   pub free : (r : ℕ) → r < n → isReturn (kind f r) ≡ true → EmptyRow ws n r
 
--- what the edges are made from: the summary of each call, the statements that a clear one enters, and the continuations that each RETURN goes to
+-- what the edges are made from: the summaries, the statements that a clear call enters, and the continuations that each RETURN goes to
 pub record Linked (f : Flow) (ws : List ℕ) (n : ℕ) : Type 0 where
-  pub ordinary : (c : ℕ) → c < n → continuationOf (kind f c) ≡ none → getD ws (callsAt n + c) 0 ≡ unentered
-  pub call : (c k : ℕ) → c < n → continuationOf (kind f c) ≡ some k → getD ws (callsAt n + c) 0 ≡ cond (opaqueCall f c) opaque clear
-  pub touched : (c : ℕ) → c < n → getD ws (callsAt n + c) 0 ≡ clear → MembersWord (getD ws (callTouchedAt n + c) 0) (callTouches f c)
+  pub calls : CallSummaries f ws n
   pub bodies : (c j : ℕ) → c < n → j < n → getD ws (callsAt n + c) 0 ≡ clear → has ws (rowAt n c) j ≡ cond (lists.has j (entered f c)) 1 0
   pub returns : (r k : ℕ) → r < n → k < n → isReturn (kind f r) ≡ true → has ws (rowAt n r) k ≡ cond (any (returnsTo f r k) (upTo (size f))) 1 0
 

@@ -1,17 +1,16 @@
 -- Summaries while they are made: what the state of each body and of each call says, and that from one moment to a later one summaries are only added.
 -- An open body is on the way: calls lead from it to the body at hand. What is noted as touched is touched; where a summary is clear, it is all that is touched.
-use Prim.Native.Nat.{ℕ, _+_, _<_, _≤_}
+use Prim.Native.Nat.{ℕ, _+_, _<_}
 use mathlib.Core.Bool.{Bool, true, false, cond, not}
 use mathlib.Core.List.{List}
 use mathlib.Core.Logic.{_≢_}
 use mathlib.Core.Option.{some}
 use mathlib.Core.Path.{_≡_}
 use lib.Dec.{eqb}
-use lib.ListN.{length, getD}
+use lib.ListN.{getD}
 use Rattle.words.specs.Row.{bit}
 use Rattle.words.specs.Change.{joined}
 use Rattle.flow.specs.Flow.{Flow}
-use Rattle.flow.specs.Limits.{maxStatements, workWords}
 use Rattle.theory.specs.Lists as lists
 use Rattle.theory.specs.Lists.{In}
 use Rattle.theory.specs.Body as theory
@@ -89,11 +88,6 @@ Onward ws vs n = OnwardBut n ws vs n
 -- calls lead from every open body to b
 abbrev pub Leads : Flow → List ℕ → ℕ → ℕ → Type 0
 Leads f ws n b = (o : ℕ) → o < n → body ws n o ≡ opened → Calls⁺ f o b
-
--- the work area of n statements
-pub record Area (ws : List ℕ) (n : ℕ) : Type 0 where
-  pub few : n ≤ maxStatements
-  pub room : workWords n ≤ length ws
 
 -- the references of statement i were joined to the touched arrays of body e
 pub record Referred (f : Flow) (ws vs : List ℕ) (n e i : ℕ) : Type 0 where

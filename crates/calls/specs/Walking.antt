@@ -4,12 +4,11 @@ use Prim.Native.Nat.{ℕ, _+_, _<_, _≤_}
 use mathlib.Core.List.{List}
 use mathlib.Core.Logic.{_⊎_}
 use mathlib.Core.Path.{_≡_}
-use lib.ListN.{length, getD}
+use lib.ListN.{getD}
 use Rattle.words.specs.Row.{has, tally}
-use Rattle.flow.specs.Limits.{maxStatements, workWords}
 use Rattle.theory.specs.Lists.{In}
 use Rattle.statements.specs.Layout.{rowAt, queueAt}
-use Rattle.calls.specs.Held.{OnlyRow}
+use Rattle.calls.specs.Held.{Area, OnlyRow}
 
 -- how many statements row e holds
 unfoldable pub met : List ℕ → ℕ → ℕ → ℕ
@@ -17,8 +16,7 @@ met ws n e = tally (has ws (rowAt n e)) n
 
 -- the stack of height top has room for one more whenever row e has
 pub record Stack (ws : List ℕ) (n e top : ℕ) : Type 0 where
-  pub few : n ≤ maxStatements
-  pub room : workWords n ≤ length ws
+  pub area : Area ws n
   pub high : top ≤ met ws n e
 
 -- statement i is on the stack of height top

@@ -2,9 +2,8 @@
 -- step. What the edges carry of these rows is what the doubled graph's edges bring of the number's masks.
 use Prim.Native.Nat.{ℕ, _+_, _-_, _*_, _/_, _%_, _<_, _≤_}
 use mathlib.Core.Bool.{Bool, true, false, cond, _&&_}
-use mathlib.Core.List.{List, [], _∷_, _++_, map, List·Memᴰ·head, List·Memᴰ·tail, List·Memᴰ·not-nil}
-use mathlib.Core.Option.{Option, none, some}
-use mathlib.Core.Path.{_≡_, refl, sym, ap, ap₂, subst, _∙_}
+use mathlib.Core.List.{List, [], _∷_, _++_, map, List·Memᴰ·head, List·Memᴰ·tail}
+use mathlib.Core.Path.{_≡_, refl, sym, ap, ap₂, _∙_}
 use native.Mathlib.Decide.{decLt}
 use native.Mathlib.Omega.{arith}
 use borrow.Author.Tests.{lt-ltb, le-ltb}
@@ -17,11 +16,11 @@ use Rattle.masks.specs.declared.Effect.the-variants.{Touched}
 use Rattle.masks.specs.Step.{stepOf}
 use Rattle.flow.specs.Flow.{Flow, size}
 use Rattle.flow.specs.Limits.{maxArrays}
-use Rattle.theory.specs.Lists.{In, any, select, upTo}
-use Rattle.theory.specs.Body.{kind, successors, continuationOf, isReturn, opaqueCall, callTouches}
-use Rattle.theory.specs.Doubled.{Base, Node, Edge, at, plain, node, number, edges, edgesOf, listedEdges, returnEdges, callEdges, returnsTo, statementEffects, edgeEffects, doubled}
+use Rattle.theory.specs.Lists.{In}
+use Rattle.theory.specs.Body.{callTouches}
+use Rattle.theory.specs.Doubled.{Base, Edge, at, node, number, edges, statementEffects, edgeEffects, doubled}
 use Rattle.theory.specs.Queue.{stepAll, brings}
-use Rattle.theory.proofs.Lists.{In-map, clash}
+use Rattle.theory.proofs.Lists.{says-one}
 use Rattle.statements.specs.Layout.{callTouchedAt, outRow, backRow}
 use Rattle.statements.specs.Ready.{MembersWord}
 use Rattle.calls.specs.Slots.{slots, present, toArc}
@@ -30,6 +29,7 @@ use Rattle.solve.specs.Rows.{stepWhere, memberBelow}
 use Rattle.solve.specs.Pushed.{masksAt}
 use Rattle.dataflow.specs.Transfer.{acted}
 use Rattle.dataflow.specs.Sent.{edgeRow, carried, masksBelow}
+use Rattle.dataflow.proofs.Unions.{cond-zero}
 use Rattle.dataflow.proofs.Acted.{stepAll-append, stepAll-if}
 
 -- the statement of a doubled number
@@ -46,30 +46,6 @@ statement-below {n} {d} l = at (decLt d n)
     at : Dec (d < n) → cond (ltb d n) d (d - n) < n
     at (yes h) = rw (lt-ltb d n h) h
     at (no h) = rw (le-ltb d n (omega (arith, h))) (omega (arith, h))
-
--- only a call that is not opaque has an edge that carries the touched step
-
-plain-listed : (f : Flow) (b : Base) (i : ℕ) {x : Edge} → In x (listedEdges f b i) → x .continues ≡ false
-unfolding listedEdges
-plain-listed f b i m = let y = In-map (λ j. plain (at b j)) (successors f i) m in ap (λ (e : Edge). e .continues) (y .2)
-
-plain-return : (f : Flow) (b : Base) (i : ℕ) {x : Edge} → In x (returnEdges f b i) → x .continues ≡ false
-unfolding returnEdges
-plain-return f Base.zero i m = let y = In-map (λ k. plain (at Base.zero k)) (select (λ k. any (returnsTo f i k) (upTo (size f))) (upTo (size f))) m in ap (λ (e : Edge). e .continues) (y .2)
-plain-return f Base.n i m = absurd (List·Memᴰ·not-nil m)
-
-pub plain-edge : (f : Flow) (v : Node) {x : Edge} → ((k : ℕ) → continuationOf (kind f (v .stmt)) ≡ some k → opaqueCall f (v .stmt) ≡ true) → In x (edges f v) → x .continues ≡ false
-unfolding edges edgesOf
-plain-edge f v {x} op m = go (continuationOf (kind f (v .stmt))) refl m
-  where
-    by : (r : Bool) → In x (cond r (returnEdges f (v .base) (v .stmt)) (listedEdges f (v .base) (v .stmt))) → x .continues ≡ false
-    by true m = plain-return f (v .base) (v .stmt) m
-    by false m = plain-listed f (v .base) (v .stmt) m
-
-    go : (o : Option ℕ) → continuationOf (kind f (v .stmt)) ≡ o → In x (edgesOf f (v .base) (v .stmt) o) → x .continues ≡ false
-    go none e m = by (isReturn (kind f (v .stmt))) m
-    go (some k) e m =
-        plain-listed f (v .base) (v .stmt) (subst (λ (b : Bool). In x (cond b (listedEdges f (v .base) (v .stmt)) (callEdges f (v .base) (v .stmt) k))) (op k e) m)
 
 -- a set of one word
 word-has : (ws : List ℕ) (set a : ℕ) → a < maxArrays → bits.has ws set a ≡ bits.bit (getD ws set 0) a
@@ -102,14 +78,10 @@ unfolding acted masksBelow edgeEffects stepAll stepWhere memberBelow
 back-row f ws i count set m row x a l is e touched = at (ltb a count) is
   where
     member : eqb (bits.has ws set a) 1 ≡ callTouches f i a
-    member = ap (λ (y : ℕ). eqb y 1) (low ∙ touched .member a l) ∙ one (callTouches f i a)
+    member = ap (λ (y : ℕ). eqb y 1) (low ∙ touched .member a l) ∙ says-one (callTouches f i a)
       where
         low : bits.has ws set a ≡ bits.bit (getD ws set 0) a
         low = word-has ws set a l
-
-        one : (b : Bool) → eqb (cond b 1 0) 1 ≡ b
-        one true = refl
-        one false = refl
 
     at : (b : Bool) → row a ≡ cond b (m a) 0
         → cond (b && eqb (bits.has ws set a) 1) (stepOf Touched (cond b (stepAll (statementEffects f i a) (row a)) (row a))) (cond b (stepAll (statementEffects f i a) (row a)) (row a))
@@ -127,11 +99,7 @@ module _ (f : Flow) (ws : List ℕ) (n i : ℕ) (m : ℕ → ℕ) (t : ℕ) wher
       → ((x : Edge) → In x es → (a : ℕ) → a < maxArrays → masksAt ws n (edgeRow n (x .continues)) a ≡ masksBelow (f .arrays) (λ b. stepAll (edgeEffects f i x b) (m b)) a)
       → (a : ℕ) → a < maxArrays → carried f ws n es t a ≡ masksBelow (f .arrays) (λ b. brings t b (m b) (map (toArc f i) es)) a
   unfolding carried brings masksBelow
-  carried-brings [] h a l = zero (ltb a (f .arrays))
-    where
-      zero : (b : Bool) → _≡_ {A = ℕ} 0 (cond b 0 0)
-      zero true = refl
-      zero false = refl
+  carried-brings [] h a l = cond-zero (ltb a (f .arrays))
   carried-brings (x ∷ xs) h a l =
       ap₂ (λ (p q : ℕ). bitOr (cond (eqb (number f (x .to)) t) p 0) q) (h x (List·Memᴰ·head refl) a l) (carried-brings xs (λ y k. h y (List·Memᴰ·tail k)) a l)
       ∙ split (ltb a (f .arrays)) (eqb (number f (x .to)) t)

@@ -1,31 +1,30 @@
 -- The visits of a fit file's flow can be counted in a word: every list of the file lies within it, so a number has few edges, and the visits are within
 -- Term 1's bound.
-use Prim.Native.Nat.{ℕ, zero, suc, _+_, _-_, _*_, _^_, _≤_, _<_, zero-le}
+use Prim.Native.Nat.{ℕ, zero, _+_, _-_, _*_, _^_, _≤_, _<_, zero-le}
 use mathlib.Core.Bool.{Bool, true, false, cond, not, _||_}
 use mathlib.Core.List.{List, [], _∷_, _++_, map}
 use mathlib.Core.Option.{Option, none, some}
-use mathlib.Core.Path.{_≡_, refl, sym, ap, subst, _∙_}
+use mathlib.Core.Path.{_≡_, sym, ap, subst}
 use native.Mathlib.Decide.{decLt}
 use native.Mathlib.Nat.{mul-le-mul-left, mul-le-mul-right, le-trans}
 use native.Mathlib.Omega.{arith}
 use lib.Dec.{eqb, ltb}
 use lib.ListN.{length, length-append, length-map}
 use Rattle.flow.specs.Flow.{Flow, size, enters, statement}
-use Rattle.flow.specs.Format.{flowOf, recordPlace, statementsOf, successorCount, kindAt, dataPlace}
-use Rattle.flow.specs.Fields.{FitFile, callLineCount}
+use Rattle.flow.specs.Format.{flowOf, statementsOf, successorCount, kindAt, dataPlace}
+use Rattle.flow.specs.Fields.{FitFile}
 use Rattle.flow.specs.Limits.{maxFile, maxStatements, maxArrays}
 use Rattle.records.proofs.Files.{limited}
-use Rattle.flow.proofs.Records.{references-fit, call-line-fits}
 use Rattle.theory.specs.Lists.{any, has, select, concatMap, optionList, upTo, sumBelow}
 use Rattle.theory.specs.Body.{kind, successors, callLines, continuationOf, isReturn, entered, opaqueCall}
 use Rattle.theory.specs.Doubled.{Base, Node, Edge, at, plain, node, sameNode, once, edges, edgesOf, listedEdges, returnEdges, callEdges, returnsTo, number, edgeEffects, arcsOf, doubled}
 use Rattle.theory.specs.Queue.{Graph, Arc, arcCount, visitBound}
-use Rattle.theory.proofs.Lists.{sumBelow-le}
+use Rattle.theory.proofs.Lists.{length-upTo, sumBelow-le}
 use Rattle.theory.proofs.Below.{sumBelow-const}
 use Rattle.statements.specs.Ready.{Ready}
-use Rattle.statements.proofs.ByNumber.{record-of}
 use Rattle.statements.proofs.WellFormed.{arrays-is}
-use Rattle.calls.proofs.Checked.{ready-size, ready-few}
+use Rattle.statements.proofs.Keeps.{ready-size, ready-most}
+use Rattle.calls.proofs.Checked.{successors-few, lines-few}
 use Rattle.calls.proofs.Found.{node-low, node-high}
 
 -- Lengths
@@ -38,11 +37,6 @@ length-select p (x ∷ l) = at (p x) (length-select p l)
     at : (b : Bool) → length (select p l) ≤ length l → length (cond b (x ∷ select p l) (select p l)) ≤ length (x ∷ l)
     at true h = omega arith
     at false h = omega arith
-
-length-upTo : (k : ℕ) → length (upTo k) ≡ k
-unfolding upTo
-length-upTo zero = refl
-length-upTo (suc k) = length-append (upTo k) (k ∷ []) ∙ omega (arith, length-upTo k)
 
 length-once : (es : List Edge) → length (once es) ≤ length es
 unfolding once
@@ -116,37 +110,19 @@ module _ (f : Flow) (b : Base) (i most : ℕ) (sized : size f ≤ most) (next : 
 -- The lists of a fit file lie within it
 
 module _ {s ws : List ℕ} {n : ℕ} (r : Ready s ws n) where
-  successors-few : (i : ℕ) → i < n → length (successors (flowOf s) i) ≤ maxFile
-  successors-few i l =
-      let x = record-of r l refl in
-      let count = x .successors .count in
-      let whole = limited (r .fit) .file in
-      omega (arith, references-fit (x .fit))
-
-  lines-few : (i : ℕ) → i < n → length (callLines (kind (flowOf s) i)) ≤ maxFile
-  lines-few i l = at (decLt 0 (callLineCount s (recordPlace s i)))
-    where
-      at : Dec (0 < callLineCount s (recordPlace s i)) → length (callLines (kind (flowOf s) i)) ≤ maxFile
-      at (yes h) =
-          let x = record-of r l refl in
-          let count = x .lines .count in
-          let whole = limited (r .fit) .file in
-          omega (arith, call-line-fits (x .fit) (callLineCount s (recordPlace s i) - 1) (omega arith))
-      at (no h) = let count = record-of r l refl .lines .count in omega (arith, h)
-
   node-few : (d : ℕ) → d < n + n → length (edges (flowOf s) (node (flowOf s) d)) ≤ maxFile + maxFile + 1
   node-few d l = go (decLt d (size (flowOf s)))
     where
       sized : size (flowOf s) ≤ maxFile
-      sized = let few = ready-few r in omega (arith, ready-size r)
+      sized = let few = ready-most r in omega (arith, ready-size r)
 
       go : Dec (d < size (flowOf s)) → length (edges (flowOf s) (node (flowOf s) d)) ≤ maxFile + maxFile + 1
       go (yes h) =
           subst (λ (v : Node). length (edges (flowOf s) v) ≤ maxFile + maxFile + 1) (sym (node-low (flowOf s) d h))
-          (edges-few (flowOf s) Base.zero d maxFile sized (successors-few d (omega (arith, ready-size r))) (lines-few d (omega (arith, ready-size r))))
+          (edges-few (flowOf s) Base.zero d maxFile sized (successors-few r (omega (arith, ready-size r))) (lines-few r (omega (arith, ready-size r))))
       go (no h) =
           subst (λ (v : Node). length (edges (flowOf s) v) ≤ maxFile + maxFile + 1) (sym (node-high (flowOf s) d (omega (arith, h))))
-          (edges-few (flowOf s) Base.n (d - size (flowOf s)) maxFile sized (successors-few (d - size (flowOf s)) (omega (arith, ready-size r, h))) (lines-few (d - size (flowOf s)) (omega (arith, ready-size r, h))))
+          (edges-few (flowOf s) Base.n (d - size (flowOf s)) maxFile sized (successors-few r (omega (arith, ready-size r, h))) (lines-few r (omega (arith, ready-size r, h))))
 
   -- Term 1's bound is a word, and so is one more
   pub visits-few : visitBound (doubled (flowOf s)) < 2 ^ 63
@@ -159,7 +135,7 @@ module _ {s ws : List ℕ} {n : ℕ} (r : Ready s ws n) where
       let h = node-few d (omega (arith, ready-size r)) in
       omega (arith, length-map (edges f (node f d)) (arcOf f d))) in
       let all : sumBelow (size f + size f) (λ d. each) ≡ (size f + size f) * each = sumBelow-const (size f + size f) each in
-      let few = ready-few r in
+      let few = ready-most r in
       let edges : arcCount (doubled f) ≤ 4096 * each = omega (arith, mul-le-mul-right each (nodes-few few), ready-size r) in
       let arrays : f .arrays ≤ maxArrays = subst (λ (k : ℕ). k ≤ maxArrays) (sym (arrays-is s)) (limited (r .fit) .arrays) in
       let x : arcCount (doubled f) * (1 + 2 * (f .arrays)) ≤ 4096 * each * (1 + 2 * (f .arrays)) = mul-le-mul-right (1 + 2 * (f .arrays)) edges in

@@ -2,18 +2,18 @@
 -- By the layout of the work area.
 use Prim.Native.Nat.{ℕ, _+_, _/_, _<_, _≤_}
 use mathlib.Core.List.{List}
-use mathlib.Core.Path.{_≡_, sym, ap, subst, _∙_}
+use mathlib.Core.Path.{_≡_, sym, ap, _∙_}
 use native.Mathlib.Omega.{arith}
 use lib.ListN.{length, getD}
 use Rattle.words.specs.Row.{has}
 use Rattle.words.proofs.Row.{has-cong}
 use Rattle.flow.specs.Flow.{Flow}
-use Rattle.statements.specs.Layout.{callsAt, callTouchedAt, rowAt, rowWords, queueAt, enteredAt, waitingAt, areaEnd}
-use Rattle.statements.specs.Ready.{Ready, Keeps, MembersWord}
+use Rattle.statements.specs.Layout.{callsAt, rowAt, rowWords, queueAt, enteredAt, waitingAt, areaEnd}
+use Rattle.statements.specs.Ready.{Ready, Keeps}
 use Rattle.statements.proofs.WorkArea.{row-from, row-fits, row-words-le, member-word}
 use Rattle.statements.proofs.Keeps.{keeps-has, ready-keeps}
-use Rattle.theory.specs.Body.{callTouches}
 use Rattle.calls.specs.Held.{Linked, EnteredRow, EmptyEntered}
+use Rattle.calls.proofs.Gathered.{summaries-kept}
 
 -- the words from the queue on are the solver's
 pub queue-above : (n : ℕ) → n + n + n + n + n ≤ queueAt n
@@ -29,9 +29,7 @@ module _ {ws vs : List ℕ} {n hi : ℕ} (k : Keeps (queueAt n) hi ws vs) where
       let call : (c : ℕ) → c < n → getD vs (callsAt n + c) 0 ≡ getD ws (callsAt n + c) 0 = λ c l. k .below (callsAt n + c) (omega arith) in
       let row : (r j : ℕ) → r < n → j < n → has vs (rowAt n r) j ≡ has ws (rowAt n r) j = λ r j l m. keeps-has k (rowAt n r) j (λ p q. let fits = row-fits n l in let word = member-word m in omega arith) in
       record {
-        ordinary = λ c l e. call c l ∙ x .ordinary c l e;
-        call = λ c j l e. call c l ∙ x .call c j l e;
-        touched = λ c l e. subst (λ (w : ℕ). MembersWord w (callTouches f c)) (sym (k .below (callTouchedAt n + c) (omega arith))) (x .touched c l (sym (call c l) ∙ e));
+        calls = summaries-kept (omega arith) k (x .calls);
         bodies = λ c j l m e. row c j l m ∙ x .bodies c j l m (sym (call c l) ∙ e);
         returns = λ r j l m e. row r j l m ∙ x .returns r j l m e;
       }

@@ -1,7 +1,7 @@
 -- The solver goes through the states of the queue rule: it starts at the rule's first, each visit leads to the next, and where nothing waits it has come
 -- to what the rule leaves. A number's masks are then what a visit would pull.
 use Prim.Native.Nat.{ℕ, _+_, _*_, _/_, _%_, _^_, _<_, _≤_}
-use mathlib.Core.Bool.{Bool, true, false, cond}
+use mathlib.Core.Bool.{Bool, false, cond}
 use mathlib.Core.List.{List, [], _∷_}
 use mathlib.Core.Logic.{_≢_}
 use mathlib.Core.Path.{_≡_, refl, sym, ap, ap₂, subst, _∙_}
@@ -11,9 +11,7 @@ use native.Mathlib.Omega.{arith}
 use borrow.Author.Tests.{eq-eqb, ne-eqb}
 use lib.Dec.{eqb, ltb}
 use lib.ListN.{length, getD}
-use Rattle.words.specs.Row as bits
 use Rattle.words.specs.Byte.{byteAt, byteOf}
-use Rattle.words.proofs.Bit.{bit-of-zero}
 use Rattle.words.proofs.Bytes.{byte-cong}
 use Rattle.masks.specs.declared.Effect.the-variants.{Clear}
 use Rattle.flow.specs.Flow.{Flow, size}
@@ -32,6 +30,7 @@ use Rattle.statements.specs.Layout.{maskWords, queueAt, enteredAt, waitingAt, v
 use Rattle.statements.specs.Ready.{Keeps}
 use Rattle.statements.proofs.WorkArea.{member-word, row-words-le}
 use Rattle.statements.proofs.Keeps.{keeps-refl, keeps-trans, keeps-widen}
+use Rattle.statements.proofs.Members.{zero-has}
 use Rattle.calls.specs.Held.{EmptyEntered}
 use Rattle.solve.specs.declared.Queue.{Queue}
 use Rattle.solve.specs.Rows.{RowIs, stepWhere}
@@ -40,6 +39,7 @@ use Rattle.solve.specs.Pushed.{masksAt}
 use Rattle.solve.proofs.Waiting.{rest-keeps, waits-none}
 use Rattle.dataflow.specs.Sent.{masksBelow}
 use Rattle.dataflow.specs.Solving.{Solving, Underway, VisitsFront, Unused, Solved}
+use Rattle.dataflow.proofs.Unions.{cond-zero}
 use Rattle.dataflow.proofs.Visiting.{nodes-are, arrays-are, below-at}
 
 pub record Running (f : Flow) (n : ℕ) (ws₀ ws : List ℕ) (queue : Queue) (visits : ℕ) : Type 0 where
@@ -100,10 +100,6 @@ module _ (f : Flow) (n : ℕ) (ws us : List ℕ) (entry count row : ℕ) (sized 
     unfolding stepWhere
     masks d a l m = same-masks d a m ∙ at (ℕ-discrete d entry) ∙ sym (first-mask d a)
       where
-        choose : (b : Bool) → _≡_ {A = ℕ} 0 (cond b 0 0)
-        choose true = refl
-        choose false = refl
-
         at : Dec (d ≡ entry) → masksAt us n d a ≡ cond (ltb a count) (cond (eqb d entry) 1 0) 0
         at (yes e) =
             ap (λ (y : ℕ). byteAt us y a) (ap (maskRowAt n) e ∙ sym place) ∙ entered .bytes a m
@@ -112,20 +108,18 @@ module _ (f : Flow) (n : ℕ) (ws us : List ℕ) (entry count row : ℕ) (sized 
         at (no e) =
             byte-cong us ws (maskRowAt n d) a (elsewhere (decLt d entry))
             ∙ zero-byte ws (maskRowAt n d) a (unused (maskRowAt n d + a / 8) (omega arith) (omega arith))
-            ∙ choose (ltb a count) ∙ ap (λ (v : ℕ). cond (ltb a count) v 0) (sym (ap (λ (b : Bool). cond b 1 0) (ne-eqb d entry e)))
+            ∙ cond-zero (ltb a count) ∙ ap (λ (v : ℕ). cond (ltb a count) v 0) (sym (ap (λ (b : Bool). cond b 1 0) (ne-eqb d entry e)))
           where
             elsewhere : Dec (d < entry) → getD us (maskRowAt n d + a / 8) 0 ≡ getD ws (maskRowAt n d + a / 8) 0
             elsewhere (yes l) = entered .keeps .below (maskRowAt n d + a / 8) (omega arith)
             elsewhere (no l) = entered .keeps .above (maskRowAt n d + a / 8) (omega (arith, l, e))
 
     empty : EmptyEntered vs n
-    unfolding bits.has
     empty j l =
-        ap (λ (w : ℕ). bits.bit w (j % 64))
+        zero-has vs (enteredAt n) j
         (let word = member-word l in
         let few = row-words-le n in
         q .kept .between (enteredAt n + j / 64) (omega arith) (omega arith) ∙ low (enteredAt n + j / 64) (omega arith) ∙ unused (enteredAt n + j / 64) (omega arith) (omega arith))
-        ∙ bit-of-zero (j % 64)
 
     pub starts : Running f n vs vs r 0
     unfolding initial

@@ -1,40 +1,39 @@
 -- The edges of a number gone through one after the other: what is left to push, with what was pushed, is what there was to push.
 -- A union taken edge by edge is the union of all; the rows of the edges are not written on the way.
-use Prim.Native.Nat.{ℕ, zero, suc, _+_, _*_, _/_, _^_, _≤_, _<_}
+use Prim.Native.Nat.{ℕ, _+_, _*_, _/_, _≤_, _<_}
 use mathlib.Core.Bool.{Bool, true, false, cond, _||_}
-use mathlib.Core.List.{List, [], _∷_, map, List·Memᴰ·head, List·Memᴰ·tail, List·Memᴰ·not-nil, Memᴰ·append-right}
+use mathlib.Core.List.{List, [], map, List·Memᴰ·tail, List·Memᴰ·not-nil}
 use mathlib.Core.Logic.{_≢_}
-use mathlib.Core.Option.{Option, none, some}
+use mathlib.Core.Option.{none, some}
 use mathlib.Core.Path.{_≡_, refl, sym, ap, ap₂, subst, _∙_}
 use native.Mathlib.Decide.{ℕ-discrete}
 use native.Mathlib.Omega.{arith}
 use borrow.Author.Tests.{eq-eqb, ne-eqb}
-use lib.Bits.{bitOr, or-lt, or-self, or-zero-l, or-zero-r}
-use lib.Dec.{eqb, lit<}
+use lib.Bits.{bitOr, or-self, or-zero-l, or-zero-r}
+use lib.Dec.{eqb}
 use lib.ListN.{length, getD, drop}
 use Rattle.words.specs.Byte.{byteAt}
-use Rattle.words.proofs.Bytes.{byte-lt}
 use Rattle.flow.specs.declared.NodeId.{NodeId}
 use Rattle.flow.specs.Flow.{Flow, size}
 use Rattle.flow.specs.Limits.{maxArrays}
-use Rattle.theory.specs.Lists.{In, has, concatMap, optionList}
+use Rattle.theory.specs.Lists.{has}
 use Rattle.theory.specs.Queue.{Arc, join, enqueue, brings}
-use Rattle.theory.specs.Doubled.{Base, Node, Edge, node, number, doubled}
+use Rattle.theory.specs.Doubled.{Node, Edge, node, number, doubled}
 use Rattle.theory.specs.WellFormed.{WellFormed}
-use Rattle.theory.proofs.Edges.{edge-below}
 use Rattle.theory.proofs.Push.{differ, differ-chain}
-use Rattle.statements.specs.Layout.{queueAt, enteredAt, waitingAt, visitedAt, grownAt, areaEnd, maskRowAt}
+use Rattle.statements.specs.Layout.{queueAt, enteredAt, waitingAt, visitedAt, grownAt, areaEnd}
 use Rattle.statements.specs.Ready.{Keeps}
 use Rattle.statements.proofs.Keeps.{keeps-refl, keeps-trans}
 use Rattle.calls.specs.Slots.{slots, present, toArc}
 use Rattle.calls.proofs.Cursor.{NextEdge}
-use Rattle.calls.proofs.Slots.{slot-edge, enqueue-slots}
+use Rattle.calls.proofs.Slots.{enqueue-slots, or-assoc}
+use Rattle.calls.proofs.Next.{next-below}
 use Rattle.solve.specs.declared.Queue.{Queue}
 use Rattle.solve.specs.Waiting.{Waits}
 use Rattle.solve.specs.Pushed.{masksAt, Pushed}
 use Rattle.solve.proofs.Growing.{differ-as}
 use Rattle.dataflow.specs.Sent.{edgeRow, carried, GrownWords, SameVisited, Sent}
-use Rattle.dataflow.proofs.Unions.{or-assoc, or-between, differ-self, cond-or}
+use Rattle.dataflow.proofs.Unions.{or-between, differ-self, cond-or}
 
 -- the edges of d from a cursor on
 abbrev pub edgesFrom : Flow → ℕ → ℕ → List Edge
@@ -44,31 +43,8 @@ abbrev pub arcsFrom : Flow → ℕ → ℕ → List Arc
 arcsFrom f d cursor = map (toArc f (node f d .stmt)) (edgesFrom f d cursor)
 
 -- the targets of the edges are numbers of the graph
-
-present-drop : {x : Edge} (c : ℕ) (xs : List (Option Edge)) → In x (present (drop c xs)) → In x (present xs)
-unfolding present concatMap
-present-drop zero xs m = m
-present-drop (suc c) [] m = m
-present-drop (suc c) (o ∷ xs) m = Memᴰ·append-right (optionList o) (present-drop c xs m)
-
-number-below : (f : Flow) {n : ℕ} (b : Base) (i : ℕ) → size f ≡ n → i < size f → number f (record { base = b; stmt = i }) < 2 * n
-number-below f Base.zero i sized l = omega arith
-number-below f Base.n i sized l = omega arith
-
 pub target-below : (d : ℕ) {f : Flow} {n cursor next : ℕ} {t : NodeId} {c : Bool} → WellFormed f → size f ≡ n → NextEdge f (slots f (node f d)) cursor t c next → t .0 < 2 * n
-target-below d {f} {n} {cursor} wf sized x =
-    let among : In (x .edge) (edgesFrom f d cursor) = subst (λ l. In (x .edge) l) (sym (x .first)) (List·Memᴰ·head refl) in
-    let below : x .edge .to .stmt < size f = edge-below f wf (node f d) (slot-edge f (node f d) (present-drop cursor (slots f (node f d)) among)) in
-    subst (λ (t : ℕ). t < 2 * n) (sym (x .target)) (number-below f (x .edge .to .base) (x .edge .to .stmt) sized below)
-
-carried-lt : (f : Flow) (ws : List ℕ) (n : ℕ) (es : List Edge) (t a : ℕ) → carried f ws n es t a < 2 ^ 8
-unfolding carried
-carried-lt f ws n [] t a = lit< tt
-carried-lt f ws n (x ∷ xs) t a = or-lt 8 (cond (eqb (number f (x .to)) t) (masksAt ws n (edgeRow n (x .continues)) a) 0) (carried f ws n xs t a) (one (eqb (number f (x .to)) t)) (carried-lt f ws n xs t a)
-  where
-    one : (b : Bool) → cond b (masksAt ws n (edgeRow n (x .continues)) a) 0 < 2 ^ 8
-    one true = byte-lt ws (maskRowAt n (edgeRow n (x .continues))) a
-    one false = lit< tt
+target-below d {f} wf sized x = let below = next-below (node f d) x wf in omega arith
 
 pub record Sending (f : Flow) (ws₀ : List ℕ) (n : ℕ) (queue₀ : Queue) (d : ℕ) (ws : List ℕ) (queue : Queue) (cursor : ℕ) : Type 0 where
   pub waits : (w₀ : List ℕ) → Waits ws₀ n queue₀ w₀ → (w : List ℕ) × Waits ws n queue w × (enqueue (arcsFrom f d cursor) w ≡ enqueue (arcsFrom f d 0) w₀)
@@ -103,13 +79,6 @@ module _ {f : Flow} {ws₀ : List ℕ} {n : ℕ} {queue₀ : Queue} {d : ℕ} {w
   apart true e = omega arith
   apart false e = omega arith
 
-  one-lt : (u a : ℕ) → one u a < 2 ^ 8
-  one-lt u a = at (eqb (number f (x .edge .to)) u)
-    where
-      at : (b : Bool) → cond b (masksAt ws₀ n (edgeRow n (x .edge .continues)) a) 0 < 2 ^ 8
-      at true = byte-lt ws₀ (maskRowAt n (edgeRow n (x .edge .continues))) a
-      at false = lit< tt
-
   joined-mask : (u a : ℕ) → a < maxArrays → masksAt vs n u a ≡ bitOr (masksAt ws n u a) (one u a)
   joined-mask u a l = at (ℕ-discrete u (t .0))
     where
@@ -131,13 +100,13 @@ module _ {f : Flow} {ws₀ : List ℕ} {n : ℕ} {queue₀ : Queue} {d : ℕ} {w
       → bitOr (masksAt vs n u a) (carried f ws₀ n (edgesFrom f d next) u a) ≡ bitOr (masksAt ws₀ n u a) (carried f ws₀ n (edgesFrom f d 0) u a)
   masks-more u a l m =
       ap (λ (y : ℕ). bitOr y (carried f ws₀ n (edgesFrom f d next) u a)) (joined-mask u a m)
-      ∙ or-assoc 8 (masksAt ws n u a) (one u a) (carried f ws₀ n (edgesFrom f d next) u a) (byte-lt ws (maskRowAt n u) a) (one-lt u a) (carried-lt f ws₀ n (edgesFrom f d next) u a)
+      ∙ or-assoc (masksAt ws n u a) (one u a) (carried f ws₀ n (edgesFrom f d next) u a)
       ∙ ap (bitOr (masksAt ws n u a)) (sym (carried-first u a)) ∙ s .masks u a l m
 
   held : (u a : ℕ) → a < maxArrays → bitOr (masksAt ws n u a) (masksAt vs n u a) ≡ masksAt vs n u a
   held u a m =
       let old : ℕ = masksAt ws n u a in
-      ap (bitOr old) (joined-mask u a m) ∙ sym (or-assoc 8 old old (one u a) (byte-lt ws (maskRowAt n u) a) (byte-lt ws (maskRowAt n u) a) (one-lt u a))
+      ap (bitOr old) (joined-mask u a m) ∙ sym (or-assoc old old (one u a))
       ∙ ap (λ (y : ℕ). bitOr y (one u a)) (or-self old) ∙ sym (joined-mask u a m)
 
   grows-more : (u a : ℕ) → u < 2 * n → a < maxArrays → bitOr (masksAt ws₀ n u a) (masksAt vs n u a) ≡ masksAt vs n u a
@@ -146,7 +115,7 @@ module _ {f : Flow} {ws₀ : List ℕ} {n : ℕ} {queue₀ : Queue} {d : ℕ} {w
       let old : ℕ = masksAt ws n u a in
       let new : ℕ = masksAt vs n u a in
       ap (bitOr first) (sym (held u a m))
-      ∙ sym (or-assoc 8 first old new (byte-lt ws₀ (maskRowAt n u) a) (byte-lt ws (maskRowAt n u) a) (byte-lt vs (maskRowAt n u) a))
+      ∙ sym (or-assoc first old new)
       ∙ ap (λ (y : ℕ). bitOr y new) (s .grows u a l m) ∙ held u a m
 
   grown-more : GrownWords n ws₀ vs

@@ -25,6 +25,7 @@ use Rattle.words.proofs.Bytes.{byte-cong}
 use Rattle.calls.specs.Held.{EmptyEntered}
 use Rattle.calls.specs.Slots.{slots, present}
 use Rattle.calls.proofs.Slots.{slot-edge, brings-slots}
+use Rattle.calls.proofs.Next.{plain-edge}
 use Rattle.solve.specs.declared.Queue.{Queue}
 use Rattle.solve.specs.Rows.{RowIs, stepWhere, memberBelow}
 use Rattle.solve.specs.Pushed.{masksAt}
@@ -32,7 +33,7 @@ use Rattle.solve.proofs.Growing.{differ-as}
 use Rattle.dataflow.specs.Transfer.{acted}
 use Rattle.dataflow.specs.Sent.{edgeRow, carried, masksBelow, Sent, Sends}
 use Rattle.dataflow.proofs.Aside.{Aside, aside-trans, aside-row, aside-entered, aside-waits, aside-masks, aside-visited, aside-grown}
-use Rattle.dataflow.proofs.EdgeRows.{plain-edge, act-row, back-row, carried-brings}
+use Rattle.dataflow.proofs.EdgeRows.{act-row, back-row, carried-brings}
 
 -- the rows of d's edges are made
 pub record Prepared (f : Flow) (ws us : List ℕ) (n d : ℕ) : Type 0 where

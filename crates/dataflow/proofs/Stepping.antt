@@ -1,62 +1,33 @@
 -- A row of masks steps for each element of a list, one after the other: the arrays that pass the test at an element gone through have stepped.
 -- None at first, then one element more, and at last those of the whole list.
 use Prim.Native.Nat.{ℕ, _+_, _≤_, _<_, zero-le}
-use mathlib.Core.Bool.{Bool, true, false, cond, _||_, or-false}
-use mathlib.Core.List.{List, [], _∷_, _++_, List·Memᴰ, List·Memᴰ·head, List·Memᴰ·tail}
+use mathlib.Core.Bool.{Bool, cond, _||_, or-false}
+use mathlib.Core.List.{List, [], _∷_}
 use mathlib.Core.Path.{_≡_, refl, sym, ap, _∙_}
 use native.Mathlib.Numerals.{add-one}
-use native.Mathlib.Nat.{not-suc-le-zero, le-of-suc-le-suc}
-use native.Mathlib.Decide.{ℕ-discrete}
 use native.Mathlib.Omega.{arith}
-use borrow.Author.Tests.{eq-eqb, ne-eqb}
-use lib.Dec.{eqb}
 use lib.ListN.{length, getD, take}
 use lib.Seq.{take-suc, take-length}
 use Rattle.words.specs.Byte.{byteAt}
 use Rattle.masks.specs.declared.Effect.{Effect}
 use Rattle.masks.specs.Step.{stepOf}
-use Rattle.theory.specs.Lists.{In, any, has}
+use Rattle.theory.specs.Lists.{any}
+use Rattle.theory.proofs.Lists.{any-append}
 use Rattle.solve.specs.Rows.{RowIs, stepWhere}
 use Rattle.solve.proofs.RowChanges.{row-as, none-stepped, more-stepped}
 
-any-append : {A : Type 0} (p : A → Bool) (l : List A) (x : A) → any p (l ++ (x ∷ [])) ≡ (any p l || p x)
-unfolding any
-any-append p [] x = or-false (p x)
-any-append p (y ∷ l) x = ap (λ b. p y || b) (any-append p l x) ∙ sym (or-shift (p y) (any p l) (p x))
-  where
-    or-shift : (a b c : Bool) → ((a || b) || c) ≡ (a || (b || c))
-    or-shift true b c = refl
-    or-shift false b c = refl
-
 any-next : {A : Type 0} (p : A → Bool) (l : List A) (k : ℕ) (d : A) → k < length l → (any p (take k l) || p (getD l k d)) ≡ any p (take (k + 1) l)
-any-next p l k d h = sym (ap (λ (j : ℕ). any p (take j l)) (add-one k) ∙ ap (any p) (take-suc l k d h) ∙ any-append p (take k l) (getD l k d))
+unfolding any
+any-next p l k d h = sym (ap (λ (j : ℕ). any p (take j l)) (add-one k) ∙ ap (any p) (take-suc l k d h) ∙ any-append p (take k l) (getD l k d ∷ []) ∙ ap (λ b. any p (take k l) || b) (or-false (p (getD l k d))))
 
 any-all : {A : Type 0} (p : A → Bool) (l : List A) (k : ℕ) → k ≡ length l → any p (take k l) ≡ any p l
 any-all p l k e = ap (λ (j : ℕ). any p (take j l)) e ∙ ap (any p) (take-length l)
-
--- the test of membership is such a test
-pub has-any : (x : ℕ) (l : List ℕ) → any (eqb x) l ≡ has x l
-unfolding any has
-has-any x [] = refl
-has-any x (y ∷ l) = ap (λ b. eqb x y || b) (has-any x l)
-
-pub getD-In : {A : Type 0} (l : List A) (k : ℕ) (d : A) → k < length l → In (getD l k d) l
-getD-In [] k d h = absurd (not-suc-le-zero h)
-getD-In (x ∷ l) ℕ.zero d h = List·Memᴰ·head refl
-getD-In (x ∷ l) (ℕ.suc k) d h = List·Memᴰ·tail (getD-In l k d (le-of-suc-le-suc h))
 
 -- what steps goes by what passes the test
 pub step-as : (p q : ℕ → Bool) (e : Effect) {ws vs : List ℕ} {row : ℕ} → RowIs ws vs row (stepWhere p e (byteAt ws row)) → ((a : ℕ) → p a ≡ q a)
     → RowIs ws vs row (stepWhere q e (byteAt ws row))
 unfolding stepWhere
 step-as p q e {ws} {vs} {row} x h = row-as x (λ a l. ap (λ (b : Bool). cond b (stepOf e (byteAt ws row a)) (byteAt ws row a)) (h a))
-
-pub eqb-sym : (x y : ℕ) → eqb x y ≡ eqb y x
-eqb-sym x y = at (ℕ-discrete x y)
-  where
-    at : Dec (x ≡ y) → eqb x y ≡ eqb y x
-    at (yes e) = eq-eqb x y e ∙ sym (eq-eqb y x (sym e))
-    at (no d) = ne-eqb x y d ∙ sym (ne-eqb y x (λ e. d (sym e)))
 
 pub record Stepping {A : Type 0} (test : ℕ → A → Bool) (l : List A) (e : Effect) (ws₀ : List ℕ) (row : ℕ) (ws : List ℕ) (k : ℕ) : Type 0 where
   pub some : k ≤ length l

@@ -18,7 +18,7 @@ use Rattle.flow.specs.Limits.{maxArrays}
 use Rattle.theory.specs.Doubled.{doubled}
 use Rattle.theory.specs.Queue.{Graph, Solver, pulled, changed, visit, enqueue, brings}
 use Rattle.theory.specs.WellFormed.{WellFormed}
-use Rattle.theory.proofs.Lists.{clash}
+use Rattle.theory.proofs.Lists.{clash, or-second}
 use Rattle.theory.proofs.Terms.{doubled-well-formed}
 use Rattle.theory.proofs.Invariant.{WellFormedGraph, Invariant, grew, queue, front-below, visited-at, visited-other, waiting-next, was-visited}
 use Rattle.theory.proofs.Ends.{RuleState, rule-keeps}
@@ -187,14 +187,10 @@ module _ {f : Flow} (wf : WellFormed f) {n : ℕ} (sized : size f ≡ n) (few : 
     unfolding news
     same-changed t = at (ℕ-discrete t x)
       where
-        second : (b c : Bool) → (b || c) ≡ false → c ≡ false
-        second true c e = clash true refl e
-        second false c e = e
-
         at : Dec (t ≡ x) → changed g next t ≡ changed g st t
         at (yes e) =
             ap (changed g next) e ∙ changed-front g gwf st inv x w front ∙ same-differ x
-            ∙ sym (ap (changed g st) e ∙ second (not (st .visited x)) (changed g st x) still)
+            ∙ sym (ap (changed g st) e ∙ or-second (not (st .visited x)) (changed g st x) still)
         at (no e) =
             changed-other g gwf st inv x w front t e ∙ ap (λ (b : Bool). changed g st t || b) (same-differ t) ∙ or-false (changed g st t)
 

@@ -10,6 +10,7 @@ use Rattle.flow.specs.Flow.{Flow, size}
 use Rattle.flow.specs.Format.{Verdict, fit, unfit, verdict, fileChecks, areaChecks, flowOf, statementsOf, arraysOf}
 use Rattle.flow.proofs.Verdicts.{all-hold, fit-left, fit-right}
 use Rattle.records.proofs.Statements.{size-is}
+use Rattle.statements.proofs.WellFormed.{arrays-is}
 use Rattle.dataflow.specs.declared.Answer.{Answer}
 use Rattle.dataflow.specs.declared.Answer.the-variants.{Accepted}
 use Rattle.dataflow.specs.Promise.{Promise, answerBy, judged}
@@ -18,10 +19,6 @@ use Rattle.listing.specs.Room.{Room}
 accepted-fit : (f : Flow) (v : Verdict) {n : ℕ} → answerBy f v ≡ Accepted n → v ≡ fit
 accepted-fit f fit e = refl
 accepted-fit f (unfit r) e = absurd (let z : _≡_ {A = ℕ} 0 1 = cc in omega arith)
-
-arrays-is : (s : List ℕ) → flowOf s .arrays ≡ arraysOf s
-unfolding flowOf
-arrays-is s = refl
 
 -- a file and areas of these lengths that were judged fit
 judged-room : (s masks liveIn liveOut : List ℕ) (work : ℕ) → judged s (length masks) (length liveIn) (length liveOut) work ≡ fit

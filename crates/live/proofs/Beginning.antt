@@ -1,6 +1,6 @@
 -- The statements from the last down to i are noted in the rows of their successors, wait, and have empty sets; the columns below i are still empty.
 -- One more statement at a time. Where all are done the solver's invariant holds, since every statement waits and no name is in a set.
-use Prim.Native.Nat.{ℕ, zero, _+_, _/_, _%_, _-_, _<_, _≤_, zero-le}
+use Prim.Native.Nat.{ℕ, zero, _+_, _/_, _-_, _<_, _≤_, zero-le}
 use mathlib.Core.List.{List, [], List·Memᴰ·not-nil}
 use mathlib.Core.Logic.{inl, ⊎-elim}
 use mathlib.Core.Path.{_≡_, sym, _∙_, ap, subst}
@@ -22,6 +22,7 @@ use Rattle.statements.specs.Layout.{rowAt, matrixAt, visitedAt}
 use Rattle.statements.specs.Ready.{Keeps}
 use Rattle.statements.proofs.WorkArea.{row-from, row-fits, member-word}
 use Rattle.statements.proofs.Keeps.{keeps-refl, keeps-trans, keeps-widen, keeps-set}
+use Rattle.statements.proofs.Members.{zero-has}
 use Rattle.solve.specs.declared.Queue.{Queue}
 use Rattle.solve.specs.Waiting.{Waits, Enqueued}
 use Rattle.solve.proofs.Waiting.{waits-none, waits-kept, rest-keeps}
@@ -63,15 +64,10 @@ cleared-more {n} {i} {before} {after} c p l room = record {
     at k a b (yes e) = ap (λ z. getD (set after (i - 1) 0) z 0) e ∙ getD-set-same after (i - 1) 0 0 (let size = c .area .size in omega arith)
     at k a b (no e) = getD-set-other after (i - 1) k 0 0 e ∙ c .zeros k (omega (arith, e)) b
 
--- a row of zero words is empty
-no-members : (ws : List ℕ) (base k : ℕ) → getD ws (base + k / 64) 0 ≡ 0 → has ws base k ≡ 0
-unfolding has
-no-members ws base k e = ap (λ w. bit w (k % 64)) e ∙ bit-of-zero (k % 64)
-
 empty-column : {s ws ins outs : List ℕ} {n : ℕ} → Blank s ws ins outs n → (k : ℕ) → k < n → Column ws n k []
 unfolding lists.has
 empty-column {s} {ws} {ins} {outs} {n} b k l j m =
-    no-members ws (rowAt n j) k (b .zero (rowAt n j + k / 64) (omega (arith, row-from n j)) (omega (arith, row-fits n m, member-word l)))
+    zero-has ws (rowAt n j) k (b .zero (rowAt n j + k / 64) (omega (arith, row-from n j)) (omega (arith, row-fits n m, member-word l)))
 
 pub beginning-none : (f : Flow) {s ws ins outs : List ℕ} {n : ℕ} → Blank s ws ins outs n → Beginning f n ws ws ins ins outs outs (record { head = 0; len = 0 }) n
 beginning-none f {s} {ws} {ins} {outs} {n} b = record {

@@ -11,9 +11,8 @@ use Rattle.words.proofs.Cleared.{cleared-word}
 use Rattle.statements.specs.Layout.{rowWords, rowAt, matrixAt, visitedAt}
 use Rattle.statements.specs.Ready.{Ready}
 use Rattle.statements.proofs.WorkArea.{row-from}
-use Rattle.statements.proofs.Keeps.{keeps-cleared, ready-keeps}
+use Rattle.statements.proofs.Keeps.{keeps-cleared, ready-keeps, ready-room}
 use Rattle.live.specs.LiveNames.{Blank}
-use Rattle.live.proofs.Facts.{area-in}
 
 -- the matrix begins with row 0
 first-row : (n : ℕ) → rowAt n 0 ≡ matrixAt n
@@ -30,5 +29,5 @@ blank {s} {ws} {n} ins outs r p in-room out-room = record {
   zero = λ x l m.
       let here : rowAt n 0 + (x - rowAt n 0) ≡ x = omega (arith, first-row n) in
       subst (λ z. getD (cleared ws (rowAt n 0) (visitedAt n - rowAt n 0)) z 0 ≡ 0) here
-      (cleared-word ws (rowAt n 0) (visitedAt n - rowAt n 0) (omega (arith, area-in r p, first-row n)) (x - rowAt n 0) (omega (arith, first-row n)));
+      (cleared-word ws (rowAt n 0) (visitedAt n - rowAt n 0) (omega (arith, ready-room r p, first-row n)) (x - rowAt n 0) (omega (arith, first-row n)));
 }

@@ -1,28 +1,23 @@
--- What the noted places of a fit file give: n is within the limit, the parts of the work area fit, successors are statements, and sets of names are words.
+-- What the noted places of a fit file give: a row of the matrix fits, successors are statements, and sets of names are words.
 -- By the checks that a fit file passed.
-use Prim.Native.Nat.{ℕ, zero, suc, _+_, _/_, _^_, _<_, _≤_}
-use mathlib.Core.List.{List, [], _∷_, List·Memᴰ·head, List·Memᴰ·tail}
-use mathlib.Core.Path.{_≡_, refl}
+use Prim.Native.Nat.{ℕ, _+_, _/_, _^_, _<_, _≤_}
+use mathlib.Core.List.{List}
+use mathlib.Core.Path.{_≡_}
 use native.Mathlib.Nat.{lt-of-lt-of-le}
 use native.Mathlib.Omega.{arith}
 use lib.ListN.{length, getD}
 use lib.Pow.{pow-mono}
-use Rattle.flow.specs.Flow.{statement, size}
+use Rattle.flow.specs.Flow.{statement}
 use Rattle.flow.specs.Format.{flowOf}
-use Rattle.flow.specs.Limits.{maxStatements}
 use Rattle.records.proofs.Files.{limited}
-use Rattle.records.proofs.Statements.{size-is}
 use Rattle.theory.specs.Lists.{In}
 use Rattle.theory.specs.Body.{successors}
-use Rattle.statements.specs.Layout.{rowWords, rowAt, queueAt, visitedAt, areaEnd}
+use Rattle.theory.proofs.Lists.{getD-In}
+use Rattle.statements.specs.Layout.{rowWords, rowAt, queueAt, visitedAt}
 use Rattle.statements.specs.Ready.{Ready}
-use Rattle.statements.proofs.WorkArea.{row-fits, area-fits}
-use Rattle.statements.proofs.WellFormed.{well-formed, statement-in}
-
-In-getD : (l : List ℕ) (k : ℕ) → k < length l → In (getD l k 0) l
-In-getD [] k h = absurd (omega arith)
-In-getD (x ∷ xs) zero h = List·Memᴰ·head refl
-In-getD (x ∷ xs) (suc k) h = List·Memᴰ·tail (In-getD xs k (omega arith))
+use Rattle.statements.proofs.WorkArea.{row-fits}
+use Rattle.statements.proofs.Keeps.{ready-formed, ready-below}
+use Rattle.statements.proofs.WellFormed.{statement-in}
 
 -- a row of the matrix, for those who read its words
 pub row-room : {n j row size : ℕ} → row ≡ rowAt n j → j < n → visitedAt n ≤ size → row + (n + 63) / 64 ≤ size
@@ -30,20 +25,11 @@ unfolding rowWords
 row-room {n} {j} {row} e l fits = let in-matrix : rowAt n j + (n + 63) / 64 ≤ queueAt n = row-fits n l in omega arith
 
 module _ {s ws : List ℕ} {n : ℕ} (r : Ready s ws n) where
-  pub count-fits : n ≤ maxStatements
-  count-fits = let h = limited (r .fit) .statements in let e = r .count in omega arith
-
-  pub area-in : 0 < n → areaEnd n ≤ length ws
-  area-in p = let room = r .room in omega (arith, area-fits p count-fits)
-
-  pub flow-size : size (flowOf s) ≡ n
-  flow-size = let e = r .count in omega (arith, size-is s)
-
   pub successor-in : (i j : ℕ) → In j (successors (flowOf s) i) → j < n
-  successor-in i j m = let h = well-formed (r .fit) .successor i j m in let e = flow-size in omega arith
+  successor-in i j m = ready-below r (ready-formed r .successor i j m)
 
   pub target-in : (i k : ℕ) → k < length (successors (flowOf s) i) → getD (successors (flowOf s) i) k 0 < n
-  target-in i k l = successor-in i _ (In-getD (successors (flowOf s) i) k l)
+  target-in i k l = successor-in i _ (getD-In (successors (flowOf s) i) k 0 l)
 
   pub written-word : (i : ℕ) → statement (flowOf s) i .written < 2 ^ 64
   written-word i = lt-of-lt-of-le (statement-in (r .fit) i .written) (pow-mono (limited (r .fit) .names))

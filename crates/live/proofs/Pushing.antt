@@ -54,10 +54,6 @@ pushing-none {ws} {before} {n} {row} {i} {q} {j} {live} e d = record {
     f : First ws (rowAt n j) 0 n i
     f = subst (λ r. First ws (rowAt n j) 0 n r) (sym (d ∙ ap (λ z. nextMember ws z 0 n) e)) (first ws (rowAt n j) 0 n (omega arith))
 
--- the next member comes later
-pub next-later : (vs : List ℕ) (row n i : ℕ) → i < n → i < nextMember vs row (i + 1) n
-next-later vs row n i l = let low = first vs row (i + 1) n (omega arith) .low in omega arith
-
 module _ {ws₀ ws vs before after final : List ℕ} {n row : ℕ} {q₀ q p : Queue} {j live i i′ : ℕ} (s : Pushing ws₀ ws before after n q₀ q j live i) (l : i < n) (room : n ≤ length before) (small : j < n)
     (t : PushedTo ws vs after final n q p i live) (e : row ≡ rowAt n j) (d : i′ ≡ nextMember vs row (i + 1) n) where
   f : First vs (rowAt n j) (i + 1) n i′

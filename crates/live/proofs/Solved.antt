@@ -18,8 +18,9 @@ use Rattle.theory.proofs.Live.{liveIn-sound, liveIn-complete, liveOut-sound, li
 use Rattle.theory.proofs.Names.{wordOf-unique}
 use Rattle.statements.specs.Ready.{Ready}
 use Rattle.statements.proofs.WellFormed.{well-formed, statement-in, names-is}
+use Rattle.statements.proofs.Keeps.{ready-size}
 use Rattle.live.specs.Solving.{Settled, Solving}
-use Rattle.live.proofs.Facts.{flow-size, successor-in, written-word}
+use Rattle.live.proofs.Facts.{successor-in, written-word}
 use Rattle.live.proofs.Bits.{member-bit, bit-member, transfer-reads, transfer-keeps, bit-below, word-below}
 
 -- a live name is read somewhere
@@ -59,7 +60,7 @@ module _ {s ws ins outs : List ℕ} {n : ℕ} (r : Ready s ws n) (h : Solving (f
       wordOf-unique (flowOf s) (λ x. liveIn (flowOf s) x i) (getD ins i 0)
       (names (word-below (getD ins i 0) (namesOf s) (λ x e. live-name r (h .sound-in i x l e))))
       (λ x b. same-test (member (getD ins i 0) x) (liveIn (flowOf s) x i)
-      (λ e. liveIn-complete (well-formed (r .fit)) (let size = flow-size r in omega arith) (h .sound-in i x l (member-bit (getD ins i 0) x e)))
+      (λ e. liveIn-complete (well-formed (r .fit)) (let size = ready-size r in omega arith) (h .sound-in i x l (member-bit (getD ins i 0) x e)))
       (λ e. bit-member (getD ins i 0) x (in-complete l (liveIn-sound (flowOf s) x i e))))
 
   pub solved-out : (i : ℕ) → i < n → getD outs i 0 ≡ liveOutWord (flowOf s) i

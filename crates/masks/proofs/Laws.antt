@@ -1,17 +1,18 @@
 -- The laws of `stepOf` on the masks 0 to 7: it keeps them, preserves union, is monotone and idempotent, and is the union of its steps on single states.
--- Each is a test that antt computes at every effect and every mask; that it is idempotent holds of any number. Assumes nothing.
+-- Each is a test that antt computes at every effect and every mask; that it is idempotent, and what a union holds, is shown of any number. Assumes nothing.
 use mathlib.Core.Path.{_≡_, refl, sym, ap, subst, _∙_}
 use mathlib.Core.Logic.{_⊎_, inl, inr}
 use mathlib.Core.Bool.{Bool, true, false, _&&_, _||_}
-use Prim.Native.Nat.{ℕ, _+_, _-_, _*_, _/_, _%_, _<_, max}
+use Prim.Native.Nat.{ℕ, _+_, _-_, _*_, _/_, _%_, _^_, _<_, max}
+use native.Mathlib.Nat.{mod-lt, zero-lt-suc}
 use native.Mathlib.Omega.{arith}
 use borrow.Author.Tests.{eqb-true, eq-eqb, ne-eqb}
 use lib.Dec.{T, eqb, eqb→eq, ltb, ltb→lt, lt→ltb}
-use lib.Bits.{bitOr, or-step, or-zero-r}
+use lib.Bits.{bitOr, or-shr, or-step, or-zero-r}
 use Rattle.masks.specs.declared.Effect.{Effect}
 use Rattle.masks.specs.declared.Effect.the-variants.{None, Reference, Dim, Clear, Touched}
 use Rattle.masks.specs.Step.{stepOf, pick}
-use Rattle.masks.specs.State.{State, none, auto, dimmed, stateMask, same, holds, turns, brought}
+use Rattle.masks.specs.State.{State, none, auto, dimmed, stateBit, stateMask, same, holds, turns, brought}
 use Rattle.masks.proofs.Finite.{and-left, and-right, or-cases, all-states, implies, implied, alike, alike→eq, eq→alike, everyBelow, at-below, everyState, at-state, at-mask}
 
 -- a mask of states stays one
@@ -99,13 +100,25 @@ step-comes e m t h p held = first (or-cases (from none) (from auto || from dimme
     first (inl x) = found none x
     first (inr x) = last (or-cases (from auto) (from dimmed) x)
 
--- a union holds what either mask holds
-pub or-holds : (a b : ℕ) (s : State) → a < 8 → b < 8 → holds (bitOr a b) s ≡ (holds a s || holds b s)
-or-holds a b s ha hb =
-    alike→eq (holds (bitOr a b) s) (holds a s || holds b s)
-    (at-state (λ s. alike (holds (bitOr a b) s) (holds a s || holds b s))
-    (at-below 8 (λ b. everyState (λ s. alike (holds (bitOr a b) s) (holds a s || holds b s)))
-    (at-below 8 (λ a. everyBelow 8 (λ b. everyState (λ s. alike (holds (bitOr a b) s) (holds a s || holds b s)))) tt a ha) b hb) s)
+or-digit : (a b : ℕ) → bitOr a b % 2 ≡ max (a % 2) (b % 2)
+or-digit a b =
+    let e = or-step a b in
+    let p : a % 2 < 2 = mod-lt a (zero-lt-suc 1) in
+    let q : b % 2 < 2 = mod-lt b (zero-lt-suc 1) in
+    omega arith
+
+digit-test : (p q : ℕ) → p < 2 → q < 2 → eqb (max p q) 1 ≡ (eqb p 1 || eqb q 1)
+digit-test p q hp hq =
+    alike→eq (eqb (max p q) 1) (eqb p 1 || eqb q 1)
+    (at-below 2 (λ q. alike (eqb (max p q) 1) (eqb p 1 || eqb q 1))
+    (at-below 2 (λ p. everyBelow 2 (λ q. alike (eqb (max p q) 1) (eqb p 1 || eqb q 1))) tt p hp) q hq)
+
+-- a union holds what either mask holds, also above the states
+pub or-holds : (a b : ℕ) (s : State) → holds (bitOr a b) s ≡ (holds a s || holds b s)
+or-holds a b s =
+    ap (λ x. eqb (x % 2) 1) (or-shr a b (stateBit s))
+    ∙ (ap (λ x. eqb x 1) (or-digit (a / 2 ^ stateBit s) (b / 2 ^ stateBit s))
+    ∙ digit-test (a / 2 ^ stateBit s % 2) (b / 2 ^ stateBit s % 2) (mod-lt _ (zero-lt-suc 1)) (mod-lt _ (zero-lt-suc 1)))
 
 -- a mask is its states
 pub holds-ext : (a b : ℕ) → a < 8 → b < 8 → ((s : State) → holds a s ≡ holds b s) → a ≡ b

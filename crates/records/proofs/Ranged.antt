@@ -4,12 +4,12 @@ use Prim.Native.Nat.{ℕ, _^_, _≤_, _<_}
 use native.Mathlib.Omega.{arith}
 use mathlib.Core.List.{List, List·Memᴰ, List·Memᴰ·not-nil}
 use mathlib.Core.Option.{some}
-use mathlib.Core.Path.{_≡_, _∙_, sym, ap}
+use mathlib.Core.Path.{_≡_, _∙_, sym, subst}
 use lib.Pow.{pow-pos}
 use Rattle.flow.specs.Limits.{maxStatements, maxArrays, maxNames}
 use Rattle.flow.specs.Flow.{Flow, Statement, Item, size, statement, enters, items, continuation, noStatement}
-use Rattle.flow.specs.Format.{flowOf, statementAt, recordPlace, statementsOf, arraysOf, namesOf, entryOf, lineCount, lineNumber, lineFirst, successorCount, successorAt, referenceCount, referenceAt, itemAt}
-use Rattle.flow.specs.Fields.{FitFile, itemCount}
+use Rattle.flow.specs.Format.{flowOf, tabulate, statementAt, statementsOf, arraysOf, namesOf, entryOf, lineCount, lineNumber, lineFirst, successorCount, successorAt, referenceCount, referenceAt, itemAt}
+use Rattle.flow.specs.Fields.{FitFile, FitRecord, itemCount}
 use Rattle.records.proofs.Files.{limited, record-fit, line-first}
 use Rattle.records.proofs.Values.{in-range, item-in, continuation-in}
 use Rattle.records.proofs.Tabulated.{member-of}
@@ -25,63 +25,56 @@ pub record Ranged (f : Flow) : Type 0 where
   pub continuation : (i t : ℕ) → continuation (statement f i .kind) ≡ some t → t < size f
   pub first : (l e : ℕ) → enters f l ≡ some e → e < size f
   pub reference : (i a : ℕ) → List·Memᴰ a (statement f i .references) → a < f .arrays
-  pub item : (i : ℕ) (x : Item) → List·Memᴰ x (items (statement f i .kind)) → x .array < f .arrays
+  pub dimmed : (i : ℕ) (x : Item) → List·Memᴰ x (items (statement f i .kind)) → x .array < f .arrays
   pub written : (i : ℕ) → statement f i .written < 2 ^ f .names
   pub read : (i : ℕ) → statement f i .read < 2 ^ f .names
 
--- a statement's numbers, over the sizes of its flow
-record RangedAt (n arrays names : ℕ) (t : Statement) : Type 0 where
-  successor : (j : ℕ) → List·Memᴰ j (t .successors) → j < n
-  continuation : (k : ℕ) → continuation (t .kind) ≡ some k → k < n
-  reference : (a : ℕ) → List·Memᴰ a (t .references) → a < arrays
-  item : (x : Item) → List·Memᴰ x (items (t .kind)) → x .array < arrays
-  written : t .written < 2 ^ names
-  read : t .read < 2 ^ names
+-- the numbers of the statement t of a file's flow
+pub record StatementInRange (s : List ℕ) (t : Statement) : Type 0 where
+  pub successor : (j : ℕ) → List·Memᴰ j (t .successors) → j < statementsOf s
+  pub continuation : (k : ℕ) → continuation (t .kind) ≡ some k → k < statementsOf s
+  pub reference : (a : ℕ) → List·Memᴰ a (t .references) → a < arraysOf s
+  pub dimmed : (x : Item) → List·Memᴰ x (items (t .kind)) → x .array < arraysOf s
+  pub written : t .written < 2 ^ namesOf s
+  pub read : t .read < 2 ^ namesOf s
 
-none-ranged : (n arrays names : ℕ) → RangedAt n arrays names noStatement
-none-ranged n arrays names = record {
+nothing-in : (s : List ℕ) → StatementInRange s noStatement
+nothing-in s = record {
   successor = λ j m. absurd (List·Memᴰ·not-nil m);
   continuation = λ k e. let z : _≡_ {A = ℕ} 0 1 = cc in absurd (omega arith);
   reference = λ a m. absurd (List·Memᴰ·not-nil m);
-  item = λ x m. absurd (List·Memᴰ·not-nil m);
-  written = pow-pos names;
-  read = pow-pos names;
+  dimmed = λ x m. absurd (List·Memᴰ·not-nil m);
+  written = pow-pos (namesOf s);
+  read = pow-pos (namesOf s);
 }
 
-record-ranged : {s : List ℕ} → FitFile s → (i : ℕ) → i < statementsOf s
-    → RangedAt (statementsOf s) (arraysOf s) (namesOf s) (statementAt s (recordPlace s i))
-record-ranged {s} h i l =
-    let p = recordPlace s i in
-    let fits = record-fit h i l in
+-- an element of a list that is given by its elements has what they have
+elements-have : {A : Type 0} (P : A → Type 0) {xs : List A} (n : ℕ) (f : ℕ → A) → xs ≡ tabulate n f → ((k : ℕ) → k < n → P (f k))
+    → (x : A) → List·Memᴰ x xs → P x
+elements-have P n f e all x m = let w = member-of f n (subst (λ l. List·Memᴰ x l) e m) in subst P (sym (w .2)) (all (w .0) (w .1))
+
+record-in : {s : List ℕ} {p : ℕ} → FitRecord s p → StatementInRange s (statementAt s p)
+record-in {s} {p} h =
     let says = says-at s p in
-    let range = in-range fits in
+    let range = in-range h in
     record {
-      successor = λ j m. successor-of j (member-of (successorAt s p) (successorCount s p) (rw (says .successors) at m));
-      continuation = λ k e. continuation-in fits k (sym (says .continuation) ∙ e);
-      reference = λ a m. reference-of a (member-of (referenceAt s p) (referenceCount s p) (rw (says .references) at m));
-      item = λ x m. item-of x (member-of (itemAt s p) (itemCount s p) (rw (says .items) at m));
-      written = rw (says .written) (range .written);
-      read = rw (says .read) (range .read);
+      successor = elements-have (λ j. j < statementsOf s) (successorCount s p) (successorAt s p) (says .successors) (range .successor);
+      continuation = λ k e. continuation-in h k (sym (says .continuation) ∙ e);
+      reference = elements-have (λ a. a < arraysOf s) (referenceCount s p) (referenceAt s p) (says .references) (range .reference);
+      dimmed = elements-have (λ x. x .array < arraysOf s) (itemCount s p) (itemAt s p) (says .items) (λ k l. item-in h k l .0);
+      written = subst (λ w. w < 2 ^ namesOf s) (sym (says .written)) (range .written);
+      read = subst (λ w. w < 2 ^ namesOf s) (sym (says .read)) (range .read);
     }
-  where
-    p : ℕ
-    p = recordPlace s i
 
-    successor-of : (j : ℕ) → (k : ℕ) × (k < successorCount s p) × (j ≡ successorAt s p k) → j < statementsOf s
-    successor-of j r = let e = r .2 in omega (arith, in-range (record-fit h i l) .successor (r .0) (r .1))
-
-    reference-of : (a : ℕ) → (k : ℕ) × (k < referenceCount s p) × (a ≡ referenceAt s p k) → a < arraysOf s
-    reference-of a r = let e = r .2 in omega (arith, in-range (record-fit h i l) .reference (r .0) (r .1))
-
-    item-of : (x : Item) → (k : ℕ) × (k < itemCount s p) × (x ≡ itemAt s p k) → x .array < arraysOf s
-    item-of x r = let e = ap (λ y. y .array) (r .2) in omega (arith, item-in (record-fit h i l) (r .0) (r .1) .0)
+pub statement-in : {s : List ℕ} → FitFile s → (i : ℕ) → StatementInRange s (statement (flowOf s) i)
+statement-in {s} h = every s (StatementInRange s) (nothing-in s) (λ i l. record-in (record-fit h i l))
 
 pub ranged : {s : List ℕ} → FitFile s → Ranged (flowOf s)
 unfolding flowOf
 ranged {s} h =
     let limits = limited h in
     let n = size-is s in
-    let at = every s (RangedAt (statementsOf s) (arraysOf s) (namesOf s)) (none-ranged _ _ _) (record-ranged h) in
+    let at = statement-in h in
     record {
       statements = let l = limits .statements in omega arith;
       arrays = limits .arrays;
@@ -91,7 +84,7 @@ ranged {s} h =
       continuation = λ i t e. let l = at i .continuation t e in omega arith;
       first = λ l e q. first-in e (found-in (λ k. record { number = lineNumber s k; first = lineFirst s k }) l (lineCount s) e q);
       reference = λ i. at i .reference;
-      item = λ i. at i .item;
+      dimmed = λ i. at i .dimmed;
       written = λ i. at i .written;
       read = λ i. at i .read;
     }

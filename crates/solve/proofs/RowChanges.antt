@@ -1,7 +1,7 @@
 -- Changes of a row of masks: one array steps, those below a count have stepped, a row is copied. Nothing outside the row changes.
 -- By the bytes of a row, one change after the other.
 use Prim.Native.Nat.{ℕ, _+_, _/_, _%_, _≤_, _<_}
-use mathlib.Core.Bool.{Bool, true, false, cond, _&&_, _||_, or-false}
+use mathlib.Core.Bool.{Bool, true, false, cond, _||_}
 use mathlib.Core.List.{List}
 use mathlib.Core.Logic.{_⊎_, inl, inr, ⊎-elim, _≢_}
 use mathlib.Core.Path.{_≡_, refl, sym, ap, _∙_, subst}
@@ -23,6 +23,7 @@ use Rattle.flow.specs.Limits.{maxArrays}
 use Rattle.statements.specs.Layout.{maskWords}
 use Rattle.statements.specs.Ready.{Keeps}
 use Rattle.statements.proofs.Keeps.{keeps-refl, keeps-trans, keeps-has, keeps-byte, keeps-rewritten}
+use Rattle.statements.proofs.Members.{first-as, members-none, members-next}
 use Rattle.solve.specs.Rows.{RowIs, stepWhere, memberBelow}
 
 pub row-same : (ws : List ℕ) (row : ℕ) → RowIs ws ws row (byteAt ws row)
@@ -86,36 +87,6 @@ below-next k a = at (ℕ-discrete a k) (decLt a k)
 
 -- Members of a set, found one after the other
 
--- a set goes by its word
-pub first-as : {ws vs : List ℕ} {base from bound r : ℕ} → First vs base from bound r → ((j : ℕ) → j < bound → has vs base j ≡ has ws base j) → First ws base from bound r
-first-as f h = record {
-  low = f .low;
-  high = f .high;
-  none = λ j a b. let high = f .high in sym (h j (omega arith)) ∙ f .none j a b;
-  member = λ l. sym (h _ l) ∙ f .member l;
-}
-
--- below the first member there is none
-pub members-none : {ws : List ℕ} {set bound r : ℕ} → First ws set 0 bound r → (a : ℕ) → memberBelow ws set r a ≡ false
-unfolding memberBelow
-members-none {ws} {set} {bound} {r} f a = at (decLt a r)
-  where
-    at : Dec (a < r) → (ltb a r && eqb (has ws set a) 1) ≡ false
-    at (yes l) = rw (lt-ltb a r l, f .none a (omega arith) l)
-    at (no l) = rw (le-ltb a r (omega (arith, l)))
-
--- from a member on to the next
-pub members-next : (k : ℕ) {ws : List ℕ} {set bound r : ℕ} → has ws set k ≡ 1 → First ws set (k + 1) bound r → (a : ℕ)
-    → (memberBelow ws set k a || eqb a k) ≡ memberBelow ws set r a
-unfolding memberBelow
-members-next k {ws} {set} {bound} {r} m f a = at (ℕ-discrete a k) (decLt a k) (decLt a r)
-  where
-    at : Dec (a ≡ k) → Dec (a < k) → Dec (a < r) → ((ltb a k && eqb (has ws set a) 1) || eqb a k) ≡ (ltb a r && eqb (has ws set a) 1)
-    at (yes q) l g = let low = f .low in rw (le-ltb a k (omega arith), eq-eqb a k q, lt-ltb a r (omega arith), ap (has ws set) q ∙ m)
-    at (no d) (yes l) g = let low = f .low in rw (lt-ltb a k l, ne-eqb a k d, lt-ltb a r (omega arith)) (or-false (eqb (has ws set a) 1))
-    at (no d) (no l) (yes g) = rw (le-ltb a k (omega (arith, l)), ne-eqb a k d, lt-ltb a r g, f .none a (omega (arith, l, d)) g)
-    at (no d) (no l) (no g) = rw (le-ltb a k (omega (arith, l)), ne-eqb a k d, le-ltb a r (omega (arith, g)))
-
 -- how far the members have stepped: a is the next of them, or the count
 pub record Members (ws₀ : List ℕ) (row set count : ℕ) (e : Effect) (ws : List ℕ) (a : ℕ) : Type 0 where
   pub high : a ≤ count
@@ -123,15 +94,14 @@ pub record Members (ws₀ : List ℕ) (row set count : ℕ) (e : Effect) (ws : L
   pub row-is : RowIs ws₀ ws row (stepWhere (memberBelow ws₀ set a) e (byteAt ws₀ row))
 
 pub members-start : {ws : List ℕ} {row set count r : ℕ} {e : Effect} → r ≡ nextMember ws set 0 count → Members ws row set count e ws r
+unfolding memberBelow
 members-start {ws} {row} {set} {count} {r} {e} is =
     let f : First ws set 0 count r = subst (First ws set 0 count) (sym is) (first ws set 0 count (omega arith)) in
     record { high = f .high; member = f .member; row-is = none-stepped ws row (memberBelow ws set r) e (members-none f) }
 
-pub members-rise : (vs : List ℕ) (set a count : ℕ) → a < count → a < nextMember vs set (a + 1) count
-members-rise vs set a count l = let low = first vs set (a + 1) count (omega arith) .low in omega arith
-
 pub members-on : {ws₀ ws vs : List ℕ} {row set count a r : ℕ} {e : Effect} → Members ws₀ row set count e ws a → set < row → count ≤ maxArrays → a < count
     → RowIs ws vs row (stepWhere (λ b. eqb b a) e (byteAt ws row)) → r ≡ nextMember vs set (a + 1) count → Members ws₀ row set count e vs r
+unfolding memberBelow
 members-on {ws₀} {ws} {vs} {row} {set} {count} {a} {r} {e} s below few l step is =
     let keeps : Keeps row (row + maskWords) ws₀ vs = keeps-trans (s .row-is .keeps) (step .keeps) in
     let f : First ws₀ set (a + 1) count r =

@@ -17,15 +17,9 @@ use Rattle.records.proofs.Files.{record-fit}
 use Rattle.records.proofs.Values.{in-range}
 use Rattle.records.proofs.Statements.{Says, says}
 use Rattle.records.proofs.Tabulated.{length-tabulate, getD-tabulate}
-use Rattle.theory.specs.Body.{kind, successors, references, callLines, continuationOf, isReturn, counts, wipes}
+use Rattle.theory.specs.Body.{isReturn, counts, wipes}
 use Rattle.theory.specs.Runs.{empties}
-use Rattle.statements.specs.Ready.{Ready}
-
--- the elements of l are f 0, f 1, .. of n elements
-pub record Elements {A : Type 0} (l : List A) (n : ℕ) (f : ℕ → A) : Type 0 where
-  pub list : l ≡ tabulate n f
-  pub count : length l ≡ n
-  pub at : (k : ℕ) (d : A) → k < length l → getD l k d ≡ f k
+use Rattle.statements.specs.Ready.{Ready, Elements, RecordOf}
 
 elements : {A : Type 0} {l : List A} (n : ℕ) (f : ℕ → A) → l ≡ tabulate n f → Elements l n f
 elements n f e = record {
@@ -69,23 +63,11 @@ wipes-is (Kind.dim is) = counts-items is
 wipes-is (Kind.gosub l c) = refl
 wipes-is (Kind.onGosub ls c) = refl
 
--- the record at p is fit, and what it says is statement i of the flow
-pub record RecordOf (s : List ℕ) (i p : ℕ) : Type 0 where
-  pub fit : FitRecord s p
-  pub return : eqb (kindAt s p) 1 ≡ isReturn (kind (flowOf s) i)
-  pub empties : (eqb (kindAt s p) 2 || eqb (kindAt s p) 3) ≡ empties (kind (flowOf s) i)
-  pub successors : Elements (successors (flowOf s) i) (successorCount s p) (successorAt s p)
-  pub references : Elements (references (flowOf s) i) (referenceCount s p) (referenceAt s p)
-  pub written : statement (flowOf s) i .written ≡ writtenAt s p
-  pub read : statement (flowOf s) i .read ≡ readAt s p
-  pub items : Elements (items (kind (flowOf s) i)) (itemCount s p) (itemAt s p)
-  pub lines : Elements (callLines (kind (flowOf s) i)) (callLineCount s p) (callLineAt s p)
-  pub continuation : continuationOf (kind (flowOf s) i) ≡ continuationIn s p
-
-record-said : {s : List ℕ} {i p : ℕ} → FitRecord s p → Says s p (statement (flowOf s) i) → RecordOf s i p
-record-said {s} {i} {p} h t =
+record-said : {s : List ℕ} {i p : ℕ} → p ≡ recordPlace s i → FitRecord s p → Says s p (statement (flowOf s) i) → RecordOf s i p
+record-said {s} {i} {p} e h t =
     let number = kind-tests s p (in-range h .kind) in
     record {
+      place = e;
       fit = h;
       return = number .return ∙ ap isReturn (sym (t .kind));
       empties = number .empties ∙ ap empties (sym (t .kind));
@@ -101,4 +83,4 @@ record-said {s} {i} {p} h t =
 pub record-of : {s ws : List ℕ} {n i p : ℕ} → Ready s ws n → i < n → p ≡ recordPlace s i → RecordOf s i p
 record-of {s} {ws} {n} {i} {p} r l e =
     let within : i < statementsOf s = subst (λ (m : ℕ). i < m) (r .count) l in
-    subst (λ (q : ℕ). RecordOf s i q) (sym e) (record-said (record-fit (r .fit) i within) (says s i within))
+    subst (λ (q : ℕ). RecordOf s i q) (sym e) (record-said refl (record-fit (r .fit) i within) (says s i within))

@@ -4,7 +4,7 @@ use Prim.Native.Nat.{ℕ, _+_, _/_, _≤_, _<_}
 use native.Mathlib.Omega.{arith}
 use native.Mathlib.Decide.{decLt}
 use mathlib.Core.List.{List}
-use mathlib.Core.Path.{_≡_, refl, _∙_}
+use mathlib.Core.Path.{_≡_, refl, sym, _∙_, subst}
 use lib.ListN.{length, getD, set, length-set}
 use lib.Seq.{getD-set-other}
 use Rattle.words.specs.Row.{has}
@@ -13,10 +13,15 @@ use Rattle.words.specs.Byte.{byteSet}
 use Rattle.words.proofs.Row.{has-cong}
 use Rattle.words.proofs.Rewritten.{length-rewritten, rewritten-other}
 use Rattle.flow.specs.Limits.{maxStatements}
+use Rattle.flow.specs.Flow.{size}
+use Rattle.flow.specs.Format.{flowOf}
 use Rattle.records.proofs.Files.{limited}
+use Rattle.records.proofs.Statements.{size-is}
+use Rattle.theory.specs.WellFormed.{WellFormed}
 use Rattle.statements.specs.Layout.{areaEnd}
 use Rattle.statements.specs.Ready.{Ready, Keeps}
 use Rattle.statements.proofs.WorkArea.{area-fits}
+use Rattle.statements.proofs.WellFormed.{well-formed}
 
 pub keeps-refl : {lo hi : ℕ} {ws : List ℕ} → Keeps lo hi ws ws
 keeps-refl = record { size = refl; below = λ x l. refl; above = λ x l. refl }
@@ -101,3 +106,15 @@ ready-most {s} r = let most = limited (r .fit) .statements in let count = r .cou
 
 pub ready-room : {s ws : List ℕ} {n : ℕ} → Ready s ws n → 0 < n → areaEnd n ≤ length ws
 ready-room r p = let room = r .room in omega (arith, area-fits p (ready-most r))
+
+-- and the flow that it stands for is well formed and has n of them
+
+module _ {s ws : List ℕ} {n : ℕ} (r : Ready s ws n) where
+  pub ready-size : size (flowOf s) ≡ n
+  ready-size = size-is s ∙ sym (r .count)
+
+  pub ready-formed : WellFormed (flowOf s)
+  ready-formed = well-formed (r .fit)
+
+  pub ready-below : {j : ℕ} → j < size (flowOf s) → j < n
+  ready-below {j} l = subst (λ m. j < m) ready-size l

@@ -3,3 +3,4 @@ pub mod Keeps
 pub mod ByNumber
 pub mod MembersWord
 pub mod WellFormed
+pub mod Members

@@ -4,7 +4,6 @@ use Prim.Native.Nat.{ℕ, zero, suc, _/_, _%_, _^_, _<_, max}
 use native.Mathlib.Decide.{ℕ-discrete}
 use native.Mathlib.Omega.{arith}
 use mathlib.Core.Bool.{Bool, true, false, cond, _||_}
-use mathlib.Core.List.{List, [], _∷_, _++_}
 use mathlib.Core.Path.{_≡_, refl, sym, ap, ap₂, _∙_}
 use borrow.Author.Tests.{eq-eqb, ne-eqb, eqb-true}
 use lib.Bits.{or-lt}
@@ -15,20 +14,8 @@ use Rattle.words.proofs.Bit.{bit-of-zero, bit-or, bit-pow-same, bit-pow-other}
 use Rattle.flow.specs.Format.{tabulate}
 use Rattle.flow.specs.Fields.{bitIn, wordOf}
 use Rattle.theory.specs.Lists.{has}
+use Rattle.theory.proofs.Lists.{has-one-more}
 use Rattle.statements.specs.Ready.{MembersWord}
-
-or-swap : (b : Bool) → (b || false) ≡ b
-or-swap true = refl
-or-swap false = refl
-
-or-regroup : (a b c : Bool) → (a || (b || c)) ≡ ((a || b) || c)
-or-regroup true b c = refl
-or-regroup false b c = refl
-
-has-last : (a x : ℕ) (l : List ℕ) → has a (l ++ (x ∷ [])) ≡ (has a l || eqb a x)
-unfolding has
-has-last a x [] = or-swap (eqb a x)
-has-last a x (y ∷ l) = ap (λ t. eqb a y || t) (has-last a x l) ∙ or-regroup (eqb a y) (has a l) (eqb a x)
 
 bit-in-lt : (x : ℕ) → bitIn 0 x < 2 ^ 64
 bit-in-lt x = go (eqb (x / 64) 0)
@@ -69,7 +56,7 @@ module _ (f : ℕ → ℕ) where
   word-bit (suc n) a l =
       bit-or (wordOf n f 0) (bitIn 0 (f n)) a ∙ ap₂ max (word-bit n a l) (bit-in a (f n) l)
       ∙ max-or (has a (tabulate n f)) (eqb a (f n))
-      ∙ ap (λ t. cond t 1 0) (sym (has-last a (f n) (tabulate n f)))
+      ∙ ap (λ t. cond t 1 0) (sym (has-one-more (tabulate n f) (f n) a))
 
   pub members-word : (n : ℕ) → MembersWord (wordOf n f 0) (λ a. has a (tabulate n f))
   members-word n = record { word = word-lt n; member = word-bit n }

@@ -5,19 +5,19 @@ ghost use Prim.Native.Nat.{_<_, _≤_};
 ghost use lib.ListN.{length, getD};
 ghost use Rattle.flow.specs.Flow.{statement, enters, items};
 ghost use Rattle.flow.specs.Format as format;
-ghost use Rattle.flow.specs.Format.{flowOf, recordPlace};
+ghost use Rattle.flow.specs.Format.{flowOf};
 ghost use Rattle.flow.specs.Fields.{continuationTo, enteredAt};
 ghost use Rattle.flow.specs.Answers.{headerOf};
 ghost use Rattle.theory.specs.Body as body;
 ghost use Rattle.theory.specs.Body.{kind, successors, references, callLines, continuationOf, isReturn};
 ghost use Rattle.theory.specs.Runs.{empties};
 ghost use Rattle.theory.specs.Lists as lists;
-ghost use Rattle.statements.specs.Ready.{Ready, MembersWord, noItem};
+ghost use Rattle.statements.specs.Ready.{Ready, RecordOf, MembersWord, noItem};
 
 // The place of statement i's record.
 pub fn offset(file: &[u8], work: &[u64], n: usize, i: usize) -> usize
     requires { ⌜ Ready (now file) (now work) n × (i < n) ⌝ }
-    ensures { λ r. ⌜ r ≡ recordPlace (now (file .entry)) i ⌝ }
+    ensures { λ r. ⌜ RecordOf (now (file .entry)) i r ⌝ }
 {
     work[i] as usize
 }

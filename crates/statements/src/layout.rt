@@ -1,7 +1,7 @@
 // Where the parts of the work area stand, for a flow of n statements: what is noted of the file, what is found of its calls, and what the
 // solvers work with. Each phase writes one run of words.
 ghost use mathlib.Core.Path.{_≡_};
-ghost use Prim.Native.Nat.{_<_, _≤_};
+ghost use Prim.Native.Nat.{_+_, _*_, _≤_};
 ghost use Rattle.flow.specs.Limits.{maxStatements};
 ghost use Rattle.statements.specs.Layout as at;
 
@@ -63,33 +63,41 @@ pub fn queue(n: usize) -> usize
     row(n, n)
 }
 
+// What stands k parts of n words behind the matrix.
+fn part(n: usize, k: usize) -> usize
+    requires { ⌜ (n ≤ maxStatements) × (k ≤ 9) ⌝ }
+    ensures { λ r. ⌜ r ≡ at.queueAt n + k * n ⌝ }
+{
+    queue(n) + k * n
+}
+
 // The statements that the call at hand enters.
 pub fn entered(n: usize) -> usize
     requires { ⌜ n ≤ maxStatements ⌝ }
     ensures { λ r. ⌜ r ≡ at.enteredAt n ⌝ }
 {
-    queue(n) + 2 * n
+    part(n, 2)
 }
 
 pub fn waiting(n: usize) -> usize
     requires { ⌜ n ≤ maxStatements ⌝ }
     ensures { λ r. ⌜ r ≡ at.waitingAt n ⌝ }
 {
-    queue(n) + 3 * n
+    part(n, 3)
 }
 
 pub fn visited(n: usize) -> usize
     requires { ⌜ n ≤ maxStatements ⌝ }
     ensures { λ r. ⌜ r ≡ at.visitedAt n ⌝ }
 {
-    queue(n) + 5 * n
+    part(n, 5)
 }
 
 pub fn grown(n: usize) -> usize
     requires { ⌜ n ≤ maxStatements ⌝ }
     ensures { λ r. ⌜ r ≡ at.grownAt n ⌝ }
 {
-    queue(n) + 7 * n
+    part(n, 7)
 }
 
 // The row of masks of a doubled number; rows 2 n and 2 n + 1 are those of the statement at hand, for its edges.
@@ -97,5 +105,5 @@ pub fn mask_row(n: usize, d: usize) -> usize
     requires { ⌜ (n ≤ maxStatements) × (d ≤ at.maskRows n) ⌝ }
     ensures { λ r. ⌜ r ≡ at.maskRowAt n d ⌝ }
 {
-    queue(n) + 9 * n + MASK_WORDS * d
+    part(n, 9) + MASK_WORDS * d
 }

@@ -12,7 +12,7 @@ use Rattle.theory.specs.Reach.{Reach}
 use Rattle.theory.specs.Body.{kind, successors, references, callLines, continuationOf, entered, ifSome, callees, isReturn, orElse, walkNext, Walks, walked, Calls, called, Touches, wipes, Calls⁺, Opaque, OpaqueCall, CallTouches, bodies, touches, onCycle, opaque, opaqueCall, callTouches}
 use Rattle.theory.specs.WellFormed.{WellFormed}
 use Rattle.theory.proofs.Lists.{or-cases, or-left, or-right, same-test, any-In, any-find, In-has, has-In, concatMap-In, In-concatMap, In-optionList}
-use Rattle.theory.proofs.Reach.{reach-first, reach-below, reached-sound, reached-complete}
+use Rattle.theory.proofs.Reach.{reach-first, reach-below, reach-back, reached-sound, reached-complete}
 
 -- Walks
 
@@ -105,26 +105,19 @@ module _ {f : Flow} (w : WellFormed f) where
 
 -- Touched arrays
 
-touches-back : {f : Flow} {a e b : ℕ} → Reach (called f) e b → Touches f a b → Touches f a e
-touches-back Reach.here t = t
-touches-back {f} (Reach.on {i = i} r m) t = touches-back r (Touches.nested (called-sound f i m) t)
-
 pub touches-sound : (f : Flow) (e a : ℕ) → touches f e a ≡ true → Touches f a e
 unfolding touches
 touches-sound f e a h =
     let r = any-find (λ b. any (λ i. has a (references f i)) (walked f b)) (bodies f e) h in
     let s = any-find (λ i. has a (references f i)) (walked f (r .0)) (r .2) in
-    touches-back (bodies-sound f e (r .1)) (Touches.own (walked-sound f (r .0) (s .1)) (has-In a (references f (s .0)) (s .2)))
+    reach-back (Touches f a) (λ i j m t. Touches.nested (called-sound f i m) t) (bodies-sound f e (r .1))
+    (Touches.own (walked-sound f (r .0) (s .1)) (has-In a (references f (s .0)) (s .2)))
 
 -- Opacity
 
 -- a body that is opaque by itself: its walk wipes, or it lies on a cycle of calls
 unfoldable bad : Flow → ℕ → Bool
 bad f b = any (λ i. wipes (kind f i)) (walked f b) || onCycle f b
-
-opaque-back : {f : Flow} {e b : ℕ} → Reach (called f) e b → Opaque f b → Opaque f e
-opaque-back Reach.here o = o
-opaque-back {f} (Reach.on {i = i} r m) o = opaque-back r (Opaque.calls (called-sound f i m) o)
 
 pub onCycle-sound : (f : Flow) (e : ℕ) → onCycle f e ≡ true → Calls⁺ f e e
 unfolding onCycle
@@ -144,7 +137,7 @@ pub opaque-sound : (f : Flow) (e : ℕ) → opaque f e ≡ true → Opaque f e
 unfolding opaque bad
 opaque-sound f e h =
     let r = any-find (bad f) (bodies f e) h in
-    opaque-back (bodies-sound f e (r .1)) (bad-sound f (r .0) (r .2))
+    reach-back (Opaque f) (λ i j m o. Opaque.calls (called-sound f i m) o) (bodies-sound f e (r .1)) (bad-sound f (r .0) (r .2))
 
 pub opaqueCall-sound : (f : Flow) (c : ℕ) → opaqueCall f c ≡ true → OpaqueCall f c
 unfolding opaqueCall

@@ -1,14 +1,15 @@
 -- The Boolean functions on lists say what membership says: `any`, `has`, `select`, `concatMap`, `map`, `optionList` and `upTo`, both ways each; and sums
 -- compare as their terms do. By induction on the list, on the proof of membership or on the bound. Assumes nothing.
 use Prim.Native.Nat.{ℕ, zero, suc, _+_, _<_, _≤_}
-use mathlib.Core.Bool.{Bool, true, false, cond, _&&_, _||_, true≢false}
-use mathlib.Core.List.{List, [], _∷_, _++_, map, List·Memᴰ·head, List·Memᴰ·tail, List·Memᴰ·not-nil, List·Memᴰ·append-cases, List·Memᴰ·eq-of-singleton, Memᴰ·append-left, Memᴰ·append-right}
+use mathlib.Core.Bool.{Bool, true, false, cond, _&&_, _||_, true≢false, or-false, or-assoc}
+use mathlib.Core.List.{List, [], _∷_, _++_, map, append-assoc, List·Memᴰ·head, List·Memᴰ·tail, List·Memᴰ·not-nil, List·Memᴰ·append-cases, List·Memᴰ·eq-of-singleton, Memᴰ·append-left, Memᴰ·append-right}
 use mathlib.Core.Logic.{_⊎_, inl, inr, ⊎-elim}
 use mathlib.Core.Option.{Option, none, some}
 use mathlib.Core.Path.{_≡_, refl, sym, _∙_, ap, subst}
 use native.Mathlib.Omega.{arith}
 use lib.Dec.{eqb}
-use borrow.Author.Tests.{eqb-true, eqb-false, eq-eqb}
+use lib.ListN.{length, getD, length-append}
+use borrow.Author.Tests.{eqb-true, eqb-false, eq-eqb, ne-eqb}
 use Rattle.theory.specs.Lists.{In, any, has, select, concatMap, optionList, upTo, sumBelow}
 
 -- Tests
@@ -31,6 +32,14 @@ pub or-right : (a b : Bool) → b ≡ true → (a || b) ≡ true
 or-right true b h = refl
 or-right false b h = h
 
+pub or-first : (a b : Bool) → (a || b) ≡ false → a ≡ false
+or-first true b h = h
+or-first false b h = refl
+
+pub or-second : (a b : Bool) → (a || b) ≡ false → b ≡ false
+or-second true b h = clash true refl h
+or-second false b h = h
+
 pub and-both : (a b : Bool) → (a && b) ≡ true → (a ≡ true) × (b ≡ true)
 and-both true b h = (refl, h)
 and-both false b h = clash false h refl
@@ -44,11 +53,25 @@ same-test true b h k = sym (h refl)
 same-test false true h k = k refl
 same-test false false h k = refl
 
+pub eqb-sym : (x y : ℕ) → eqb x y ≡ eqb y x
+eqb-sym x y = same-test (eqb x y) (eqb y x) (λ e. eq-eqb y x (sym (eqb-true x y e))) (λ e. eq-eqb x y (sym (eqb-true y x e)))
+
+-- a word that says 1 where the test passes says so
+pub says-one : (b : Bool) → eqb (cond b 1 0) 1 ≡ b
+says-one true = refl
+says-one false = refl
+
 -- Membership
 
 pub member-cases : {A P : Type 0} {x y : A} {l : List A} → In x (y ∷ l) → (x ≡ y → P) → (In x l → P) → P
 member-cases (List·Memᴰ·head e) h k = h e
 member-cases (List·Memᴰ·tail m) h k = k m
+
+-- the element at a place of a list is one of it
+pub getD-In : {A : Type 0} (l : List A) (k : ℕ) (d : A) → k < length l → In (getD l k d) l
+getD-In [] k d h = absurd (omega arith)
+getD-In (x ∷ l) zero d h = List·Memᴰ·head refl
+getD-In (x ∷ l) (suc k) d h = List·Memᴰ·tail (getD-In l k d (omega arith))
 
 -- any
 
@@ -72,7 +95,18 @@ any-none p {x} {l} h m = not-so (p x) (λ e. clash (any p l) (any-In p m e) h)
 pub none-any : {A : Type 0} (p : A → Bool) (l : List A) → ((x : A) → In x l → p x ≡ false) → any p l ≡ false
 none-any p l h = not-so (any p l) (λ e. let r = any-find p l e in clash (p (r .0)) (r .2) (h (r .0) (r .1)))
 
+pub any-append : {A : Type 0} (p : A → Bool) (xs ys : List A) → any p (xs ++ ys) ≡ (any p xs || any p ys)
+unfolding any
+any-append p [] ys = refl
+any-append p (x ∷ xs) ys = ap (λ (t : Bool). p x || t) (any-append p xs ys) ∙ sym (or-assoc (p x) (any p xs) (any p ys))
+
 -- has
+
+-- membership is such a test
+pub has-any : (x : ℕ) (l : List ℕ) → any (eqb x) l ≡ has x l
+unfolding any has
+has-any x [] = refl
+has-any x (y ∷ l) = ap (λ b. eqb x y || b) (has-any x l)
 
 pub In-has : {x : ℕ} {l : List ℕ} → In x l → has x l ≡ true
 unfolding has
@@ -88,16 +122,20 @@ has-In x (y ∷ ys) h =
 pub has-not : (x : ℕ) (l : List ℕ) → has x l ≡ false → In x l → ⊥
 has-not x l h m = clash (has x l) (In-has m) h
 
+pub has-append : (j : ℕ) (xs ys : List ℕ) → has j (xs ++ ys) ≡ (has j xs || has j ys)
+has-append j xs ys = sym (has-any j (xs ++ ys)) ∙ any-append (eqb j) xs ys ∙ ap (λ (t : Bool). t || any (eqb j) ys) (has-any j xs) ∙ ap (λ (t : Bool). has j xs || t) (has-any j ys)
+
 -- one more element at the end
 
+pub has-one-more : (l : List ℕ) (x y : ℕ) → has y (l ++ (x ∷ [])) ≡ (has y l || eqb y x)
+unfolding has
+has-one-more l x y = has-append y l (x ∷ []) ∙ ap (λ (t : Bool). has y l || t) (or-false (eqb y x))
+
 pub has-last : (l : List ℕ) (x : ℕ) → has x (l ++ (x ∷ [])) ≡ true
-has-last l x = In-has (Memᴰ·append-right l (List·Memᴰ·head refl))
+has-last l x = has-one-more l x x ∙ or-right (has x l) (eqb x x) (eq-eqb x x refl)
 
 pub has-before : (l : List ℕ) {x y : ℕ} → (y ≡ x → ⊥) → has y (l ++ (x ∷ [])) ≡ has y l
-has-before l {x} {y} d =
-    same-test (has y (l ++ (x ∷ []))) (has y l)
-    (λ t. In-has (⊎-elim (λ m. m) (λ m. absurd (d (List·Memᴰ·eq-of-singleton m))) (List·Memᴰ·append-cases l (has-In y (l ++ (x ∷ [])) t))))
-    (λ t. In-has (Memᴰ·append-left (x ∷ []) (has-In y l t)))
+has-before l {x} {y} d = has-one-more l x y ∙ rw (ne-eqb y x d) (or-false (has y l))
 
 -- select
 
@@ -138,6 +176,11 @@ In-concatMap {A} {B} f (z ∷ zs) {y} m = go (In-concatMap f zs) (List·Memᴰ·
     go ih (inl n) = (z, List·Memᴰ·head refl, n)
     go ih (inr n) = let r = ih n in (r .0, List·Memᴰ·tail (r .1), r .2)
 
+pub concatMap-append : {A B : Type 0} (f : A → List B) (xs ys : List A) → concatMap f (xs ++ ys) ≡ concatMap f xs ++ concatMap f ys
+unfolding concatMap
+concatMap-append f [] ys = refl
+concatMap-append f (x ∷ xs) ys = ap (λ l. f x ++ l) (concatMap-append f xs ys) ∙ sym (append-assoc (f x) (concatMap f xs) (concatMap f ys))
+
 -- map
 
 pub map-In : {A B : Type 0} (f : A → B) {x : A} {l : List A} → In x l → In (f x) (map f l)
@@ -173,6 +216,11 @@ upTo-In (suc k) x h = go (eqb x k) refl (upTo-In k x)
     go : (b : Bool) → eqb x k ≡ b → (x < k → In x (upTo k)) → In x (upTo k ++ (k ∷ []))
     go true e ih = Memᴰ·append-right (upTo k) (List·Memᴰ·head (eqb-true x k e))
     go false e ih = let d : x ≡ k → ⊥ = eqb-false x k e in Memᴰ·append-left (k ∷ []) (ih (omega arith))
+
+pub length-upTo : (k : ℕ) → length (upTo k) ≡ k
+unfolding upTo
+length-upTo zero = refl
+length-upTo (suc k) = length-append (upTo k) (k ∷ []) ∙ omega (arith, length-upTo k)
 
 pub In-upTo : (k : ℕ) {x : ℕ} → In x (upTo k) → x < k
 unfolding upTo

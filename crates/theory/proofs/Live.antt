@@ -15,7 +15,7 @@ use Rattle.theory.specs.Body.{successors}
 use Rattle.theory.specs.WellFormed.{WellFormed}
 use Rattle.theory.specs.Live.{reads, writes, LiveIn, LiveOut, unwritten, liveIn, liveOut, Equations}
 use Rattle.theory.proofs.Lists.{or-cases, or-left, or-right, and-both, and-true, same-test, any-In, any-find}
-use Rattle.theory.proofs.Reach.{reach-first, reached-sound, reached-complete}
+use Rattle.theory.proofs.Reach.{reach-first, reach-back, reached-sound, reached-complete}
 
 -- a walk goes on from a statement that does not write the name
 In-unwritten : (f : Flow) (x i : ℕ) {j : ℕ} → In j (unwritten f x i) → (writes f i x ≡ false) × In j (successors f i)
@@ -30,15 +30,12 @@ unwritten-In : (f : Flow) (x i : ℕ) {j : ℕ} → writes f i x ≡ false → I
 unfolding unwritten
 unwritten-In f x i e m = rw e m
 
-live-back : {f : Flow} {x i j : ℕ} → Reach (unwritten f x) i j → LiveIn f x j → LiveIn f x i
-live-back Reach.here l = l
-live-back {f} {x} (Reach.on {i = k} r m) l = let u = In-unwritten f x k m in live-back r (LiveIn.later (u .0) (u .1) l)
-
 pub liveIn-sound : (f : Flow) (x i : ℕ) → liveIn f x i ≡ true → LiveIn f x i
 unfolding liveIn
 liveIn-sound f x i h =
     let r = any-find (λ j. reads f j x) (reached (unwritten f x) (size f) i) h in
-    live-back (reached-sound (unwritten f x) (size f) i (r .1)) (LiveIn.now (r .2))
+    reach-back (LiveIn f x) (λ k j m l. let u = In-unwritten f x k m in LiveIn.later (u .0) (u .1) l)
+    (reached-sound (unwritten f x) (size f) i (r .1)) (LiveIn.now (r .2))
 
 pub liveOut-sound : (f : Flow) (x i : ℕ) → liveOut f x i ≡ true → LiveOut f x i
 unfolding liveOut

@@ -1,6 +1,6 @@
 -- Laws of masks that the queue rule's proof rests on: what a union holds, what a chain of effects keeps, and how many states a mask holds.
 -- The chain's laws follow from the step's by induction; the others are tests that antt computes at the masks 0 to 7. Assumes nothing.
-use Prim.Native.Nat.{ℕ, zero, suc, _+_, _/_, _%_, _^_, _≤_, _<_, max}
+use Prim.Native.Nat.{ℕ, zero, suc, _+_, _/_, _%_, _≤_, _<_}
 use mathlib.Core.Bool.{Bool, true, false, cond, _||_}
 use mathlib.Core.List.{List, [], _∷_}
 use mathlib.Core.Logic.{_⊎_, inl, inr, _≢_}
@@ -8,13 +8,13 @@ use mathlib.Core.Path.{_≡_, refl, sym, ap, subst, _∙_}
 use native.Mathlib.Nat.{mod-lt, zero-lt-suc}
 use native.Mathlib.Omega.{arith}
 use borrow.Author.Tests.{ne-eqb}
-use lib.Bits.{bitOr, or-shr, or-step}
+use lib.Bits.{bitOr}
 use lib.Dec.{T, eqb, ltb, leb, lt→ltb, leb→le}
 use Rattle.masks.specs.declared.Effect.{Effect}
 use Rattle.masks.specs.Step.{stepOf}
-use Rattle.masks.specs.State.{State, none, auto, dimmed, stateBit, holds}
-use Rattle.masks.proofs.Laws.{step-lt, step-pos, step-carries, step-comes, holds-ext}
-use Rattle.masks.proofs.Finite.{implies, implied, alike, alike→eq, everyBelow, at-below, everyState, all-states}
+use Rattle.masks.specs.State.{State, none, auto, dimmed, holds}
+use Rattle.masks.proofs.Laws.{step-lt, step-pos, step-carries, step-comes, or-holds, holds-ext}
+use Rattle.masks.proofs.Finite.{implies, implied, everyBelow, at-below, everyState, all-states}
 use Rattle.theory.specs.Queue.{stepAll}
 use Rattle.theory.specs.Walks.{Turns, same, then}
 use Rattle.theory.proofs.Lists.{clash, or-cases, or-left, or-right, same-test}
@@ -36,26 +36,6 @@ pub record Proper (m : ℕ) : Type 0 where
   pub below : m < 8
 
 -- Unions
-
-or-digit : (a b : ℕ) → bitOr a b % 2 ≡ max (a % 2) (b % 2)
-or-digit a b =
-    let e = or-step a b in
-    let p : a % 2 < 2 = mod-lt a (zero-lt-suc 1) in
-    let q : b % 2 < 2 = mod-lt b (zero-lt-suc 1) in
-    omega arith
-
-digit-test : (p q : ℕ) → p < 2 → q < 2 → eqb (max p q) 1 ≡ (eqb p 1 || eqb q 1)
-digit-test p q hp hq =
-    alike→eq (eqb (max p q) 1) (eqb p 1 || eqb q 1)
-    (at-below 2 (λ q. alike (eqb (max p q) 1) (eqb p 1 || eqb q 1))
-    (at-below 2 (λ p. everyBelow 2 (λ q. alike (eqb (max p q) 1) (eqb p 1 || eqb q 1))) tt p hp) q hq)
-
--- a union holds what either mask holds
-pub or-holds : (a b : ℕ) (s : State) → holds (bitOr a b) s ≡ (holds a s || holds b s)
-or-holds a b s =
-    ap (λ x. eqb (x % 2) 1) (or-shr a b (stateBit s))
-    ∙ (ap (λ x. eqb x 1) (or-digit (a / 2 ^ stateBit s) (b / 2 ^ stateBit s))
-    ∙ digit-test (a / 2 ^ stateBit s % 2) (b / 2 ^ stateBit s % 2) (mod-lt _ (zero-lt-suc 1)) (mod-lt _ (zero-lt-suc 1)))
 
 pub or-held : (a b : ℕ) (s : State) → holds (bitOr a b) s ≡ true → (holds a s ≡ true) ⊎ (holds b s ≡ true)
 or-held a b s h = or-cases (holds a s) (holds b s) (sym (or-holds a b s) ∙ h)

@@ -25,6 +25,11 @@ pub reach-below : {next : ℕ → List ℕ} {n e i : ℕ} → ((i j : ℕ) → I
 reach-below stays l Reach.here = l
 reach-below stays l (Reach.on {i = i} {j = j} r m) = stays i j m
 
+-- what goes back a step goes back along a walk
+pub reach-back : {next : ℕ → List ℕ} {e i : ℕ} (P : ℕ → Type 0) → ((i j : ℕ) → In j (next i) → P j → P i) → Reach next e i → P i → P e
+reach-back P step Reach.here p = p
+reach-back P step (Reach.on {i = i} {j = j} r m) p = reach-back P step r (step i j m p)
+
 -- The two cases of the closure
 
 closure-seen : (fuel : ℕ) (next : ℕ → List ℕ) (seen : List ℕ) (x : ℕ) (todo : List ℕ) → has x seen ≡ true → closure (suc fuel) next seen (x ∷ todo) ≡ closure fuel next seen todo

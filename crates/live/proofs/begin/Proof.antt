@@ -2,8 +2,7 @@
 -- Assumes nothing.
 use native.Mathlib.Omega.{arith}
 use Rattle.flow.specs.Format.{flowOf}
-use Rattle.statements.proofs.Keeps.{ready-keeps}
-use Rattle.live.proofs.Facts.{count-fits, area-in}
+use Rattle.statements.proofs.Keeps.{ready-keeps, ready-most, ready-room}
 use Rattle.live.proofs.Beginning.{Beginning, beginning-none, beginning-more, beginning-all, noted-waits}
 use Rattle.live.proofs.begin.Statement.{statement}
 use Rattle.live.proofs.begin.Tie as tie
@@ -21,13 +20,13 @@ sub-i : tie.Need-sub-i Inv-loop μ-loop
 sub-i c = omega arith
 
 mul-live-in : tie.Need-mul-live-in Inv-loop μ-loop
-mul-live-in c = omega (arith, c .before .loop .inv .low, count-fits (c .before .before .before .before .before .before .pre .ready))
+mul-live-in c = omega (arith, c .before .loop .inv .low, ready-most (c .before .before .before .before .before .before .pre .ready))
 
 slice-write-live-in : tie.Need-slice-write-live-in Inv-loop μ-loop
 slice-write-live-in c = omega (arith, c .before .loop .inv .low, c .before .loop .inv .ins-clear .area .size, c .before .before .before .before .before .before .pre .in-room)
 
 mul-live-out : tie.Need-mul-live-out Inv-loop μ-loop
-mul-live-out c = omega (arith, c .before .loop .inv .low, count-fits (c .before .before .before .before .before .before .pre .ready))
+mul-live-out c = omega (arith, c .before .loop .inv .low, ready-most (c .before .before .before .before .before .before .pre .ready))
 
 slice-write-live-out : tie.Need-slice-write-live-out Inv-loop μ-loop
 slice-write-live-out c = omega (arith, c .before .loop .inv .low, c .before .loop .inv .outs-clear .area .size, c .before .before .before .before .before .before .pre .out-room)
@@ -43,8 +42,8 @@ enqueue-requires c κs =
     let start = c .before .before .before .before .before .before .before .before .before .before .before in
     let inv = c .before .before .before .before .before .before .loop .inv in
     let noted = c .before .before .before .note-predecessors .ensures in (
-      count-fits (start .pre .ready),
-      omega (arith, area-in (start .pre .ready) (start .pre .some), inv .kept .size, noted .kept .size),
+      ready-most (start .pre .ready),
+      omega (arith, ready-room (start .pre .ready) (start .pre .some), inv .kept .size, noted .kept .size),
       omega (arith, inv .low),
       (inv .queue .list, noted-waits noted (inv .queue .waits)),
     )

@@ -6,9 +6,9 @@ use mathlib.Core.Path.{ap, _∙_}
 use Rattle.flow.specs.Format.{flowOf}
 use Rattle.theory.specs.Body.{successors}
 use Rattle.statements.specs.Layout.{rowAt}
-use Rattle.statements.proofs.Keeps.{ready-keeps}
+use Rattle.statements.proofs.Keeps.{ready-keeps, ready-most, ready-room}
 use Rattle.statements.proofs.WorkArea.{row-fits, member-word}
-use Rattle.live.proofs.Facts.{count-fits, area-in, target-in}
+use Rattle.live.proofs.Facts.{target-in}
 use Rattle.live.proofs.Noting.{Noting, noting-none, noting-more, noting-all}
 use Rattle.live.proofs.note_predecessors.Statement.{statement}
 use Rattle.live.proofs.note_predecessors.Tie as tie
@@ -33,7 +33,7 @@ successor-requires c κs =
 row-requires : tie.Need-row-requires Inv-loop μ-loop
 row-requires c κs =
     let start = c .before .before .before .before .before .before .before .before .before in
-    (count-fits (start .pre .0), omega (arith, c .before .successor .ensures, target-in (start .pre .0) (start .args .i) (c .before .before .before .before .loop .k) (omega arith)))
+    (ready-most (start .pre .0), omega (arith, c .before .successor .ensures, target-in (start .pre .0) (start .args .i) (c .before .before .before .before .loop .k) (omega arith)))
 
 insert-requires : tie.Need-insert-requires Inv-loop μ-loop
 insert-requires c κs =
@@ -41,7 +41,7 @@ insert-requires c κs =
     let k = c .before .before .before .before .before .loop .k in
     let short = target-in (start .pre .0) (start .args .i) k (omega arith) in
     let place = c .row .ensures ∙ ap (rowAt (start .args .n)) (c .before .before .successor .ensures) in
-    omega (arith, row-fits (start .args .n) short, member-word (start .pre .1), area-in (start .pre .0) (omega arith), c .before .before .before .before .before .loop .inv .kept .size)
+    omega (arith, row-fits (start .args .n) short, member-word (start .pre .1), ready-room (start .pre .0) (omega arith), c .before .before .before .before .before .loop .inv .kept .size)
 
 add-k : tie.Need-add-k Inv-loop μ-loop
 add-k c = omega arith
@@ -56,7 +56,7 @@ loop-again c =
     let k = c .before .before .before .before .before .before .before .before .loop .k in
     let place = c .before .before .before .row .ensures ∙ ap (rowAt (start .args .n)) (c .before .before .before .before .before .successor .ensures) in
     noting-more inv (omega arith) (start .pre .1) (target-in (start .pre .0) (start .args .i) k (omega arith))
-    (omega (arith, area-in (start .pre .0) (omega arith), inv .kept .size))
+    (omega (arith, ready-room (start .pre .0) (omega arith), inv .kept .size))
     place
     (c .before .before .insert .ensures)
 

@@ -2,8 +2,9 @@
 -- Assumes nothing.
 use Prim.Native.Nat.{_-_}
 use native.Mathlib.Omega.{arith}
+use Rattle.statements.proofs.Members.{next-later}
 use Rattle.live.proofs.Facts.{row-room}
-use Rattle.live.proofs.Pushing.{Pushing, pushing-none, next-later, pushing-more, pushing-all}
+use Rattle.live.proofs.Pushing.{Pushing, pushing-none, pushing-more, pushing-all}
 use Rattle.live.proofs.push_live.Statement.{statement}
 use Rattle.live.proofs.push_live.Tie as tie
 
@@ -43,7 +44,7 @@ next-requires-2 c κs =
 
 loop-less : tie.Need-loop-less Inv-loop μ-loop
 loop-less c =
-    let later = next-later (c .before .before .before .before .before .before .push-to .last .0) (c .before .before .before .before .before .before .before .before .before .before .before .before .before .row .result) (c .before .before .before .before .before .before .before .before .before .before .before .before .before .before .before .before .args .n) (c .before .before .before .before .before .before .before .before .before .before .loop .i) (omega arith) in
+    let later = next-later (c .before .before .before .before .before .before .push-to .last .0) (c .before .before .before .before .before .before .before .before .before .before .before .before .before .row .result) (c .before .before .before .before .before .before .before .before .before .before .loop .i) (c .before .before .before .before .before .before .before .before .before .before .before .before .before .before .before .before .args .n) (omega arith) in
     omega (arith, c .next2 .ensures)
 
 loop-again : tie.Need-loop-again Inv-loop μ-loop

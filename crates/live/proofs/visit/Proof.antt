@@ -4,7 +4,7 @@ use mathlib.Core.Path.{_∙_, ap, ap₂}
 use native.Mathlib.Omega.{arith}
 use lib.Bits.{bitOr}
 use Rattle.words.specs.Change.{without}
-use Rattle.live.proofs.Facts.{count-fits, area-in}
+use Rattle.statements.proofs.Keeps.{ready-most, ready-room}
 use Rattle.live.proofs.Visits.{rest-ready, taken-small, taken-held, visited}
 use borrow.Author.Needs.{needs}
 use Rattle.live.proofs.visit.Statement.{statement}
@@ -14,12 +14,12 @@ take-requires : tie.Need-take-requires
 take-requires c κs =
     let start = c .before .before .before .before .before in
     let waits = start .pre .4 .1 in
-    (count-fits (start .pre .0), omega (arith, area-in (start .pre .0) (omega (arith, waits .front))), start .pre .5, (start .pre .4 .0, waits))
+    (ready-most (start .pre .0), omega (arith, ready-room (start .pre .0) (omega (arith, waits .front))), start .pre .5, (start .pre .4 .0, waits))
 
 rest-requires : tie.Need-rest-requires
 rest-requires c κs =
     let start = c .before .before .before .before .before .before .before .before in
-    (count-fits (start .pre .0), start .pre .5, start .pre .4 .1 .front)
+    (ready-most (start .pre .0), start .pre .5, start .pre .4 .1 .front)
 
 read-requires : tie.Need-read-requires
 read-requires c κs =
@@ -34,27 +34,27 @@ written-requires c κs =
     (rest-ready (start .pre .0) (take .ensures .kept), taken-small (start .pre .4) (start .pre .5) (take .ensures))
 
 mul-difference : tie.Need-mul-difference
-mul-difference c = omega (arith, count-fits (c .before .before .before .before .before .before .before .before .before .before .before .before .before .pre .0), taken-small (c .before .before .before .before .before .before .before .before .before .before .before .before .before .pre .4) (c .before .before .before .before .before .before .before .before .before .before .before .before .before .pre .5) (c .before .before .before .before .before .before .before .take .ensures))
+mul-difference c = omega (arith, ready-most (c .before .before .before .before .before .before .before .before .before .before .before .before .before .pre .0), taken-small (c .before .before .before .before .before .before .before .before .before .before .before .before .before .pre .4) (c .before .before .before .before .before .before .before .before .before .before .before .before .before .pre .5) (c .before .before .before .before .before .before .before .take .ensures))
 
 slice-read-difference : tie.Need-slice-read-difference
-slice-read-difference c = omega (arith, count-fits (c .before .before .before .before .before .before .before .before .before .before .before .before .before .before .pre .0), taken-small (c .before .before .before .before .before .before .before .before .before .before .before .before .before .before .pre .4) (c .before .before .before .before .before .before .before .before .before .before .before .before .before .before .pre .5) (c .before .before .before .before .before .before .before .before .take .ensures), c .before .before .before .before .before .before .before .before .before .before .before .before .before .before .pre .2)
+slice-read-difference c = omega (arith, ready-most (c .before .before .before .before .before .before .before .before .before .before .before .before .before .before .pre .0), taken-small (c .before .before .before .before .before .before .before .before .before .before .before .before .before .before .pre .4) (c .before .before .before .before .before .before .before .before .before .before .before .before .before .before .pre .5) (c .before .before .before .before .before .before .before .before .take .ensures), c .before .before .before .before .before .before .before .before .before .before .before .before .before .before .pre .2)
 
 difference-requires : tie.Need-difference-requires
 difference-requires c κs = search needs
 
 mul-live-in : tie.Need-mul-live-in
-mul-live-in c = omega (arith, count-fits (c .before .before .before .before .before .before .before .before .before .before .before .before .before .before .before .pre .0), taken-small (c .before .before .before .before .before .before .before .before .before .before .before .before .before .before .before .pre .4) (c .before .before .before .before .before .before .before .before .before .before .before .before .before .before .before .pre .5) (c .before .before .before .before .before .before .before .before .before .take .ensures))
+mul-live-in c = omega (arith, ready-most (c .before .before .before .before .before .before .before .before .before .before .before .before .before .before .before .pre .0), taken-small (c .before .before .before .before .before .before .before .before .before .before .before .before .before .before .before .pre .4) (c .before .before .before .before .before .before .before .before .before .before .before .before .before .before .before .pre .5) (c .before .before .before .before .before .before .before .before .before .take .ensures))
 
 slice-write-live-in : tie.Need-slice-write-live-in
-slice-write-live-in c = omega (arith, count-fits (c .before .before .before .before .before .before .before .before .before .before .before .before .before .before .before .pre .0), taken-small (c .before .before .before .before .before .before .before .before .before .before .before .before .before .before .before .pre .4) (c .before .before .before .before .before .before .before .before .before .before .before .before .before .before .before .pre .5) (c .before .before .before .before .before .before .before .before .before .take .ensures), c .before .before .before .before .before .before .before .before .before .before .before .before .before .before .before .pre .1)
+slice-write-live-in c = omega (arith, ready-most (c .before .before .before .before .before .before .before .before .before .before .before .before .before .before .before .pre .0), taken-small (c .before .before .before .before .before .before .before .before .before .before .before .before .before .before .before .pre .4) (c .before .before .before .before .before .before .before .before .before .before .before .before .before .before .before .pre .5) (c .before .before .before .before .before .before .before .before .before .take .ensures), c .before .before .before .before .before .before .before .before .before .before .before .before .before .before .before .pre .1)
 
 push-live-requires : tie.Need-push-live-requires
 push-live-requires c κs =
     let start = c .before .before .before .before .before .before .before .before .before .before .before .before .before .before .before .before .before in
     let take = c .before .before .before .before .before .before .before .before .before .before .before .take in
     let size = take .ensures .kept .size in (
-      count-fits (start .pre .0),
-      omega (arith, area-in (start .pre .0) (omega (arith, start .pre .4 .1 .front))),
+      ready-most (start .pre .0),
+      omega (arith, ready-room (start .pre .0) (omega (arith, start .pre .4 .1 .front))),
       start .pre .2,
       taken-small (start .pre .4) (start .pre .5) (take .ensures),
       taken-held (start .pre .4) (start .pre .5) (take .ensures) (c .before .before .before .before .before .before .before .before .rest .result) (c .before .before .before .before .before .before .before .before .rest .ensures),

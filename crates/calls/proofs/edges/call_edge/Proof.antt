@@ -12,9 +12,10 @@ use lib.ListN.{getD, drop}
 use Rattle.flow.specs.Flow.{size, enters}
 use Rattle.flow.specs.Format.{flowOf}
 use Rattle.theory.specs.Body.{kind, callLines}
+use Rattle.statements.proofs.Keeps.{ready-most, ready-size, ready-formed, ready-below}
 use Rattle.calls.specs.Slots.{otherSlots, callSlots, edgeFrom, copyOf}
 use Rattle.calls.specs.declared.Edge as E
-use Rattle.calls.proofs.Checked.{ready-few, ready-size, ready-formed, ready-below, lines-few, enters-at, enters-nothing}
+use Rattle.calls.proofs.Checked.{lines-few, enters-at, enters-nothing}
 use Rattle.calls.proofs.Found.{line-here, line-skip, back-here, then-others, base-most, to-copy, same-number}
 use Rattle.calls.proofs.edges.call_edge.Statement.{statement}
 use Rattle.calls.proofs.edges.call_edge.Tie as tie
@@ -35,7 +36,7 @@ back-below c = let ready = c .pre .0 in ready-below ready (ready-formed ready .c
 base-few : (c : tie.Start Inv-loop μ-loop) → c .args .base ≤ 2048
 base-few c =
     let ready = c .pre .0 in
-    omega (arith, base-most (flowOf (now (c .args .file))) (c .args .base) (c .pre .3), ready-size ready, ready-few ready)
+    omega (arith, base-most (flowOf (now (c .args .file))) (c .args .base) (c .pre .3), ready-size ready, ready-most ready)
 
 line-count-requires : tie.Need-line-count-requires Inv-loop μ-loop
 line-count-requires c κs = search needs
@@ -62,13 +63,13 @@ below c =
     ready-below ready (ready-formed ready .first (getD (callLines (kind (flowOf (now (a .file))) (a .i))) (c .before .before .before .before .loop .c) 0) (c .b .given .0 .0 .0) (enters-b c))
 
 add-t14 : tie.Need-add-t14 Inv-loop μ-loop
-add-t14 c = omega (arith, below (c .before .before), ready-few (c .before .before .before .before .before .before .before .before .before .before .pre .0))
+add-t14 c = omega (arith, below (c .before .before), ready-most (c .before .before .before .before .before .before .before .before .before .before .pre .0))
 
 add-t16 : tie.Need-add-t16 Inv-loop μ-loop
-add-t16 c = omega (arith, below (c .before .before .before), ready-few (c .before .before .before .before .before .before .before .before .before .before .before .pre .0))
+add-t16 c = omega (arith, below (c .before .before .before), ready-most (c .before .before .before .before .before .before .before .before .before .before .before .pre .0))
 
 add-t17 : tie.Need-add-t17 Inv-loop μ-loop
-add-t17 c = omega (arith, base-few (c .before .before .before .before .before .before .before .before .before .before .before), back-below (c .before .before .before .before .before .before .before .before .before .before .before), ready-few (c .before .before .before .before .before .before .before .before .before .before .before .pre .0))
+add-t17 c = omega (arith, base-few (c .before .before .before .before .before .before .before .before .before .before .before), back-below (c .before .before .before .before .before .before .before .before .before .before .before), ready-most (c .before .before .before .before .before .before .before .before .before .before .before .pre .0))
 
 add-t19 : tie.Need-add-t19 Inv-loop μ-loop
 add-t19 c = omega arith
@@ -107,7 +108,7 @@ loop-again c =
     (enters-nothing (enters f (getD (callLines (kind f (a .i))) p 0)) (sym (c .before .before .entered .ensures) ∙ c .enum-told .given .1))
 
 add-t21 : tie.Need-add-t21 Inv-loop μ-loop
-add-t21 c = omega (arith, base-few (c .before .before .before .before .before .before), back-below (c .before .before .before .before .before .before), ready-few (c .before .before .before .before .before .before .pre .0))
+add-t21 c = omega (arith, base-few (c .before .before .before .before .before .before), back-below (c .before .before .before .before .before .before), ready-most (c .before .before .before .before .before .before .pre .0))
 
 add-t23 : tie.Need-add-t23 Inv-loop μ-loop
 add-t23 c = omega (arith, lines-few (c .before .before .before .before .before .before .pre .0) (c .before .before .before .before .before .before .pre .2), c .before .before .before .line-count .ensures)

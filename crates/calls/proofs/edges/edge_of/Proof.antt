@@ -15,8 +15,9 @@ use Rattle.flow.specs.Format.{flowOf}
 use Rattle.theory.specs.Body.{kind, continuationOf, opaqueCall}
 use Rattle.theory.specs.Doubled.{Base, Edge}
 use Rattle.statements.specs.Layout.{rowAt}
+use Rattle.statements.proofs.Keeps.{ready-most, ready-size}
 use Rattle.calls.specs.Slots.{returnSlots, edgeFrom, copyOf, memberEdge}
-use Rattle.calls.proofs.Checked.{ready-few, ready-size, row-room, continues-to, continues-nowhere}
+use Rattle.calls.proofs.Checked.{row-room, continues-to, continues-nowhere}
 use Rattle.calls.proofs.Found.{slots-return, slots-call, slots-listed, return-edge, return-end, call-opaque, call-clear}
 use Rattle.calls.proofs.edges.edge_of.Statement.{statement}
 use Rattle.calls.proofs.edges.edge_of.Tie as tie
@@ -28,7 +29,7 @@ is-return-requires : tie.Need-is-return-requires
 is-return-requires c κs = search needs
 
 row-requires : tie.Need-row-requires
-row-requires c κs = (ready-few (c .before .before .before .before .before .pre .0), omega arith)
+row-requires c κs = (ready-most (c .before .before .before .before .before .pre .0), omega arith)
 
 member-edge-requires : tie.Need-member-edge-requires
 member-edge-requires c κs = let p = c .before .before .before .before .before .before .pre in omega (arith, row-room (p .0) (p .3), c .row .ensures)
@@ -59,7 +60,7 @@ returns-2 c =
     ∙ return-end f (a .base) (a .i) (a .cursor) (c .if2 .left))
 
 calls-requires : tie.Need-calls-requires
-calls-requires c κs = ready-few (c .before .before .before .before .pre .0)
+calls-requires c κs = ready-most (c .before .before .before .before .pre .0)
 
 add-if3 : tie.Need-add-if3
 add-if3 c = search needs

@@ -8,8 +8,9 @@ use borrow.Author.Needs.{needs}
 use denote.Ref.{now}
 use Rattle.flow.specs.Format.{flowOf}
 use Rattle.theory.specs.Doubled.{at}
+use Rattle.statements.proofs.Keeps.{ready-most, ready-size}
 use Rattle.calls.specs.Slots.{copyOf}
-use Rattle.calls.proofs.Checked.{ready-few, ready-size, successor-below}
+use Rattle.calls.proofs.Checked.{successor-below}
 use Rattle.calls.proofs.Found.{listed-here, listed-end, base-most, to-copy, to}
 use Rattle.calls.proofs.edges.listed_edge.Statement.{statement}
 use Rattle.calls.proofs.edges.listed_edge.Tie as tie
@@ -29,7 +30,7 @@ add-t10 c =
       arith,
       base-most (flowOf (now (a .file))) (a .base) (start .pre .2),
       ready-size ready,
-      ready-few ready,
+      ready-most ready,
       successor-below ready (a .i) (a .cursor) (omega arith),
       c .before .successor .ensures,
     )

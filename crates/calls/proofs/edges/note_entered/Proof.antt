@@ -52,7 +52,7 @@ returns c =
       record {
         row = λ k e o. adds-all (p .3)
             (adds-union (entered (flowOf (now (a .file))) (a .i)) joined (p .2) (entered-room (p .0) (p .2))
-            (λ j l. p .1 .bodies (a .i) j (p .2) l (p .1 .call (a .i) k (p .2) e ∙ ap (λ (b : Bool). cond b opaque clear) o)));
+            (λ j l. p .1 .bodies (a .i) j (p .2) l (p .1 .calls .call (a .i) k (p .2) e ∙ ap (λ (b : Bool). cond b opaque clear) o)));
       },
       subst (λ (us : List ℕ). Keeps (enteredAt n) (waitingAt n) ws us) (sym (joined .slice))
           (keeps-unioned ws (enteredAt n) (rowAt n (a .i)) (rowWords n) (omega arith) (omega (arith, row-words-le n))),

@@ -1,9 +1,7 @@
 -- `note_line` meets its contract: the line enters a statement, which joins the row, or nothing.
--- By the laws of `Adds`. Assumes nothing.
+-- By what a line adds. Assumes nothing.
 use Prim.Native.Nat.{ℕ, _<_}
-use mathlib.Core.List.{List}
-use mathlib.Core.Option.{some}
-use mathlib.Core.Path.{_≡_, sym, ap, _∙_, subst}
+use mathlib.Core.Path.{refl, sym, _∙_, subst}
 use native.Mathlib.Omega.{arith}
 use borrow.Author.Needs.{needs}
 use denote.Ref.{now}
@@ -11,11 +9,11 @@ use lib.ListN.{getD}
 use Rattle.words.specs.Change.{Inserted}
 use Rattle.flow.specs.Flow.{enters}
 use Rattle.flow.specs.Format.{flowOf}
-use Rattle.theory.specs.Lists.{optionList}
 use Rattle.theory.specs.Body.{kind, callLines}
-use Rattle.calls.specs.Joins.{Adds}
-use Rattle.calls.proofs.Checked.{ready-few, ready-formed, ready-below, entered-room, entered-word, enters-at, enters-nothing}
-use Rattle.calls.proofs.Joined.{adds-none, adds-insert}
+use Rattle.statements.proofs.Keeps.{ready-most, ready-formed, ready-below}
+use Rattle.calls.proofs.Checked.{entered-room, entered-word, enters-at}
+use Rattle.calls.proofs.Joined.{adds-insert}
+use Rattle.calls.proofs.Lines.{adds-entered, adds-nothing}
 use Rattle.calls.proofs.edges.note_line.Statement.{statement}
 use Rattle.calls.proofs.edges.note_line.Tie as tie
 
@@ -26,19 +24,15 @@ enum-known-b : tie.Need-enum-known-b
 enum-known-b c = search needs
 
 -- the line enters the statement at hand
-enters-b : (c : tie.After-b) → let a = c .before .before .before .before .before .before .args in
-    enters (flowOf (now (a .file))) (getD (callLines (kind (flowOf (now (a .file))) (a .i))) (a .l) 0) ≡ some (c .b .given .0 .0 .0)
-enters-b c = enters-at _ _ (sym (c .before .before .entered .ensures) ∙ c .b .given .1)
-
 below : (c : tie.After-b) → c .b .given .0 .0 .0 < c .before .before .before .before .before .before .args .h .statements
 below c =
     let start = c .before .before .before .before .before .before in
     let a = start .args in
     let ready = start .pre .0 in
-    ready-below ready (ready-formed ready .first (getD (callLines (kind (flowOf (now (a .file))) (a .i))) (a .l) 0) (c .b .given .0 .0 .0) (enters-b c))
+    ready-below ready (ready-formed ready .first (getD (callLines (kind (flowOf (now (a .file))) (a .i))) (a .l) 0) (c .b .given .0 .0 .0) (enters-at _ _ (sym (c .before .before .entered .ensures) ∙ c .b .given .1)))
 
 entered-requires-2 : tie.Need-entered-requires-2
-entered-requires-2 c κs = ready-few (c .before .before .before .before .before .before .before .before .pre .0)
+entered-requires-2 c κs = ready-most (c .before .before .before .before .before .before .before .before .pre .0)
 
 insert-requires : tie.Need-insert-requires
 insert-requires c κs = omega (arith, entered-word (c .before .before .before .before .before .before .before .before .before .pre .0) (below (c .before .before .before)), c .entered2 .ensures)
@@ -50,27 +44,23 @@ same-length : tie.Need-same-length
 same-length c = search needs
 
 returns : tie.Need-returns
-unfolding optionList
 returns c =
     let start = c .before .before .before .before .before .before .before .before .before .before .before .before in
     let a = start .args in
-    let b = c .before .before .before .before .before .before .b .given .0 .0 .0 in
-    subst (λ (bs : List ℕ). Adds (now (a .work)) (c .before .before .insert .last .0) (a .h .statements) bs)
-    (sym (ap optionList (enters-b (c .before .before .before .before .before .before))))
-    (adds-insert (subst (λ (at : ℕ). Inserted (now (a .work)) (c .before .before .insert .last .0) at b (c .before .before .insert .result)) (c .before .before .before .entered2 .ensures) (c .before .before .insert .ensures))
-    (below (c .before .before .before .before .before .before)) (entered-room (start .pre .0) (start .pre .2)))
+    let f = flowOf (now (a .file)) in
+    let turn = c .before .before .before .before .before .before in
+    adds-entered (λ bs. bs) (enters f (getD (callLines (kind f (a .i))) (a .l) 0)) (sym (turn .before .before .entered .ensures) ∙ turn .b .given .1)
+    (adds-insert (subst (λ (at : ℕ). Inserted (now (a .work)) (c .before .before .insert .last .0) at (turn .b .given .0 .0 .0) (c .before .before .insert .result)) (c .before .before .before .entered2 .ensures) (c .before .before .insert .ensures))
+    (below turn) (entered-room (start .pre .0) (start .pre .2)))
 
 same-length-2 : tie.Need-same-length-2
 same-length-2 c = search needs
 
 returns-2 : tie.Need-returns-2
-unfolding optionList
 returns-2 c =
     let a = c .before .before .before .before .before .before .args in
     let f = flowOf (now (a .file)) in
-    subst (λ (bs : List ℕ). Adds (now (a .work)) (now (a .work)) (a .h .statements) bs)
-    (sym (ap optionList (enters-nothing (enters f (getD (callLines (kind f (a .i))) (a .l) 0)) (sym (c .before .before .entered .ensures) ∙ c .enum-told .given .1))))
-    adds-none
+    adds-nothing (λ bs. bs) (enters f (getD (callLines (kind f (a .i))) (a .l) 0)) (sym (c .before .before .entered .ensures) ∙ c .enum-told .given .1) refl
 
 pub note-line-spec : {M : Type 1} → statement M
 note-line-spec =

@@ -1,8 +1,7 @@
 -- `note_lines` meets its contract. The invariant: the row has gained what the lines before l enter. The measure is how many lines are left.
--- By the laws of `Adds`. Assumes nothing.
-use Prim.Native.Nat.{ℕ, _-_, _≤_}
-use mathlib.Core.List.{List}
-use mathlib.Core.Path.{subst}
+-- By what a line adds. Assumes nothing.
+use Prim.Native.Nat.{_-_, _≤_}
+use mathlib.Core.Path.{refl}
 use native.Mathlib.Omega.{arith}
 use borrow.Author.Needs.{needs}
 use denote.Ref.{now}
@@ -13,8 +12,8 @@ use Rattle.theory.specs.Body.{kind, callLines}
 use Rattle.statements.proofs.WorkArea.{row-from}
 use Rattle.statements.proofs.Keeps.{ready-keeps}
 use Rattle.calls.specs.Joins.{Adds}
-use Rattle.calls.proofs.Joined.{adds-none, adds-then}
-use Rattle.calls.proofs.Gathered.{enteredBy, entered-more, entered-all}
+use Rattle.calls.proofs.Joined.{adds-none}
+use Rattle.calls.proofs.Lines.{enteredBy, adds-line, adds-lines}
 use Rattle.calls.proofs.edges.note_lines.Statement.{statement}
 use Rattle.calls.proofs.edges.note_lines.Tie as tie
 
@@ -46,12 +45,9 @@ loop-less c = omega arith
 loop-again : tie.Need-loop-again Inv-loop μ-loop
 loop-again c =
     let a = c .before .before .before .before .before .before .before .before .before .before .args in
-    let f = flowOf (now (a .file)) in (
-      omega arith,
-      subst (λ (bs : List ℕ). Adds (now (a .work)) (c .before .before .note-line .last .1 .1 .0) (a .h .statements) bs)
-          (entered-more f (callLines (kind f (a .i))) (c .before .before .before .before .before .loop .l) (omega (arith, c .before .before .before .before .before .before .line-count .ensures)))
-          (adds-then (c .before .before .before .before .before .loop .inv .1) (c .before .before .note-line .ensures)),
-    )
+    let turn = c .before .before .before .before .before in
+    let f = flowOf (now (a .file)) in
+    (omega arith, adds-line (λ bs. bs) (λ xs ys. refl) f (callLines (kind f (a .i))) (turn .loop .l) (omega (arith, turn .before .line-count .ensures)) (turn .loop .inv .1) (c .before .before .note-line .ensures))
 
 same-length : tie.Need-same-length Inv-loop μ-loop
 same-length c = c .before .loop .inv .1 .kept .size
@@ -59,8 +55,7 @@ same-length c = c .before .loop .inv .1 .kept .size
 returns : tie.Need-returns Inv-loop μ-loop
 returns c =
     let a = c .before .before .before .before .before .before .args in
-    subst (λ (bs : List ℕ). Adds (now (a .work)) (c .before .loop .work) (a .h .statements) bs)
-    (entered-all (flowOf (now (a .file))) (a .i) (c .before .loop .l) (omega (arith, c .before .before .line-count .ensures))) (c .before .loop .inv .1)
+    adds-lines (λ bs. bs) (flowOf (now (a .file))) (a .i) (c .before .loop .l) (omega (arith, c .before .before .line-count .ensures)) (c .before .loop .inv .1)
 
 pub note-lines-spec : {M : Type 1} → statement M
 note-lines-spec =

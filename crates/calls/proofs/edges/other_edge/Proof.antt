@@ -13,8 +13,9 @@ use Rattle.flow.specs.Format.{flowOf}
 use Rattle.theory.specs.Lists.{has}
 use Rattle.theory.specs.Body.{successors, entered}
 use Rattle.theory.specs.Doubled.{at}
+use Rattle.statements.proofs.Keeps.{ready-most, ready-size}
 use Rattle.calls.specs.Slots.{otherSlots, edgeFrom, copyOf}
-use Rattle.calls.proofs.Checked.{ready-few, ready-size, successors-few, successor-below, entered-room}
+use Rattle.calls.proofs.Checked.{successors-few, successor-below, entered-room}
 use Rattle.calls.proofs.Found.{other-here, other-skip, other-end, left-out-is, base-most, to-copy, to}
 use Rattle.calls.proofs.edges.other_edge.Statement.{statement}
 use Rattle.calls.proofs.edges.other_edge.Tie as tie
@@ -50,7 +51,7 @@ below c =
     omega (arith, successor-below (start .pre .0) (start .args .i) (c .before .before .loop .c - start .args .first) (omega (arith, c .before .before .before .successor-count .ensures)), c .successor .ensures)
 
 left-out-requires : tie.Need-left-out-requires Inv-loop μ-loop
-left-out-requires c κs = let p = c .before .before .before .before .before .before .pre in (ready-few (p .0), entered-room (p .0) (p .1), below c)
+left-out-requires c κs = let p = c .before .before .before .before .before .before .pre in (ready-most (p .0), entered-room (p .0) (p .1), below c)
 
 -- there is a successor at c
 some-left : (c : tie.After-left-out Inv-loop μ-loop) → c .before .before .before .loop .c - c .before .before .before .before .before .before .before .args .first < length (successors (flowOf (now (c .before .before .before .before .before .before .before .args .file))) (c .before .before .before .before .before .before .before .args .i))
@@ -72,7 +73,7 @@ add-t16 : tie.Need-add-t16 Inv-loop μ-loop
 add-t16 c =
     let start = c .before .before .before .before .before .before .before .before in
     let a = start .args in
-    omega (arith, base-most (flowOf (now (a .file))) (a .base) (start .pre .2), ready-size (start .pre .0), ready-few (start .pre .0), below (c .before .before))
+    omega (arith, base-most (flowOf (now (a .file))) (a .base) (start .pre .2), ready-size (start .pre .0), ready-most (start .pre .0), below (c .before .before))
 
 more-fits : (c : tie.After-left-out Inv-loop μ-loop) → c .before .before .before .loop .c + 1 < 4294967296 + 4294967296
 more-fits c = let start = c .before .before .before .before .before .before .before in omega (arith, successors-few (start .pre .0) (start .pre .1), some-left c)

@@ -1,20 +1,19 @@
 -- `join_line` meets its contract: the line enters a body, whose walk joins the row, or nothing.
--- By the laws of `Adds`. Assumes nothing.
+-- By what a line adds. Assumes nothing.
 use Prim.Native.Nat.{ℕ}
 use mathlib.Core.List.{List}
-use mathlib.Core.Option.{some}
-use mathlib.Core.Path.{_≡_, sym, ap, _∙_, subst}
+use mathlib.Core.Path.{sym, _∙_, subst}
 use borrow.Author.Needs.{needs}
 use denote.Ref.{now}
 use lib.ListN.{getD}
 use Rattle.flow.specs.Flow.{enters}
 use Rattle.flow.specs.Format.{flowOf}
-use Rattle.theory.specs.Lists.{optionList}
 use Rattle.theory.specs.Body.{kind, callLines}
+use Rattle.statements.proofs.Keeps.{ready-formed, ready-below}
 use Rattle.calls.specs.Joins.{Adds, walks}
-use Rattle.calls.proofs.Checked.{ready-formed, ready-below, enters-at, enters-nothing}
-use Rattle.calls.proofs.Joined.{adds-none}
-use Rattle.calls.proofs.Gathered.{entered-line, walks-none, walks-one}
+use Rattle.calls.proofs.Checked.{enters-at}
+use Rattle.calls.proofs.Lines.{entered-line, adds-entered, adds-nothing}
+use Rattle.calls.proofs.Gathered.{walks-none, walks-one}
 use Rattle.calls.proofs.returns.join_line.Statement.{statement}
 use Rattle.calls.proofs.returns.join_line.Tie as tie
 
@@ -24,11 +23,6 @@ entered-requires c κs = search needs
 enum-known-b : tie.Need-enum-known-b
 enum-known-b c = search needs
 
--- the line enters the body at hand
-enters-b : (c : tie.After-b) → let a = c .before .before .before .before .before .before .args in
-    enters (flowOf (now (a .file))) (getD (callLines (kind (flowOf (now (a .file))) (a .c))) (a .l) 0) ≡ some (c .b .given .0 .0 .0)
-enters-b c = enters-at _ _ (sym (c .before .before .entered .ensures) ∙ c .b .given .1)
-
 join-walk-requires : tie.Need-join-walk-requires
 join-walk-requires c κs =
     let start = c .before .before .before .before .before .before .before .before in
@@ -36,7 +30,7 @@ join-walk-requires c κs =
     let f = flowOf (now (a .file)) in
     let ready = start .pre .0 in
     let b = c .before .before .b .given .0 .0 .0 in
-    let e = enters-b (c .before .before) in (
+    let e = enters-at _ _ (sym (c .before .before .before .before .entered .ensures) ∙ c .before .before .b .given .1) in (
       ready,
       ready-below ready (ready-formed ready .first (getD (callLines (kind f (a .c))) (a .l) 0) b e),
       start .pre .4 b (entered-line f (a .c) (a .l) b (start .pre .3) e),
@@ -49,24 +43,21 @@ same-length : tie.Need-same-length
 same-length c = search needs
 
 returns : tie.Need-returns
-unfolding optionList
 returns c =
     let a = c .before .before .before .before .before .before .before .before .before .before .before .args in
     let f = flowOf (now (a .file)) in
-    subst (λ (xs : List ℕ). Adds (now (a .work)) (c .before .before .join-walk .last .1 .0) (a .h .statements) xs)
-    (sym (ap (λ o. walks f (optionList o)) (enters-b (c .before .before .before .before .before)) ∙ walks-one f (c .before .before .before .before .before .b .given .0 .0 .0))) (c .before .before .join-walk .ensures)
+    let turn = c .before .before .before .before .before in
+    adds-entered (walks f) (enters f (getD (callLines (kind f (a .c))) (a .l) 0)) (sym (turn .before .before .entered .ensures) ∙ turn .b .given .1)
+    (subst (λ (xs : List ℕ). Adds (now (a .work)) (c .before .before .join-walk .last .1 .0) (a .h .statements) xs) (sym (walks-one f (turn .b .given .0 .0 .0))) (c .before .before .join-walk .ensures))
 
 same-length-2 : tie.Need-same-length-2
 same-length-2 c = search needs
 
 returns-2 : tie.Need-returns-2
-unfolding optionList
 returns-2 c =
     let a = c .before .before .before .before .before .before .args in
     let f = flowOf (now (a .file)) in
-    subst (λ (xs : List ℕ). Adds (now (a .work)) (now (a .work)) (a .h .statements) xs)
-    (sym (ap (λ o. walks f (optionList o)) (enters-nothing (enters f (getD (callLines (kind f (a .c))) (a .l) 0)) (sym (c .before .before .entered .ensures) ∙ c .enum-told .given .1)) ∙ walks-none f))
-    adds-none
+    adds-nothing (walks f) (enters f (getD (callLines (kind f (a .c))) (a .l) 0)) (sym (c .before .before .entered .ensures) ∙ c .enum-told .given .1) (walks-none f)
 
 pub join-line-spec : {M : Type 1} → statement M
 join-line-spec =

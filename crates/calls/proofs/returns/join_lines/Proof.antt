@@ -1,8 +1,6 @@
 -- `join_lines` meets its contract. The invariant: the row has gained the walks of the bodies that the lines before l enter. So the rows of walks stay.
 -- The measure is how many lines are left. Assumes nothing.
-use Prim.Native.Nat.{ℕ, _-_, _≤_}
-use mathlib.Core.List.{List}
-use mathlib.Core.Path.{subst}
+use Prim.Native.Nat.{_-_, _≤_}
 use native.Mathlib.Omega.{arith}
 use borrow.Author.Needs.{needs}
 use denote.Ref.{now}
@@ -11,11 +9,11 @@ use Rattle.flow.specs.Format.{flowOf}
 use Rattle.theory.specs.Lists.{concatMap}
 use Rattle.theory.specs.Body.{kind, callLines}
 use Rattle.statements.proofs.WorkArea.{row-from}
-use Rattle.statements.proofs.Keeps.{ready-keeps}
+use Rattle.statements.proofs.Keeps.{ready-keeps, ready-formed, ready-size}
 use Rattle.calls.specs.Joins.{Adds, walks}
-use Rattle.calls.proofs.Checked.{ready-formed, ready-size}
-use Rattle.calls.proofs.Joined.{adds-none, adds-then}
-use Rattle.calls.proofs.Gathered.{enteredBy, entered-all, rows-stay, walks-more}
+use Rattle.calls.proofs.Joined.{adds-none}
+use Rattle.calls.proofs.Lines.{enteredBy, adds-line, adds-lines}
+use Rattle.calls.proofs.Gathered.{rows-stay, walks-append}
 use Rattle.calls.proofs.returns.join_lines.Statement.{statement}
 use Rattle.calls.proofs.returns.join_lines.Tie as tie
 
@@ -55,14 +53,9 @@ loop-less c = omega arith
 loop-again : tie.Need-loop-again Inv-loop μ-loop
 loop-again c =
     let a = c .before .before .before .before .before .before .before .before .before .before .args in
+    let turn = c .before .before .before .before .before in
     let f = flowOf (now (a .file)) in
-    let lines = callLines (kind f (a .c)) in
-    let l = c .before .before .before .before .before .loop .l in (
-      omega arith,
-      subst (λ (xs : List ℕ). Adds (now (a .work)) (c .before .before .join-line .last .1 .1 .0) (a .h .statements) xs)
-          (walks-more f lines l (omega (arith, c .before .before .before .before .before .before .line-count .ensures)))
-          (adds-then (c .before .before .before .before .before .loop .inv .1) (c .before .before .join-line .ensures)),
-    )
+    (omega arith, adds-line (walks f) (walks-append f) f (callLines (kind f (a .c))) (turn .loop .l) (omega (arith, turn .before .line-count .ensures)) (turn .loop .inv .1) (c .before .before .join-line .ensures))
 
 same-length : tie.Need-same-length Inv-loop μ-loop
 same-length c = c .before .loop .inv .1 .kept .size
@@ -71,8 +64,7 @@ returns : tie.Need-returns Inv-loop μ-loop
 returns c =
     let a = c .before .before .before .before .before .before .args in
     let f = flowOf (now (a .file)) in
-    subst (λ (bs : List ℕ). Adds (now (a .work)) (c .before .loop .work) (a .h .statements) (walks f bs))
-    (entered-all f (a .c) (c .before .loop .l) (omega (arith, c .before .before .line-count .ensures))) (c .before .loop .inv .1)
+    adds-lines (walks f) f (a .c) (c .before .loop .l) (omega (arith, c .before .before .line-count .ensures)) (c .before .loop .inv .1)
 
 pub join-lines-spec : {M : Type 1} → statement M
 join-lines-spec =

@@ -11,7 +11,8 @@ use Rattle.flow.specs.Format.{flowOf}
 use Rattle.theory.specs.Body.{walked}
 use Rattle.statements.specs.Layout.{enteredAt}
 use Rattle.statements.proofs.WorkArea.{row-fits, row-words-le}
-use Rattle.calls.proofs.Checked.{ready-few, ready-formed, ready-size, ready-room, entered-room, entered-word}
+use Rattle.statements.proofs.Keeps.{ready-most, ready-formed, ready-size, ready-room}
+use Rattle.calls.proofs.Checked.{entered-room, entered-word}
 use Rattle.calls.proofs.Joined.{adds-insert, union-at, adds-union, adds-same}
 use Rattle.calls.proofs.Gathered.{return-walk, row-walked}
 use Rattle.calls.proofs.returns.join_walk.Statement.{statement}
@@ -21,20 +22,20 @@ is-return-requires : tie.Need-is-return-requires
 is-return-requires c κs = search needs
 
 entered-requires : tie.Need-entered-requires
-entered-requires c κs = ready-few (c .before .before .before .before .before .before .pre .0)
+entered-requires c κs = ready-most (c .before .before .before .before .before .before .pre .0)
 
 insert-requires : tie.Need-insert-requires
 insert-requires c κs = let start = c .before .before .before .before .before .before .before in
     omega (arith, entered-word (start .pre .0) (start .pre .1), c .entered .ensures)
 
 entered-requires-2 : tie.Need-entered-requires-2
-entered-requires-2 c κs = ready-few (c .before .before .before .before .before .before .pre .0)
+entered-requires-2 c κs = ready-most (c .before .before .before .before .before .before .pre .0)
 
 row-requires : tie.Need-row-requires
-row-requires c κs = (ready-few (c .before .before .before .before .before .before .before .pre .0), omega arith)
+row-requires c κs = (ready-most (c .before .before .before .before .before .before .before .pre .0), omega arith)
 
 row-words-requires : tie.Need-row-words-requires
-row-words-requires c κs = ready-few (c .before .before .before .before .before .before .before .before .pre .0)
+row-words-requires c κs = ready-most (c .before .before .before .before .before .before .before .before .pre .0)
 
 union-requires : tie.Need-union-requires
 union-requires c κs =

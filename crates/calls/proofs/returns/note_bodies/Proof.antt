@@ -6,8 +6,7 @@ use denote.Ref.{now}
 use Rattle.flow.specs.Format.{flowOf}
 use Rattle.theory.specs.Body.{entered}
 use Rattle.statements.proofs.WorkArea.{row-from}
-use Rattle.statements.proofs.Keeps.{keeps-trans, ready-keeps}
-use Rattle.calls.proofs.Checked.{ready-few, ready-formed, ready-size}
+use Rattle.statements.proofs.Keeps.{keeps-trans, ready-keeps, ready-most, ready-formed, ready-size}
 use Rattle.calls.proofs.Joined.{joins-after}
 use Rattle.calls.proofs.Gathered.{rows-stay, bodies-noted}
 use Rattle.calls.proofs.returns.note_bodies.Statement.{statement}
@@ -16,7 +15,7 @@ use Rattle.calls.proofs.returns.note_bodies.Tie as tie
 clear-entered-requires : tie.Need-clear-entered-requires
 clear-entered-requires c κs =
     let ready = c .before .before .before .pre .0 in
-    (omega arith, ready-few ready, ready .room)
+    (omega arith, ready-most ready, ready .room)
 
 join-lines-requires : tie.Need-join-lines-requires
 join-lines-requires c κs =

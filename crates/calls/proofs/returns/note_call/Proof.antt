@@ -8,13 +8,14 @@ use denote.Ref.{now}
 use lib.ListN.{getD}
 use Rattle.flow.specs.Format.{flowOf}
 use Rattle.theory.specs.Body.{kind, continuationOf}
-use Rattle.calls.proofs.Checked.{ready-few, ready-formed, ready-below, continues-to, continues-nowhere}
+use Rattle.statements.proofs.Keeps.{ready-most, ready-formed, ready-below}
+use Rattle.calls.proofs.Checked.{continues-to, continues-nowhere}
 use Rattle.calls.proofs.Gathered.{call-none, call-clear, call-opaque}
 use Rattle.calls.proofs.returns.note_call.Statement.{statement}
 use Rattle.calls.proofs.returns.note_call.Tie as tie
 
 calls-requires : tie.Need-calls-requires
-calls-requires c κs = ready-few (c .before .before .pre .0)
+calls-requires c κs = ready-most (c .before .before .pre .0)
 
 add-if1 : tie.Need-add-if1
 add-if1 c = search needs

@@ -8,8 +8,8 @@ use Rattle.words.specs.Row.{nextMember}
 use Rattle.words.proofs.NextMember.{first}
 use Rattle.flow.specs.Format.{flowOf}
 use Rattle.statements.specs.Ready.{Ready}
-use Rattle.statements.proofs.Keeps.{ready-keeps}
-use Rattle.calls.proofs.Checked.{ready-few, members-room}
+use Rattle.statements.proofs.Keeps.{ready-keeps, ready-most}
+use Rattle.calls.proofs.Checked.{members-room}
 use Rattle.calls.proofs.Gathered.{Noting, noting-start, noting-on, noting-done}
 use Rattle.calls.proofs.returns.note_members.Statement.{statement}
 use Rattle.calls.proofs.returns.note_members.Tie as tie
@@ -21,7 +21,7 @@ abbrev μ-loop : tie.MeasureT-loop
 μ-loop file work₀ n k row r₀ work r = n - r
 
 entered-requires : tie.Need-entered-requires Inv-loop μ-loop
-entered-requires c κs = ready-few (c .before .before .pre .0)
+entered-requires c κs = ready-most (c .before .before .pre .0)
 
 next-requires : tie.Need-next-requires Inv-loop μ-loop
 next-requires c κs = let start = c .before .before .before .before in omega (arith, members-room (start .pre .0) (start .pre .1), c .before .entered .ensures)

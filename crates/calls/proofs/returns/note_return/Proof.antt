@@ -6,7 +6,8 @@ use native.Mathlib.Omega.{arith}
 use borrow.Author.Needs.{needs}
 use denote.Ref.{now}
 use Rattle.words.specs.Change.{Inserted}
-use Rattle.calls.proofs.Checked.{ready-few, row-word, matrix-room}
+use Rattle.statements.proofs.Keeps.{ready-most}
+use Rattle.calls.proofs.Checked.{row-word, matrix-room}
 use Rattle.calls.proofs.Joined.{joins-insert, joins-skip}
 use Rattle.calls.proofs.returns.note_return.Statement.{statement}
 use Rattle.calls.proofs.returns.note_return.Tie as tie
@@ -15,7 +16,7 @@ is-return-requires : tie.Need-is-return-requires
 is-return-requires c κs = search needs
 
 row-requires : tie.Need-row-requires
-row-requires c κs = (ready-few (c .before .before .before .before .before .before .pre .0), omega arith)
+row-requires c κs = (ready-most (c .before .before .before .before .before .before .pre .0), omega arith)
 
 insert-requires : tie.Need-insert-requires
 insert-requires c κs = let start = c .before .before .before .before .before .before .before in

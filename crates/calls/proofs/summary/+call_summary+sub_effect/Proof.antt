@@ -17,11 +17,11 @@ use Rattle.theory.specs.Lists as lists
 use Rattle.theory.specs.Body.{kind, callLines, continuationOf, callees, Walks}
 use Rattle.statements.specs.Layout.{callsAt, bodiesAt, matrixAt, enteredAt}
 use Rattle.statements.specs.Ready.{Ready, Keeps}
-use Rattle.statements.proofs.Keeps.{ready-keeps, keeps-set}
+use Rattle.statements.proofs.Keeps.{ready-keeps, keeps-set, ready-most, ready-size, ready-formed}
 use Rattle.statements.proofs.WorkArea.{row-from}
 use Rattle.calls.specs.Held.{unentered, opened, clear, EmptyRow, Walked}
 use Rattle.calls.specs.Summing.{body, call, settled, Summing, OnwardBut, Onward, Leads, BodySummed, CallSummed}
-use Rattle.calls.proofs.Checked.{ready-few, ready-size, ready-formed, row-room, continues-to, continues-nowhere, enters-at, enters-nothing}
+use Rattle.calls.proofs.Checked.{row-room, continues-to, continues-nowhere, enters-at, enters-nothing}
 use Rattle.calls.proofs.Summing.{onward-refl, onward-trans, onward-but, body-open, onward-open, summing-open, rows-set, callee-low}
 use Rattle.calls.proofs.BodySummary.{BodyLoop, PassedBelow, body-next, passed-none, body-turn, body-done, body-leads, return-done, referred-summing, referred-onward, next-low, unentered-row}
 use Rattle.calls.proofs.CallSummary.{CallLoop, call-first, call-nothing, call-line, call-done, leads-onward, line-callee}
@@ -131,13 +131,13 @@ call-bounds : (t : ℕ) (c : call-summary-lts.After-calls (call-claims t) (call-
 call-bounds t c = omega (arith, c .calls .ensures, c .before .before .before .pre .1 .2)
 
 call-summary-calls-requires : (t : ℕ) → call-summary-lts.Need-calls-requires (call-claims t) (call-summary-at t) call-summary.Post call-summary-Inv-loop call-summary-μ-loop
-call-summary-calls-requires t c κs = ready-few (c .before .before .pre .1 .0)
+call-summary-calls-requires t c κs = ready-most (c .before .before .pre .1 .0)
 
 call-summary-add-at : (t : ℕ) → call-summary-lts.Need-add-at (call-claims t) (call-summary-at t) call-summary.Post call-summary-Inv-loop call-summary-μ-loop
-call-summary-add-at t c = omega (arith, call-bounds t c, ready-few (c .before .before .before .pre .1 .0))
+call-summary-add-at t c = omega (arith, call-bounds t c, ready-most (c .before .before .before .pre .1 .0))
 
 call-summary-mul-if1 : (t : ℕ) → call-summary-lts.Need-mul-if1 (call-claims t) (call-summary-at t) call-summary.Post call-summary-Inv-loop call-summary-μ-loop
-call-summary-mul-if1 t c = omega (arith, call-bounds t c, ready-few (c .before .before .before .pre .1 .0))
+call-summary-mul-if1 t c = omega (arith, call-bounds t c, ready-most (c .before .before .before .pre .1 .0))
 
 call-summary-slice-read-if1 : (t : ℕ) → call-summary-lts.Need-slice-read-if1 (call-claims t) (call-summary-at t) call-summary.Post call-summary-Inv-loop call-summary-μ-loop
 call-summary-slice-read-if1 t c = omega (arith, call-bounds t (c .before), c .before .before .before .before .pre .1 .0 .room)
@@ -239,7 +239,7 @@ call-summary-join-body-requires : (t : ℕ) → call-summary-lts.Need-join-body-
 call-summary-join-body-requires t c κs =
     let d = c .before .before .before .before .before .before in
     let s = from t d in
-    (record { few = ready-few (s .pre .1 .0); room = omega (arith, call-ready t (call-turn t d) .room, c .before .before .before .sub-effect .kept .1 .1 .0) }, s .pre .1 .2, callee-below t d)
+    (record { few = ready-most (s .pre .1 .0); room = omega (arith, call-ready t (call-turn t d) .room, c .before .before .before .sub-effect .kept .1 .1 .0) }, s .pre .1 .2, callee-below t d)
 
 call-summary-enum-told-3 : (t : ℕ) → call-summary-lts.Need-enum-told-3 (call-claims t) (call-summary-at t) call-summary.Post call-summary-Inv-loop call-summary-μ-loop
 call-summary-enum-told-3 t c = search needs
@@ -271,7 +271,7 @@ call-summary-settled-requires : (t : ℕ) → call-summary-lts.Need-settled-requ
 call-summary-settled-requires t c κs = search needs
 
 call-summary-mul-work : (t : ℕ) → call-summary-lts.Need-mul-work (call-claims t) (call-summary-at t) call-summary.Post call-summary-Inv-loop call-summary-μ-loop
-call-summary-mul-work t c = omega (arith, call-bounds t (c .before .before .before .before .before .before .before .before .before .before .before), ready-few (c .before .before .before .before .before .before .before .before .before .before .before .before .before .before .pre .1 .0))
+call-summary-mul-work t c = omega (arith, call-bounds t (c .before .before .before .before .before .before .before .before .before .before .before), ready-most (c .before .before .before .before .before .before .before .before .before .before .before .before .before .before .pre .1 .0))
 
 call-summary-slice-write-work : (t : ℕ) → call-summary-lts.Need-slice-write-work (call-claims t) (call-summary-at t) call-summary.Post call-summary-Inv-loop call-summary-μ-loop
 call-summary-slice-write-work t c = omega (arith, call-bounds t (c .before .before .before .before .before .before .before .before .before .before .before), c .before .before .before .before .before .before .before .before .before .before .before .before .before .before .pre .1 .0 .room, c .before .before .loop .inv .onward .keeps .size)
@@ -295,13 +295,13 @@ body-bounds : (t : ℕ) (c : sub-effect-lts.After-bodies (sub-claims t) (sub-eff
 body-bounds t c = omega (arith, c .bodies .ensures, c .before .before .before .pre .1 .2)
 
 sub-effect-bodies-requires : (t : ℕ) → sub-effect-lts.Need-bodies-requires (sub-claims t) (sub-effect-at t) sub-effect.Post sub-effect-Inv-loop sub-effect-μ-loop
-sub-effect-bodies-requires t c κs = ready-few (c .before .before .pre .1 .0)
+sub-effect-bodies-requires t c κs = ready-most (c .before .before .pre .1 .0)
 
 sub-effect-add-at : (t : ℕ) → sub-effect-lts.Need-add-at (sub-claims t) (sub-effect-at t) sub-effect.Post sub-effect-Inv-loop sub-effect-μ-loop
-sub-effect-add-at t c = omega (arith, body-bounds t c, ready-few (c .before .before .before .pre .1 .0))
+sub-effect-add-at t c = omega (arith, body-bounds t c, ready-most (c .before .before .before .pre .1 .0))
 
 sub-effect-mul-if1 : (t : ℕ) → sub-effect-lts.Need-mul-if1 (sub-claims t) (sub-effect-at t) sub-effect.Post sub-effect-Inv-loop sub-effect-μ-loop
-sub-effect-mul-if1 t c = omega (arith, body-bounds t c, ready-few (c .before .before .before .pre .1 .0))
+sub-effect-mul-if1 t c = omega (arith, body-bounds t c, ready-most (c .before .before .before .pre .1 .0))
 
 sub-effect-slice-read-if1 : (t : ℕ) → sub-effect-lts.Need-slice-read-if1 (sub-claims t) (sub-effect-at t) sub-effect.Post sub-effect-Inv-loop sub-effect-μ-loop
 sub-effect-slice-read-if1 t c = omega (arith, body-bounds t (c .before), c .before .before .before .before .pre .1 .0 .room)
@@ -333,7 +333,7 @@ sub-effect-join-references-requires : (t : ℕ) → sub-effect-lts.Need-join-ref
 sub-effect-join-references-requires t c κs = let p = c .before .before .before .before .before .before .before .before .before .pre .1 in (p .0, p .2, p .2)
 
 sub-effect-mul-work : (t : ℕ) → sub-effect-lts.Need-mul-work (sub-claims t) (sub-effect-at t) sub-effect.Post sub-effect-Inv-loop sub-effect-μ-loop
-sub-effect-mul-work t c = omega (arith, body-bounds t (c .before .before .before .before .before .before .before .before .before), ready-few (c .before .before .before .before .before .before .before .before .before .before .before .before .pre .1 .0))
+sub-effect-mul-work t c = omega (arith, body-bounds t (c .before .before .before .before .before .before .before .before .before), ready-most (c .before .before .before .before .before .before .before .before .before .before .before .before .pre .1 .0))
 
 sub-effect-slice-write-work : (t : ℕ) → sub-effect-lts.Need-slice-write-work (sub-claims t) (sub-effect-at t) sub-effect.Post sub-effect-Inv-loop sub-effect-μ-loop
 sub-effect-slice-write-work t c = omega (arith, body-bounds t (c .before .before .before .before .before .before .before .before .before), c .before .before .before .before .before .before .before .before .before .before .before .before .pre .1 .0 .room, c .before .before .join-references .kept .1 .0)
@@ -350,7 +350,7 @@ sub-effect-returns-2 t c =
     (return-done (ready-formed r) (ready-size r) (s .pre .1 .3) (body-room t d) (s .pre .1 .2) (was-unentered t d) (sym (c .before .before .before .before .before .is-return .ensures) ∙ c .before .before .before .before .if2 .taken) (c .before .before .join-references .ensures))
 
 sub-effect-mul-work-2 : (t : ℕ) → sub-effect-lts.Need-mul-work-2 (sub-claims t) (sub-effect-at t) sub-effect.Post sub-effect-Inv-loop sub-effect-μ-loop
-sub-effect-mul-work-2 t c = omega (arith, body-bounds t (c .before .before .before .before .before), ready-few (c .before .before .before .before .before .before .before .before .pre .1 .0))
+sub-effect-mul-work-2 t c = omega (arith, body-bounds t (c .before .before .before .before .before), ready-most (c .before .before .before .before .before .before .before .before .pre .1 .0))
 
 sub-effect-slice-write-work-2 : (t : ℕ) → sub-effect-lts.Need-slice-write-work-2 (sub-claims t) (sub-effect-at t) sub-effect.Post sub-effect-Inv-loop sub-effect-μ-loop
 sub-effect-slice-write-work-2 t c = omega (arith, body-bounds t (c .before .before .before .before .before), c .before .before .before .before .before .before .before .before .pre .1 .0 .room)
@@ -407,7 +407,7 @@ module _ (t : ℕ) (c : sub-effect-lts.After-walk (sub-claims t) (sub-effect-at 
       summing-open (ready-formed r) (ready-size r) (entry .pre .1 .3) (body-room t unentered-at) (entry .pre .1 .2) is-walked (sym (c .before .before .before .is-return .ensures) ∙ c .before .before .if2 .left)
 
 sub-effect-row-requires : (t : ℕ) → sub-effect-lts.Need-row-requires (sub-claims t) (sub-effect-at t) sub-effect.Post sub-effect-Inv-loop sub-effect-μ-loop
-sub-effect-row-requires t c κs = let s = entry t (c .before .before) in (ready-few (s .pre .1 .0), omega (arith, s .pre .1 .2))
+sub-effect-row-requires t c κs = let s = entry t (c .before .before) in (ready-most (s .pre .1 .0), omega (arith, s .pre .1 .2))
 
 sub-effect-next-requires : (t : ℕ) → sub-effect-lts.Need-next-requires (sub-claims t) (sub-effect-at t) sub-effect.Post sub-effect-Inv-loop sub-effect-μ-loop
 sub-effect-next-requires t c κs =
@@ -488,7 +488,7 @@ sub-effect-join-call-requires t c κs =
     let d = c .before .before .before .before .before .before .before .before .before in
     let turn = of-turn t d in
     let s = given t turn in
-    (record { few = ready-few (s .pre .1 .0); room = omega (arith, turn-room t turn, noted-onward t d .keeps .size, c .before .before .before .call-summary .kept .1 .1 .0) }, s .pre .1 .2, turn .loop-test .taken)
+    (record { few = ready-most (s .pre .1 .0); room = omega (arith, turn-room t turn, noted-onward t d .keeps .size, c .before .before .before .call-summary .kept .1 .1 .0) }, s .pre .1 .2, turn .loop-test .taken)
 
 -- i is passed by
 module _ (t : ℕ) (c : sub-effect-lts.After-join-call (sub-claims t) (sub-effect-at t) sub-effect.Post sub-effect-Inv-loop sub-effect-μ-loop) where
@@ -509,7 +509,7 @@ module _ (t : ℕ) (c : sub-effect-lts.After-join-call (sub-claims t) (sub-effec
       ready-keeps (given t turned .pre .1 .0) (onward-trans (walk-onward t (walk-done t turned)) (onward-but (given t turned .args .e) (passed .onward)) .keeps) (omega arith)
 
 sub-effect-add-next : (t : ℕ) → sub-effect-lts.Need-add-next (sub-claims t) (sub-effect-at t) sub-effect.Post sub-effect-Inv-loop sub-effect-μ-loop
-sub-effect-add-next t c = let turn = turned t (c .before .before .before) in omega (arith, turn .loop-test .taken, ready-few (given t turn .pre .1 .0))
+sub-effect-add-next t c = let turn = turned t (c .before .before .before) in omega (arith, turn .loop-test .taken, ready-most (given t turn .pre .1 .0))
 
 sub-effect-next-requires-2 : (t : ℕ) → sub-effect-lts.Need-next-requires-2 (sub-claims t) (sub-effect-at t) sub-effect.Post sub-effect-Inv-loop sub-effect-μ-loop
 sub-effect-next-requires-2 t c κs =
@@ -530,7 +530,7 @@ sub-effect-settled-requires : (t : ℕ) → sub-effect-lts.Need-settled-requires
 sub-effect-settled-requires t c κs = search needs
 
 sub-effect-mul-work-3 : (t : ℕ) → sub-effect-lts.Need-mul-work-3 (sub-claims t) (sub-effect-at t) sub-effect.Post sub-effect-Inv-loop sub-effect-μ-loop
-sub-effect-mul-work-3 t c = omega (arith, body-bounds t (c .before .before .before .before .before .before .before .before .before .before .before .before .before .before .before), ready-few (c .before .before .before .before .before .before .before .before .before .before .before .before .before .before .before .before .before .before .pre .1 .0))
+sub-effect-mul-work-3 t c = omega (arith, body-bounds t (c .before .before .before .before .before .before .before .before .before .before .before .before .before .before .before), ready-most (c .before .before .before .before .before .before .before .before .before .before .before .before .before .before .before .before .before .before .pre .1 .0))
 
 -- the walk is passed by
 module _ (t : ℕ) (c : sub-effect-lts.At-loop (sub-claims t) (sub-effect-at t) sub-effect.Post sub-effect-Inv-loop sub-effect-μ-loop) where

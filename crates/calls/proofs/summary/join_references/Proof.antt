@@ -5,7 +5,7 @@ use Prim.Native.Nat.{ℕ, _+_}
 use mathlib.Core.Path.{ap, _∙_}
 use denote.Ref.{now}
 use Rattle.words.specs.Change.{joined}
-use Rattle.calls.proofs.Checked.{ready-few}
+use Rattle.statements.proofs.Keeps.{ready-most}
 use Rattle.calls.proofs.summary.join_references.Statement.{statement}
 use Rattle.calls.proofs.summary.join_references.Tie as tie
 
@@ -13,7 +13,7 @@ references-word-requires : tie.Need-references-word-requires
 references-word-requires c κs = search needs
 
 touched-requires : tie.Need-touched-requires
-touched-requires c κs = ready-few (c .before .before .before .before .before .pre .0)
+touched-requires c κs = ready-most (c .before .before .before .before .before .pre .0)
 
 add-union-word : tie.Need-add-union-word
 add-union-word c = search needs

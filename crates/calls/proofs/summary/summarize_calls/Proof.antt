@@ -5,8 +5,7 @@ use native.Mathlib.Omega.{arith}
 use denote.Ref.{now}
 use Rattle.words.specs.Row.{Words}
 use Rattle.flow.specs.Format.{flowOf}
-use Rattle.statements.proofs.Keeps.{ready-keeps}
-use Rattle.calls.proofs.Checked.{ready-few, ready-size, ready-formed}
+use Rattle.statements.proofs.Keeps.{ready-keeps, ready-most, ready-size, ready-formed}
 use Rattle.calls.proofs.Summaries.{SummedBelow, below-first, below-next, summarized, fresh-summing, fresh-shut}
 use Rattle.calls.proofs.summary.summarize_calls.Statement.{statement}
 use Rattle.calls.proofs.summary.summarize_calls.Tie as tie
@@ -27,7 +26,7 @@ call-summary-requires c κs =
     (ready-keeps (s .pre .0) (p .onward .keeps) (omega arith), s .pre .1, c .before .loop-test .taken, p .summing, λ b m o l h. absurd (fresh-shut (s .pre .2) o l (p .onward .was-open o l (λ q. omega arith) h)))
 
 add-c : tie.Need-add-c Inv-loop μ-loop
-add-c c = omega (arith, c .before .before .before .before .loop-test .taken, ready-few (c .before .before .before .before .before .before .before .before .pre .0))
+add-c c = omega (arith, c .before .before .before .before .loop-test .taken, ready-most (c .before .before .before .before .before .before .before .before .pre .0))
 
 loop-less : tie.Need-loop-less Inv-loop μ-loop
 loop-less c = omega (arith, c .before .before .before .before .loop-test .taken)

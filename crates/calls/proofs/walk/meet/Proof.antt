@@ -17,7 +17,7 @@ use Rattle.calls.proofs.walk.meet.Statement.{statement}
 use Rattle.calls.proofs.walk.meet.Tie as tie
 
 row-requires : tie.Need-row-requires
-row-requires c κs = let p = c .before .before .pre in (p .0 .few, omega arith)
+row-requires c κs = let p = c .before .before .pre in (p .0 .area .few, omega arith)
 
 insert-requires : tie.Need-insert-requires
 insert-requires c κs =
@@ -25,7 +25,7 @@ insert-requires c κs =
     omega (arith, c .row .ensures, in-row (p .0) (p .1) (p .2))
 
 queue-requires : tie.Need-queue-requires
-queue-requires c κs = c .before .before .before .before .before .before .before .pre .0 .few
+queue-requires c κs = c .before .before .before .before .before .before .before .pre .0 .area .few
 
 -- the stack has room for i
 module _ (c : tie.After-queue) where
@@ -44,19 +44,19 @@ module _ (c : tie.After-queue) where
   room : queueAt (start .args .n) + start .args .top < 47 * start .args .n
   room =
       let p = start .pre in
-      omega (arith, insert-room (p .0) (p .1) (p .2) (row .row .ensures) inserted is-new, row-below (p .0 .few) (le-refl (start .args .n)))
+      omega (arith, insert-room (p .0) (p .1) (p .2) (row .row .ensures) inserted is-new, row-below (p .0 .area .few) (le-refl (start .args .n)))
 
 add-work : tie.Need-add-work
-add-work c = omega (arith, room c, start c .pre .0 .few, c .queue .ensures)
+add-work c = omega (arith, room c, start c .pre .0 .area .few, c .queue .ensures)
 
 mul-work : tie.Need-mul-work
-mul-work c = omega (arith, room c, start c .pre .0 .few, c .queue .ensures)
+mul-work c = omega (arith, room c, start c .pre .0 .area .few, c .queue .ensures)
 
 slice-write-work : tie.Need-slice-write-work
-slice-write-work c = omega (arith, room c, start c .pre .0 .room, c .queue .ensures, c .before .before .before .before .insert .kept .0)
+slice-write-work c = omega (arith, room c, start c .pre .0 .area .room, c .queue .ensures, c .before .before .before .before .insert .kept .0)
 
 add-result : tie.Need-add-result
-add-result c = omega (arith, room c, start c .pre .0 .few)
+add-result c = omega (arith, room c, start c .pre .0 .area .few)
 
 same-length : tie.Need-same-length
 same-length c = length-set (c .before .before .before .before .insert .last .0) _ _ ∙ c .before .before .before .before .insert .kept .0

@@ -7,7 +7,8 @@ use borrow.Author.Needs.{needs}
 use denote.Ref.{now}
 use Rattle.flow.specs.Format.{flowOf}
 use Rattle.theory.specs.Body.{kind, continuationOf, isReturn}
-use Rattle.calls.proofs.Checked.{ready-formed, ready-below, continues-to, continues-nowhere}
+use Rattle.statements.proofs.Keeps.{ready-formed, ready-below}
+use Rattle.calls.proofs.Checked.{continues-to, continues-nowhere}
 use Rattle.calls.proofs.Walking.{met-return, met-next}
 use Rattle.calls.proofs.walk.meet_next.Statement.{statement}
 use Rattle.calls.proofs.walk.meet_next.Tie as tie

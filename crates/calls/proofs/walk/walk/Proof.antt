@@ -8,9 +8,9 @@ use lib.ListN.{getD}
 use Rattle.flow.specs.Format.{flowOf}
 use Rattle.statements.specs.Layout.{queueAt}
 use Rattle.statements.specs.Ready.{Ready}
-use Rattle.statements.proofs.Keeps.{ready-keeps}
+use Rattle.statements.proofs.Keeps.{ready-keeps, ready-most}
 use Rattle.calls.specs.Walking.{Stack}
-use Rattle.calls.proofs.Checked.{ready-few, ready-next}
+use Rattle.calls.proofs.Checked.{ready-next}
 use Rattle.calls.proofs.Walking.{Walking, left, only-keeps, only-trans, walking-first, walking-next, left-falls, walking-end, stack-fits, stack-less}
 use Rattle.calls.proofs.walk.walk.Statement.{statement}
 use Rattle.calls.proofs.walk.walk.Tie as tie
@@ -22,7 +22,7 @@ abbrev μ-loop : tie.MeasureT-loop
 μ-loop file work₀ n e top₀ work top = left work n e top
 
 empty-stack : (c : tie.Start Inv-loop μ-loop) → Stack (now (c .args .work)) (c .args .n) (c .args .e) 0
-empty-stack c = record { few = ready-few (c .pre .0); room = c .pre .0 .room; high = zero-le }
+empty-stack c = record { area = record { few = ready-most (c .pre .0); room = c .pre .0 .room }; high = zero-le }
 
 meet-requires : tie.Need-meet-requires Inv-loop μ-loop
 meet-requires c κs = let s = c .before .before .before in (empty-stack s, s .pre .1, s .pre .1)
@@ -54,13 +54,13 @@ module _ (c : tie.In-loop Inv-loop μ-loop) where
   ready = ready-keeps (start .pre .0) (only-keeps (only-trans (c .before .before .before .before .meet .ensures .only) (c .before .loop .inv .only))) (omega arith)
 
 queue-requires : tie.Need-queue-requires Inv-loop μ-loop
-queue-requires c κs = ready-few (start c .pre .0)
+queue-requires c κs = ready-most (start c .pre .0)
 
 add-i : tie.Need-add-i Inv-loop μ-loop
-add-i c = omega (arith, within (c .before), ready-few (start (c .before) .pre .0), c .queue .ensures)
+add-i c = omega (arith, within (c .before), ready-most (start (c .before) .pre .0), c .queue .ensures)
 
 mul-i : tie.Need-mul-i Inv-loop μ-loop
-mul-i c = omega (arith, within (c .before), ready-few (start (c .before) .pre .0), c .queue .ensures)
+mul-i c = omega (arith, within (c .before), ready-most (start (c .before) .pre .0), c .queue .ensures)
 
 slice-read-i : tie.Need-slice-read-i Inv-loop μ-loop
 slice-read-i c = omega (arith, within (c .before .before), ready (c .before .before) .room, c .before .queue .ensures)

@@ -13,9 +13,8 @@ use Rattle.theory.specs.Doubled.{doubled}
 use Rattle.theory.specs.Queue.{visitBound}
 use Rattle.statements.specs.Layout.{queueAt, areaEnd}
 use Rattle.statements.specs.Ready.{Keeps}
-use Rattle.statements.proofs.Keeps.{ready-most, ready-room, keeps-trans}
+use Rattle.statements.proofs.Keeps.{ready-most, ready-room, keeps-trans, ready-size}
 use Rattle.statements.proofs.WellFormed.{well-formed, arrays-is, entry-is}
-use Rattle.calls.proofs.Checked.{ready-size}
 use Rattle.dataflow.proofs.Kept.{ready-stays, linked-stays}
 use Rattle.dataflow.proofs.Few.{visits-few}
 use Rattle.dataflow.proofs.Running.{first-waits, starts, starts-keeps, Running, running-on, running-bound, running-ends}

@@ -9,11 +9,10 @@ use denote.Ref.{now}
 use lib.ListN.{length}
 use Rattle.flow.specs.Format.{flowOf}
 use Rattle.theory.specs.Doubled.{node}
-use Rattle.statements.proofs.Keeps.{ready-most, ready-room}
+use Rattle.statements.proofs.Keeps.{ready-most, ready-room, ready-size}
 use Rattle.statements.proofs.WellFormed.{well-formed}
 use Rattle.calls.specs.Slots.{slots}
 use Rattle.calls.proofs.Cursor.{NextEdge, edge-to, edge-end}
-use Rattle.calls.proofs.Checked.{ready-size}
 use Rattle.dataflow.proofs.Kept.{ready-stays, linked-stays, entered-stays}
 use Rattle.dataflow.proofs.Sending.{Sending, sending-none, sending-more, sending-all, target-below}
 use Rattle.dataflow.proofs.arrays.push_edges.Statement.{statement}

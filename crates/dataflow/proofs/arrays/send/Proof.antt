@@ -17,10 +17,9 @@ use Rattle.theory.specs.Doubled.{node}
 use Rattle.theory.proofs.Lists.{clash}
 use Rattle.statements.specs.Layout.{callsAt, callTouchedAt}
 use Rattle.statements.specs.Ready.{Ready, MembersWord}
-use Rattle.statements.proofs.Keeps.{ready-most, ready-room, keeps-refl, keeps-trans}
+use Rattle.statements.proofs.Keeps.{ready-most, ready-room, keeps-refl, keeps-trans, ready-size}
 use Rattle.statements.proofs.WellFormed.{arrays-is}
 use Rattle.calls.specs.Held.{Linked, EnteredRow, EmptyEntered, clear}
-use Rattle.calls.proofs.Checked.{ready-size}
 use Rattle.calls.proofs.Found.{call-opaque}
 use Rattle.dataflow.proofs.Kept.{queue-above, ready-stays, linked-stays, empty-stays}
 use Rattle.dataflow.proofs.Aside.{Aside, aside-refl, aside-trans, aside-row, aside-entered, aside-waits}
@@ -97,7 +96,7 @@ is-clear c =
 
 touched : (c : tie.Then1) → let a = c .before .before .before .before .before .before .before .before .before .before .args in
     MembersWord (getD (c .before .before .before .before .before .transfer .last .1 .1 .0) (callTouchedAt (a .h .statements) + c .before .before .before .before .before .before .before .statement-of .result) 0) (callTouches (flowOf (now (a .file))) (c .before .before .before .before .before .before .before .statement-of .result))
-touched c = linked-stays (acts (c .before .before .before .before .before) .keeps) (c .before .before .before .before .before .before .before .before .before .before .pre .2) .touched _ (below (c .before .before .before .before .before .before .before)) (is-clear c)
+touched c = linked-stays (acts (c .before .before .before .before .before) .keeps) (c .before .before .before .before .before .before .before .before .before .before .pre .2) .calls .touched _ (below (c .before .before .before .before .before .before .before)) (is-clear c)
 
 note-entered-requires : tie.Need-note-entered-requires
 note-entered-requires c κs =

@@ -14,9 +14,8 @@ use Rattle.flow.specs.Limits.{maxArrays}
 use Rattle.records.proofs.Files.{limited}
 use Rattle.statements.specs.Layout.{queueAt, visitedAt, areaEnd}
 use Rattle.statements.specs.Ready.{Keeps}
-use Rattle.statements.proofs.Keeps.{ready-most, ready-room, keeps-trans, keeps-widen}
+use Rattle.statements.proofs.Keeps.{ready-most, ready-room, keeps-trans, keeps-widen, ready-size}
 use Rattle.statements.proofs.WellFormed.{well-formed, arrays-is}
-use Rattle.calls.proofs.Checked.{ready-size}
 use Rattle.solve.specs.Waiting.{Waits, Taken, restOf}
 use Rattle.solve.proofs.Waiting.{rest-keeps}
 use Rattle.dataflow.specs.Sent.{Sends}

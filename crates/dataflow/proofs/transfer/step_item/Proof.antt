@@ -7,7 +7,8 @@ use borrow.Author.Tests.{eq-eqb, ne-eqb}
 use lib.Dec.{eqb}
 use Rattle.masks.specs.declared.Effect.the-variants.{Dim}
 use Rattle.solve.proofs.RowChanges.{none-stepped}
-use Rattle.dataflow.proofs.Stepping.{step-as, eqb-sym}
+use Rattle.theory.proofs.Lists.{eqb-sym}
+use Rattle.dataflow.proofs.Stepping.{step-as}
 use Rattle.dataflow.proofs.transfer.step_item.Statement.{statement}
 use Rattle.dataflow.proofs.transfer.step_item.Tie as tie
 

@@ -13,9 +13,10 @@ use Rattle.flow.specs.Limits.{maxArrays}
 use Rattle.records.proofs.Files.{limited}
 use Rattle.theory.specs.Lists.{has}
 use Rattle.theory.specs.Body.{references}
+use Rattle.theory.proofs.Lists.{getD-In, has-any}
 use Rattle.statements.proofs.Keeps.{ready-keeps}
 use Rattle.statements.proofs.WellFormed.{statement-in}
-use Rattle.dataflow.proofs.Stepping.{Stepping, stepping-none, stepping-more, stepping-all, has-any, getD-In}
+use Rattle.dataflow.proofs.Stepping.{Stepping, stepping-none, stepping-more, stepping-all}
 use Rattle.dataflow.proofs.transfer.step_references.Statement.{statement}
 use Rattle.dataflow.proofs.transfer.step_references.Tie as tie
 

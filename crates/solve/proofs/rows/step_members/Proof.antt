@@ -7,7 +7,8 @@ use mathlib.Core.Path.{_≡_, ap}
 use denote.Ref.{now}
 use Rattle.words.specs.Byte.{byteAt}
 use Rattle.solve.specs.Rows.{stepWhere, memberBelow}
-use Rattle.solve.proofs.RowChanges.{row-as, Members, members-start, members-rise, members-on}
+use Rattle.statements.proofs.Members.{next-later}
+use Rattle.solve.proofs.RowChanges.{row-as, Members, members-start, members-on}
 use Rattle.solve.proofs.rows.step_members.Statement.{statement}
 use Rattle.solve.proofs.rows.step_members.Tie as tie
 
@@ -37,7 +38,7 @@ next-requires-2 c κs =
 
 loop-less : tie.Need-loop-less Inv-loop μ-loop
 loop-less c =
-    let rise = members-rise (c .before .before .before .before .step-at .last .0) (c .before .before .before .before .before .before .before .before .before .before .before .args .set) (c .before .before .before .before .before .before .before .loop .a) (c .before .before .before .before .before .before .before .before .before .before .before .args .count) (search needs) in
+    let rise = next-later (c .before .before .before .before .step-at .last .0) (c .before .before .before .before .before .before .before .before .before .before .before .args .set) (c .before .before .before .before .before .before .before .loop .a) (c .before .before .before .before .before .before .before .before .before .before .before .args .count) (search needs) in
     let next = c .next2 .ensures in
     omega arith
 

@@ -9,7 +9,6 @@ use lib.Dec.{eqb}
 use Rattle.flow.specs.Format.{flowOf}
 use Rattle.theory.specs.Body.{kind}
 use Rattle.theory.specs.Runs.{empties}
-use Rattle.statements.proofs.ByNumber.{record-of}
 use Rattle.statements.proofs.fields.clears.Statement.{statement}
 use Rattle.statements.proofs.fields.clears.Tie as tie
 
@@ -17,14 +16,12 @@ offset-requires : tie.Need-offset-requires
 offset-requires c κs = search needs
 
 kind-requires : tie.Need-kind-requires
-kind-requires c κs = record-of (c .before .before .before .pre .0) (c .before .before .before .pre .1) (c .offset .ensures) .fit
+kind-requires c κs = search needs
 
 number : (c : tie.After-kind)
     → (eqb (c .kind .result) 2 || eqb (c .kind .result) 3)
     ≡ empties (kind (flowOf (now (c .before .before .before .before .args .file))) (c .before .before .before .before .args .i))
-number c =
-    let start = c .before .before .before .before in
-    ap (λ x. eqb x 2 || eqb x 3) (c .kind .ensures) ∙ record-of (start .pre .0) (start .pre .1) (c .before .offset .ensures) .empties
+number c = ap (λ x. eqb x 2 || eqb x 3) (c .kind .ensures) ∙ c .before .offset .ensures .empties
 
 returns : tie.Need-returns
 returns c = let first : eqb (c .before .kind .result) 2 ≡ (eqb (c .before .kind .result) 2 || eqb (c .before .kind .result) 3) = rw (c .if1 .taken) in

@@ -2,13 +2,11 @@
 -- Assumes nothing.
 use borrow.Author.Needs.{needs}
 use denote.Ref.{now}
-use Prim.Native.Nat.{_<_}
-use mathlib.Core.Path.{ap, sym, subst, _∙_}
+use mathlib.Core.Path.{ap, sym, _∙_}
 use Rattle.flow.specs.declared.Header.{Header}
 use Rattle.flow.specs.Flow.{enters}
 use Rattle.flow.specs.Format.{flowOf}
 use Rattle.flow.specs.Fields.{enteredAt}
-use Rattle.statements.proofs.ByNumber.{record-of}
 use Rattle.statements.proofs.fields.entered.Statement.{statement}
 use Rattle.statements.proofs.fields.entered.Tie as tie
 
@@ -16,10 +14,7 @@ offset-requires : tie.Need-offset-requires
 offset-requires c κs = search needs
 
 call-line-requires : tie.Need-call-line-requires
-call-line-requires c κs =
-    let start = c .before .before .before in
-    let r = record-of (start .pre .0) (start .pre .2) (c .offset .ensures) in
-    (r .fit, subst (λ m. start .args .k < m) (r .lines .count) (start .pre .3))
+call-line-requires c κs = search needs
 
 line-entry-requires : tie.Need-line-entry-requires
 line-entry-requires c κs =
@@ -28,8 +23,7 @@ line-entry-requires c κs =
 
 returns : tie.Need-returns
 returns c = let start = c .before .before .before .before .before in
-    let r = record-of (start .pre .0) (start .pre .2) (c .before .before .offset .ensures) in
-    let at = c .before .call-line .ensures ∙ sym (r .lines .at (start .args .k) 0 (start .pre .3)) in
+    let at = c .before .call-line .ensures ∙ sym (c .before .before .offset .ensures .lines .at (start .args .k) 0 (start .pre .3)) in
     c .line-entry .ensures ∙ ap (λ l. enteredAt (enters (flowOf (now (start .args .file))) l)) at
 
 pub entered-spec : {M : Type 1} → statement M

@@ -3,7 +3,6 @@
 use borrow.Author.Needs.{needs}
 use mathlib.Core.Path.{ap, _∙_}
 use lib.Dec.{eqb}
-use Rattle.statements.proofs.ByNumber.{record-of}
 use Rattle.statements.proofs.fields.is_return.Statement.{statement}
 use Rattle.statements.proofs.fields.is_return.Tie as tie
 
@@ -11,10 +10,10 @@ offset-requires : tie.Need-offset-requires
 offset-requires c κs = search needs
 
 kind-requires : tie.Need-kind-requires
-kind-requires c κs = record-of (c .before .before .before .pre .0) (c .before .before .before .pre .1) (c .offset .ensures) .fit
+kind-requires c κs = search needs
 
 returns : tie.Need-returns
-returns c = let r = record-of (c .before .before .before .before .pre .0) (c .before .before .before .before .pre .1) (c .before .offset .ensures) in ap (λ x. eqb x 1) (c .kind .ensures) ∙ r .return
+returns c = ap (λ x. eqb x 1) (c .kind .ensures) ∙ c .before .offset .ensures .return
 
 pub is-return-spec : {M : Type 1} → statement M
 is-return-spec = tie.close (tie.spec offset-requires kind-requires returns)

@@ -5,6 +5,7 @@ use denote.Ref.{now}
 use mathlib.Core.Path.{ap, sym, _∙_}
 use native.Mathlib.Nat.{zero-add}
 use lib.ListN.{getD}
+use Rattle.statements.proofs.ByNumber.{record-of}
 use Rattle.statements.proofs.fields.offset.Statement.{statement}
 use Rattle.statements.proofs.fields.offset.Tie as tie
 
@@ -16,8 +17,8 @@ shared-slice-read-result c = search needs
 
 returns : tie.Need-returns
 returns c = let start = c .before in
-    ap (λ x. getD (now (start .args .work)) x 0) (sym (zero-add (start .args .i)))
-    ∙ start .pre .0 .offsets (start .args .i) (start .pre .1)
+    record-of (start .pre .0) (start .pre .1)
+    (ap (λ x. getD (now (start .args .work)) x 0) (sym (zero-add (start .args .i))) ∙ start .pre .0 .offsets (start .args .i) (start .pre .1))
 
 pub offset-spec : {M : Type 1} → statement M
 offset-spec = tie.close (tie.spec mul-result shared-slice-read-result returns)

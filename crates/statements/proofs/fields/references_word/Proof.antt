@@ -9,7 +9,6 @@ use Rattle.theory.specs.Body.{references}
 use Rattle.theory.specs.Lists.{has}
 use Rattle.statements.specs.Ready.{MembersWord}
 use Rattle.statements.proofs.MembersWord.{members-word}
-use Rattle.statements.proofs.ByNumber.{record-of}
 use Rattle.statements.proofs.fields.references_word.Statement.{statement}
 use Rattle.statements.proofs.fields.references_word.Tie as tie
 
@@ -17,15 +16,14 @@ offset-requires : tie.Need-offset-requires
 offset-requires c κs = search needs
 
 references-word-requires : tie.Need-references-word-requires
-references-word-requires c κs = record-of (c .before .before .before .pre .0) (c .before .before .before .pre .1) (c .offset .ensures) .fit
+references-word-requires c κs = search needs
 
 returns : tie.Need-returns
 returns c = let start = c .before .before .before .before in
     let s = now (start .args .file) in
     let p = c .before .offset .result in
-    let r = record-of (start .pre .0) (start .pre .1) (c .before .offset .ensures) in
     subst (λ w. MembersWord w (λ a. has a (references (flowOf s) (start .args .i)))) (sym (c .references-word .ensures))
-    (subst (λ l. MembersWord (wordOf (referenceCount s p) (referenceAt s p) 0) (λ a. has a l)) (sym (r .references .list))
+    (subst (λ l. MembersWord (wordOf (referenceCount s p) (referenceAt s p) 0) (λ a. has a l)) (sym (c .before .offset .ensures .references .list))
     (members-word (referenceAt s p) (referenceCount s p)))
 
 pub references-word-spec : {M : Type 1} → statement M

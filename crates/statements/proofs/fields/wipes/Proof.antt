@@ -8,7 +8,7 @@ use lib.Dec.{ltb}
 use Rattle.flow.specs.Format.{flowOf}
 use Rattle.theory.specs.Body.{kind}
 use Rattle.theory.specs.Runs.{empties}
-use Rattle.statements.proofs.ByNumber.{wipes-is, record-of}
+use Rattle.statements.proofs.ByNumber.{wipes-is}
 use Rattle.statements.proofs.fields.wipes.Statement.{statement}
 use Rattle.statements.proofs.fields.wipes.Tie as tie
 
@@ -25,16 +25,13 @@ offset-requires : tie.Need-offset-requires
 offset-requires c κs = search needs
 
 item-count-requires : tie.Need-item-count-requires
-item-count-requires c κs =
-    let start = c .before .before .before .before .before in
-    record-of (start .pre .0) (start .pre .1) (c .offset .ensures) .fit
+item-count-requires c κs = search needs
 
 returns-2 : tie.Need-returns-2
 returns-2 c = let start = c .before .before .before .before .before .before in
     let x = kind (flowOf (now (start .args .file))) (start .args .i) in
     let e : empties x ≡ false = sym (c .before .before .before .clears .ensures) ∙ c .before .before .if1 .left in
-    let r = record-of (start .pre .0) (start .pre .1) (c .before .offset .ensures) in
-    ap (ltb 0) (c .item-count .ensures ∙ sym (r .items .count)) ∙ sym (wipes-is x ∙ rw e)
+    ap (ltb 0) (c .item-count .ensures ∙ sym (c .before .offset .ensures .items .count)) ∙ sym (wipes-is x ∙ rw e)
 
 pub wipes-spec : {M : Type 1} → statement M
 wipes-spec =

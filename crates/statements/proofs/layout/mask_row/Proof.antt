@@ -1,4 +1,4 @@
--- `mask_row` meets its contract: the queue stands below 37 × n, so that the sums are not too large (`row-below`).
+-- `mask_row` meets its contract: the queue stands below 37 × n, so that the sum is not too large (`row-below`).
 -- Assumes nothing.
 use borrow.Author.Needs.{needs}
 use native.Mathlib.Nat.{le-refl}
@@ -7,8 +7,8 @@ use Rattle.statements.proofs.WorkArea.{row-below}
 use Rattle.statements.proofs.layout.mask_row.Statement.{statement}
 use Rattle.statements.proofs.layout.mask_row.Tie as tie
 
-queue-requires : tie.Need-queue-requires
-queue-requires c κs = search needs
+part-requires : tie.Need-part-requires
+part-requires c κs = search needs
 
 mul-result : tie.Need-mul-result
 mul-result c = search needs
@@ -16,15 +16,8 @@ mul-result c = search needs
 add-result : tie.Need-add-result
 add-result c = omega (arith, row-below (c .before .pre .0) (le-refl (c .before .args .n)))
 
-mul-result-2 : tie.Need-mul-result-2
-mul-result-2 c = search needs
-
-add-result-2 : tie.Need-add-result-2
-add-result-2 c = omega (arith, row-below (c .before .pre .0) (le-refl (c .before .args .n)))
-
 returns : tie.Need-returns
 returns c = search needs
 
 pub mask-row-spec : {M : Type 1} → statement M
-mask-row-spec =
-    tie.close (tie.spec queue-requires mul-result add-result mul-result-2 add-result-2 returns)
+mask-row-spec = tie.close (tie.spec part-requires mul-result add-result returns)
