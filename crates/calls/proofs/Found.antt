@@ -14,15 +14,15 @@ use lib.Dec.{eqb}
 use lib.ListN.{length, getD, drop, length-append, length-map, List·getD-append, List·getD-map, drop-of-length-le}
 use lib.Seq.{drop-cons, drop-nil, drop-append-add, drop-at, getD-at}
 use Rattle.words.specs.Row as row
-use Rattle.words.specs.Row.{seek, nextMember, pick}
+use Rattle.words.specs.Row.{seek, nextMember}
 use Rattle.flow.specs.Flow.{Flow, size, enters}
-use Rattle.theory.specs.Lists.{any, has, upTo}
+use Rattle.theory.specs.Lists.{any, elem, upTo}
 use Rattle.theory.specs.Body.{kind, successors, callLines, continuationOf, entered, isReturn, opaqueCall}
 use Rattle.theory.specs.Doubled.{Base, Node, Edge, at, plain, offset, number, node, sameNode, returnsTo}
 use Rattle.theory.proofs.Lists.{same-test, or-second, says-one, length-upTo}
 use Rattle.theory.proofs.Edges.{node-same}
-use Rattle.statements.specs.Layout.{callsAt, enteredAt}
-use Rattle.calls.specs.Held.{EnteredIs, Linked, clear, opaque}
+use Rattle.statements.specs.Layout.{callsAt, enteredRowAt}
+use Rattle.calls.specs.Held.{EnteredIs, Linked, transparent, opaque}
 use Rattle.calls.specs.Slots.{edgeTo, ifEntered, otherSlots, callSlots, returnSlots, listedSlots, slotsOf, slots, edgeFrom, copyOf, memberEdge}
 use Rattle.calls.specs.declared.Edge as E
 use Rattle.calls.proofs.BodySummary.{return-ordinary}
@@ -61,16 +61,16 @@ not-back Base.n j k e = e
 
 module _ (f : Flow) (b : Base) (i k c p : ℕ) where
   other : ℕ → Option Edge
-  other j = cond (not (has j (entered f i) || eqb j k)) (some (edgeTo (at b k) (at b j))) none
+  other j = cond (not (elem j (entered f i) || eqb j k)) (some (edgeTo (at b k) (at b j))) none
 
-  pub other-here : c < length (successors f i) → (has (getD (successors f i) c 0) (entered f i) || eqb (getD (successors f i) c 0) k) ≡ false
+  pub other-here : c < length (successors f i) → (elem (getD (successors f i) c 0) (entered f i) || eqb (getD (successors f i) c 0) k) ≡ false
       → edgeFrom f (drop c (otherSlots f b i k)) p ≡ to f (at b (getD (successors f i) c 0)) false (p + 1)
   unfolding otherSlots edgeFrom other
   other-here h e =
       let j = getD (successors f i) c 0 in
-      mapped f other (successors f i) 0 c p h ∙ simp (e, not-back b j k (or-second (has j (entered f i)) (eqb j k) e))
+      mapped f other (successors f i) 0 c p h ∙ simp (e, not-back b j k (or-second (elem j (entered f i)) (eqb j k) e))
 
-  pub other-skip : c < length (successors f i) → (has (getD (successors f i) c 0) (entered f i) || eqb (getD (successors f i) c 0) k) ≡ true
+  pub other-skip : c < length (successors f i) → (elem (getD (successors f i) c 0) (entered f i) || eqb (getD (successors f i) c 0) k) ≡ true
       → edgeFrom f (drop c (otherSlots f b i k)) p ≡ edgeFrom f (drop (c + 1) (otherSlots f b i k)) (p + 1)
   unfolding otherSlots edgeFrom other
   other-skip h e = mapped f other (successors f i) 0 c p h ∙ simp e
@@ -165,7 +165,7 @@ module _ (f : Flow) (r : ℕ) (ws : List ℕ) (base : ℕ) (h : (k : ℕ) → k 
           ∙ ap (λ (k : ℕ). edgeFrom f (slot k ∷ left) c) (getD-upTo (size f) c l)
 
       go : (t : Bool) → row.has ws base c ≡ cond t 1 0 → edgeFrom f left (c + 1) ≡ memberEdge (size f) (seek ws base (c + 1) d)
-          → edgeFrom f (cond t (some (plain (at Base.zero c))) none ∷ left) c ≡ memberEdge (size f) (pick (eqb (row.has ws base c) 1) c (seek ws base (c + 1) d))
+          → edgeFrom f (cond t (some (plain (at Base.zero c))) none ∷ left) c ≡ memberEdge (size f) (cond (eqb (row.has ws base c) 1) c (seek ws base (c + 1) d))
       go true q ih = rw (q, lt-ltb c (size f) l) (ap (λ (k : ℕ). E.the-variants.To (record { 0 = k }) false (c + 1)) (zero-add c))
       go false q ih = rw q ih
 
@@ -221,24 +221,24 @@ same-number f Base.n {base} e k o l =
 
 -- what is left out, by the row of entered statements
 pub left-out-is : (f : Flow) (ws : List ℕ) {n : ℕ} (i k s : ℕ) → EnteredIs f ws n i → s < n
-    → (eqb s k || eqb (row.has ws (enteredAt n) s) 1) ≡ (has s (entered f i) || eqb s k)
-left-out-is f ws i k s r l = ap (λ (x : ℕ). eqb s k || eqb x 1) (r s l) ∙ ap (λ (b : Bool). eqb s k || b) (says-one (has s (entered f i))) ∙ or-comm (eqb s k) (has s (entered f i))
+    → (eqb s k || eqb (row.has ws (enteredRowAt n) s) 1) ≡ (elem s (entered f i) || eqb s k)
+left-out-is f ws i k s r l = ap (λ (x : ℕ). eqb s k || eqb x 1) (r s l) ∙ ap (λ (b : Bool). eqb s k || b) (says-one (elem s (entered f i))) ∙ or-comm (eqb s k) (elem s (entered f i))
 
 -- the state of a call as its summary says it
 
-pub call-opaque : {f : Flow} {ws : List ℕ} {n i k : ℕ} → Linked f ws n → i < n → (getD ws (callsAt n + i) 0 ≡ clear → ⊥) → continuationOf (kind f i) ≡ some k
+pub call-opaque : {f : Flow} {ws : List ℕ} {n i k : ℕ} → Linked f ws n → i < n → (getD ws (callsAt n + i) 0 ≡ transparent → ⊥) → continuationOf (kind f i) ≡ some k
     → opaqueCall f i ≡ true
 call-opaque {f} {ws} {n} {i} {k} h l other e = go (opaqueCall f i) (h .calls .call i k l e)
   where
-    go : (b : Bool) → getD ws (callsAt n + i) 0 ≡ cond b opaque clear → b ≡ true
+    go : (b : Bool) → getD ws (callsAt n + i) 0 ≡ cond b opaque transparent → b ≡ true
     go true q = refl
     go false q = absurd (other q)
 
-pub call-clear : {f : Flow} {ws : List ℕ} {n i k : ℕ} → Linked f ws n → i < n → getD ws (callsAt n + i) 0 ≡ clear → continuationOf (kind f i) ≡ some k
+pub call-transparent : {f : Flow} {ws : List ℕ} {n i k : ℕ} → Linked f ws n → i < n → getD ws (callsAt n + i) 0 ≡ transparent → continuationOf (kind f i) ≡ some k
     → opaqueCall f i ≡ false
-call-clear {f} {ws} {n} {i} {k} h l is e = go (opaqueCall f i) (sym (h .calls .call i k l e) ∙ is)
+call-transparent {f} {ws} {n} {i} {k} h l is e = go (opaqueCall f i) (sym (h .calls .call i k l e) ∙ is)
   where
-    go : (b : Bool) → cond b opaque clear ≡ clear → b ≡ false
+    go : (b : Bool) → cond b opaque transparent ≡ transparent → b ≡ false
     go true q = absurd (omega arith)
     go false q = refl
 

@@ -10,11 +10,11 @@ use lib.Bits.{bitOr, or-comm, or-self}
 use lib.Dec.{eqb}
 use Rattle.words.proofs.Bit.{bit-or, bits-ext}
 use Rattle.flow.specs.Flow.{Flow, enters}
-use Rattle.theory.specs.Lists.{In, has, select, concatMap, optionList}
+use Rattle.theory.specs.Lists.{In, elem, select, concatMap, optionList}
 use Rattle.theory.specs.Body.{kind, successors, callLines, continuationOf, entered, isReturn, opaqueCall}
 use Rattle.theory.specs.Doubled.{Base, Node, Edge, at, plain, number, node, sameNode, returnEdges, listedEdges, callEdges, edgesOf, edges, once, arcsOf, doubled}
 use Rattle.theory.specs.Queue.{Arc, brings, join, enqueue, stepAll}
-use Rattle.theory.proofs.Lists.{In-has, In-map, select-In, concatMap-append}
+use Rattle.theory.proofs.Lists.{In-elem, In-map, select-In, concatMap-append}
 use Rattle.theory.proofs.Edges.{same-node, in-once}
 use Rattle.theory.proofs.Enqueue.{join-keeps, join-adds}
 use Rattle.calls.specs.Slots.{edgeTo, ifEntered, otherSlots, callSlots, returnSlots, listedSlots, slotsOf, slots, present, toArc}
@@ -56,7 +56,7 @@ present-entered f back (l ∷ ls) = go (enters f l) (present-entered f back ls)
 
 -- the targets of a call that is not opaque, repeats included
 targets : Flow → Base → ℕ → ℕ → List Node
-targets f b i k = map (at Base.n) (entered f i) ++ (at b k ∷ map (at b) (select (λ j. not (has j (entered f i) || eqb j k)) (successors f i)))
+targets f b i k = map (at Base.n) (entered f i) ++ (at b k ∷ map (at b) (select (λ j. not (elem j (entered f i) || eqb j k)) (successors f i)))
 
 map-map : {A B C : Type 0} (g : B → C) (h : A → B) (l : List A) → map (λ x. g (h x)) l ≡ map g (map h l)
 map-map g h [] = refl
@@ -68,7 +68,7 @@ call-present f b i k =
     let back = at b k in
     let first = map (λ l. ifEntered back (enters f l)) (callLines (kind f i)) in
     let others = otherSlots f b i k in
-    let left : ℕ → Bool = λ j. not (has j (entered f i) || eqb j k) in
+    let left : ℕ → Bool = λ j. not (elem j (entered f i) || eqb j k) in
     present-append first (some (edgeTo back back) ∷ others)
     ∙ ap₂ (λ (xs ys : List Edge). xs ++ (edgeTo back back ∷ ys)) (present-entered f back (callLines (kind f i)))
     (present-select left (λ j. edgeTo back (at b j)) (successors f i) ∙ map-map (edgeTo back) (at b) (select left (successors f i)))
@@ -147,7 +147,7 @@ slot-edge f v {x} m = go (same-edges f v)
 -- The queue: a number that waits does not join again
 
 join-waiting : {w : List ℕ} {t : ℕ} → In t w → join w t ≡ w
-join-waiting {w} {t} m = rw (In-has m) refl
+join-waiting {w} {t} m = rw (In-elem m) refl
 
 module _ (f : Flow) (i : ℕ) where
   -- without the edges to v, which waits, the same numbers join

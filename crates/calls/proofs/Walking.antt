@@ -24,7 +24,7 @@ use Rattle.theory.specs.Lists.{In}
 use Rattle.theory.specs.Reach.{Reach}
 use Rattle.theory.specs.Body.{kind, successors, continuationOf, isReturn, orElse, walkNext, Walks}
 use Rattle.theory.proofs.Reach.{reach-below}
-use Rattle.statements.specs.Layout.{rowAt, matrixAt, queueAt, enteredAt}
+use Rattle.statements.specs.Layout.{rowAt, matrixAt, queueAt, enteredRowAt}
 use Rattle.statements.specs.Ready.{Ready, Keeps}
 use Rattle.statements.proofs.Keeps.{ready-keeps}
 use Rattle.statements.proofs.WorkArea.{member-word, row-from, row-fits, row-below, area-fits}
@@ -44,7 +44,7 @@ only-trans a b = record {
   above = λ x l. b .above x l ∙ a .above x l;
 }
 
-pub only-keeps : {ws vs : List ℕ} {n e : ℕ} → OnlyRow ws vs n e → Keeps (matrixAt n) (enteredAt n) ws vs
+pub only-keeps : {ws vs : List ℕ} {n e : ℕ} → OnlyRow ws vs n e → Keeps (matrixAt n) (enteredRowAt n) ws vs
 only-keeps {n = n} {e} o = record { size = o .size; below = λ x l. o .below x (omega (arith, row-from n e)); above = o .above }
 
 -- Nothing more, and more after more

@@ -6,7 +6,7 @@ use mathlib.Core.List.{List, [], _∷_, _++_, map}
 use mathlib.Core.Option.{Option, none, some}
 use lib.Dec.{eqb, ltb}
 use Rattle.flow.specs.Flow.{Flow, size, enters}
-use Rattle.theory.specs.Lists.{any, has, concatMap, optionList, upTo}
+use Rattle.theory.specs.Lists.{any, elem, concatMap, optionList, upTo}
 use Rattle.theory.specs.Body.{kind, successors, callLines, continuationOf, entered, isReturn, opaqueCall}
 use Rattle.theory.specs.Doubled.{Base, Node, Edge, at, plain, number, sameNode, returnsTo, edgeEffects}
 use Rattle.theory.specs.Queue.{Arc}
@@ -21,7 +21,7 @@ ifEntered back (some e) = some (edgeTo back (at Base.n e))
 
 -- the successors of a call with the continuation k, less those that are entered and the continuation
 unfoldable pub otherSlots : Flow → Base → ℕ → ℕ → List (Option Edge)
-otherSlots f b i k = map (λ j. cond (not (has j (entered f i) || eqb j k)) (some (edgeTo (at b k) (at b j))) none) (successors f i)
+otherSlots f b i k = map (λ j. cond (not (elem j (entered f i) || eqb j k)) (some (edgeTo (at b k) (at b j))) none) (successors f i)
 
 -- a call that is not opaque, with the continuation k
 unfoldable pub callSlots : Flow → Base → ℕ → ℕ → List (Option Edge)

@@ -13,13 +13,13 @@ ghost use Rattle.flow.specs.Answers.{headerOf};
 ghost use Rattle.theory.specs.Lists.{optionList};
 ghost use Rattle.theory.specs.Body.{kind, callLines, continuationOf, entered};
 ghost use Rattle.theory.specs.Doubled.{at, node, offset};
-ghost use Rattle.statements.specs.Layout.{rowAt, rowWords, enteredAt, waitingAt};
+ghost use Rattle.statements.specs.Layout.{rowAt, rowWords, enteredRowAt, waitingAt};
 ghost use Rattle.statements.specs.Ready.{Ready, Keeps};
 ghost use Rattle.calls.specs.Held.{Linked, EnteredRow, EnteredIs, EmptyEntered};
 ghost use Rattle.calls.specs.Slots.{slots, listedSlots, callSlots, otherSlots, edgeFrom, copyOf, memberEdge};
 ghost use Rattle.calls.specs.Joins.{Adds, Notes};
-use crate::CLEAR;
 use crate::Edge;
+use crate::TRANSPARENT;
 use statements::fields;
 use statements::layout;
 
@@ -29,8 +29,8 @@ fn note_line(file: &[u8], h: flow::Header, work: &mut [u64], i: usize, l: usize)
     ensures { λ _. ⌜ Adds (now (work .entry)) (now (work .exit)) (h .statements) (optionList (enters (flowOf (now (file .entry))) (getD (callLines (kind (flowOf (now (file .entry))) i)) l 0))) ⌝ }
 {
     let n = h.statements;
-    if let flow::Entered::At(b) = fields::entered(file, h, work, i, l) {
-        words::insert(work, layout::entered(n), b.0);
+    if let flow::LineEntry::At(b) = fields::entered(file, h, work, i, l) {
+        words::insert(work, layout::entered_row(n), b.0);
     }
 }
 
@@ -47,22 +47,22 @@ fn note_lines(file: &[u8], h: flow::Header, work: &mut [u64], i: usize)
     }
 }
 
-pub fn clear_entered(work: &mut [u64], n: usize)
+pub fn zero_entered(work: &mut [u64], n: usize)
     requires { ⌜ (0 < n) × (n ≤ maxStatements) × (workWords n ≤ length (now work)) ⌝ }
-    ensures { λ _. ⌜ EmptyEntered (now (work .exit)) n × Keeps (enteredAt n) (waitingAt n) (now (work .entry)) (now (work .exit)) ⌝ }
+    ensures { λ _. ⌜ EmptyEntered (now (work .exit)) n × Keeps (enteredRowAt n) (waitingAt n) (now (work .entry)) (now (work .exit)) ⌝ }
 {
-    words::clear(work, layout::entered(n), layout::row_words(n));
+    words::zero_row(work, layout::entered_row(n), layout::row_words(n));
 }
 
 // Row i of the matrix becomes the row of entered statements.
 fn copy_entered(work: &mut [u64], n: usize, i: usize)
     requires { ⌜ (n ≤ maxStatements) × (waitingAt n ≤ length (now work)) × (i < n) ⌝ }
-    ensures { λ _. ⌜ ((j : ℕ) → j < n → has (now (work .exit)) (rowAt n i) j ≡ has (now (work .entry)) (enteredAt n) j) × Keeps (rowAt n i) (rowAt n i + rowWords n) (now (work .entry)) (now (work .exit)) ⌝ }
+    ensures { λ _. ⌜ ((j : ℕ) → j < n → has (now (work .exit)) (rowAt n i) j ≡ has (now (work .entry)) (enteredRowAt n) j) × Keeps (rowAt n i) (rowAt n i + rowWords n) (now (work .entry)) (now (work .exit)) ⌝ }
 {
     let row = layout::row(n, i);
     let width = layout::row_words(n);
-    words::clear(work, row, width);
-    words::union(work, row, layout::entered(n), width);
+    words::zero_row(work, row, width);
+    words::union(work, row, layout::entered_row(n), width);
 }
 
 // Statement i, if it is a call that is not opaque.
@@ -71,10 +71,10 @@ fn note_row(file: &[u8], h: flow::Header, work: &mut [u64], i: usize)
     ensures { λ _. ⌜ Notes (flowOf (now (file .entry))) (now (work .entry)) (now (work .exit)) (h .statements) i (i + 1) ⌝ }
 {
     let n = h.statements;
-    if work[layout::calls(n) + i] != CLEAR {
+    if work[layout::calls(n) + i] != TRANSPARENT {
         return;
     }
-    clear_entered(work, n);
+    zero_entered(work, n);
     note_lines(file, h, work, i);
     copy_entered(work, n, i);
 }
@@ -95,10 +95,10 @@ pub fn note_rows(file: &[u8], h: flow::Header, work: &mut [u64])
 // Sets the row of entered statements for statement i, which is empty.
 pub fn note_entered(file: &[u8], work: &mut [u64], n: usize, i: usize)
     requires { ⌜ Ready (now file) (now work) n × Linked (flowOf (now file)) (now work) n × (i < n) × EmptyEntered (now work) n ⌝ }
-    ensures { λ _. ⌜ EnteredRow (flowOf (now (file .entry))) (now (work .exit)) n i × Keeps (enteredAt n) (waitingAt n) (now (work .entry)) (now (work .exit)) ⌝ }
+    ensures { λ _. ⌜ EnteredRow (flowOf (now (file .entry))) (now (work .exit)) n i × Keeps (enteredRowAt n) (waitingAt n) (now (work .entry)) (now (work .exit)) ⌝ }
 {
     let row = layout::row(n, i);
-    words::union(work, layout::entered(n), row, layout::row_words(n));
+    words::union(work, layout::entered_row(n), row, layout::row_words(n));
 }
 
 // A call that is not opaque, with the continuation k: the entered statements, then the continuation, then the other successors.
@@ -118,7 +118,7 @@ fn call_edge(
     let lines = fields::line_count(file, work, n, i);
     let mut c = cursor;
     while c < lines {
-        if let flow::Entered::At(b) = fields::entered(file, h, work, i, c) {
+        if let flow::LineEntry::At(b) = fields::entered(file, h, work, i, c) {
             return Edge::To(flow::NodeId(n + b.0), n + b.0 == base + k, c + 1);
         }
         c += 1;
@@ -132,12 +132,12 @@ fn call_edge(
 // Whether the successor s of such a call is left out: it is the continuation, or entered.
 fn left_out(work: &[u64], n: usize, k: usize, s: usize) -> bool
     requires { ⌜ (n ≤ maxStatements) × (waitingAt n ≤ length (now work)) × (s < n) ⌝ }
-    ensures { λ r. ⌜ r ≡ (eqb s k || eqb (has (now (work .entry)) (enteredAt n) s) 1) ⌝ }
+    ensures { λ r. ⌜ r ≡ (eqb s k || eqb (has (now (work .entry)) (enteredRowAt n) s) 1) ⌝ }
 {
     if s == k {
         return true;
     }
-    words::contains(work, layout::entered(n), s)
+    words::contains(work, layout::entered_row(n), s)
 }
 
 // The successors of such a call that are neither entered nor the continuation; they stand from the slot `first` on.
@@ -202,7 +202,7 @@ fn edge_of(file: &[u8], h: flow::Header, work: &[u64], base: usize, i: usize, cu
         }
         return Edge::End;
     }
-    if work[layout::calls(n) + i] != CLEAR {
+    if work[layout::calls(n) + i] != TRANSPARENT {
         return listed_edge(file, work, n, base, i, cursor);
     }
     match fields::continuation(file, work, n, i) {

@@ -11,7 +11,7 @@ pub const UNENTERED: u64 = 0;
 
 pub const OPEN: u64 = 1;
 
-pub const CLEAR: u64 = 2;
+pub const TRANSPARENT: u64 = 2;
 
 pub const OPAQUE: u64 = 3;
 

@@ -25,11 +25,11 @@ fn join_walk(file: &[u8], work: &mut [u64], n: usize, e: usize)
     ensures { λ _. ⌜ Adds (now (work .entry)) (now (work .exit)) n (walked (flowOf (now (file .entry))) e) ⌝ }
 {
     if fields::is_return(file, work, n, e) {
-        words::insert(work, layout::entered(n), e);
+        words::insert(work, layout::entered_row(n), e);
     } else {
         words::union(
             work,
-            layout::entered(n),
+            layout::entered_row(n),
             layout::row(n, e),
             layout::row_words(n),
         );
@@ -42,7 +42,7 @@ fn join_line(file: &[u8], h: flow::Header, work: &mut [u64], c: usize, l: usize)
     ensures { λ _. ⌜ Adds (now (work .entry)) (now (work .exit)) (h .statements) (walks (flowOf (now (file .entry))) (optionList (enters (flowOf (now (file .entry))) (getD (callLines (kind (flowOf (now (file .entry))) c)) l 0)))) ⌝ }
 {
     let n = h.statements;
-    if let flow::Entered::At(b) = fields::entered(file, h, work, c, l) {
+    if let flow::LineEntry::At(b) = fields::entered(file, h, work, c, l) {
         join_walk(file, work, n, b.0);
     }
 }
@@ -74,7 +74,7 @@ fn note_members(file: &[u8], work: &mut [u64], n: usize, k: usize)
     requires { ⌜ Ready (now file) (now work) n × (k < n) ⌝ }
     ensures { λ _. ⌜ Joins (flowOf (now (file .entry))) (now (work .entry)) (now (work .exit)) n (queueAt n) (fromEntered (now (work .entry)) n k) ⌝ }
 {
-    let row = layout::entered(n);
+    let row = layout::entered_row(n);
     let mut r = words::next(work, row, 0, n);
     while r < n {
         note_return(file, work, n, r, k);
@@ -88,7 +88,7 @@ fn note_bodies(file: &[u8], h: flow::Header, work: &mut [u64], c: usize, k: usiz
     ensures { λ _. ⌜ Joins (flowOf (now (file .entry))) (now (work .entry)) (now (work .exit)) (h .statements) (waitingAt (h .statements)) (fromBodies (flowOf (now (file .entry))) (entered (flowOf (now (file .entry))) c) k) ⌝ }
 {
     let n = h.statements;
-    edges::clear_entered(work, n);
+    edges::zero_entered(work, n);
     join_lines(file, h, work, c);
     note_members(file, work, n, k);
 }

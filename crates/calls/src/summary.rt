@@ -4,25 +4,25 @@ ghost use Prim.Native.Nat.{ℕ, _<_};
 ghost use mathlib.Core.Path.{_≡_};
 ghost use Rattle.flow.specs.Format.{flowOf};
 ghost use Rattle.flow.specs.Answers.{headerOf};
-ghost use Rattle.statements.specs.Layout.{callsAt, enteredAt};
+ghost use Rattle.statements.specs.Layout.{callsAt, enteredRowAt};
 ghost use Rattle.statements.specs.Ready.{Ready, Keeps};
 ghost use Rattle.theory.specs.Lists.{In};
 ghost use Rattle.theory.specs.Body.{callees};
-ghost use Rattle.calls.specs.Held.{Area, Fresh, Summarized};
+ghost use Rattle.calls.specs.Held.{Area, NoSummaries, Summarized};
 ghost use Rattle.calls.specs.Summing as state;
 ghost use Rattle.calls.specs.Summing.{Summing, Leads, Referred, CallJoined, BodyJoined, BodySummed, CallSummed};
-use crate::CLEAR;
 use crate::OPAQUE;
 use crate::OPEN;
+use crate::TRANSPARENT;
 use crate::UNENTERED;
 use crate::walk::walk;
 use statements::fields;
 use statements::layout;
 
-fn settled(opaque: bool) -> u64
-    ensures { λ r. ⌜ r ≡ state.settled opaque ⌝ }
+fn summary_state(opaque: bool) -> u64
+    ensures { λ r. ⌜ r ≡ state.summaryState opaque ⌝ }
 {
-    if opaque { OPAQUE } else { CLEAR }
+    if opaque { OPAQUE } else { TRANSPARENT }
 }
 
 // Joins the references of statement i to the touched arrays of body e.
@@ -45,13 +45,13 @@ fn join_call(work: &mut [u64], n: usize, e: usize, c: usize) -> bool
     hidden
 }
 
-// Joins what body b touches to what the call c touches, and says whether the body is not clear: an open one is opaque, since it
+// Joins what body b touches to what the call c touches, and says whether the body is not transparent: an open one is opaque, since it
 // lies on a cycle of calls.
 fn join_body(work: &mut [u64], n: usize, c: usize, b: usize) -> bool
     requires { ⌜ Area (now work) n × (c < n) × (b < n) ⌝ }
     ensures { λ r. ⌜ BodyJoined (now (work .entry)) (now (work .exit)) n c b r ⌝ }
 {
-    let hidden = work[layout::bodies(n) + b] != CLEAR;
+    let hidden = work[layout::bodies(n) + b] != TRANSPARENT;
     let inner = work[layout::touched(n) + b];
     words::union_word(work, layout::call_touched(n) + c, inner);
     hidden
@@ -69,7 +69,7 @@ fn sub_effect(file: &[u8], h: flow::Header, work: &mut [u64], e: usize)
     }
     if fields::is_return(file, work, n, e) {
         join_references(file, work, n, e, e);
-        work[at] = CLEAR;
+        work[at] = TRANSPARENT;
         return;
     }
     work[at] = OPEN;
@@ -85,7 +85,7 @@ fn sub_effect(file: &[u8], h: flow::Header, work: &mut [u64], e: usize)
         opaque = opaque | wiped | hidden;
         i = words::next(work, row, i + 1, n);
     }
-    work[at] = settled(opaque);
+    work[at] = summary_state(opaque);
 }
 
 // Statement c, if it is a call with a continuation, gets its summary, once: whether a body that it enters is opaque, and the
@@ -106,21 +106,21 @@ fn call_summary(file: &[u8], h: flow::Header, work: &mut [u64], c: usize)
     let mut opaque = false;
     let mut k = 0;
     while k < count {
-        if let flow::Entered::At(b) = fields::entered(file, h, work, c, k) {
+        if let flow::LineEntry::At(b) = fields::entered(file, h, work, c, k) {
             sub_effect(file, h, work, b.0);
             let hidden = join_body(work, n, c, b.0);
             opaque = opaque | hidden;
         }
         k += 1;
     }
-    work[at] = settled(opaque);
+    work[at] = summary_state(opaque);
 }
 
 // The summary of every call with a continuation.
 pub fn summarize_calls(file: &[u8], h: flow::Header, work: &mut [u64])
-    requires { ⌜ Ready (now file) (now work) (h .statements) × (h ≡ headerOf (now file)) × Fresh (now work) (h .statements) ⌝ }
+    requires { ⌜ Ready (now file) (now work) (h .statements) × (h ≡ headerOf (now file)) × NoSummaries (now work) (h .statements) ⌝ }
     ensures { λ _. ⌜ Summarized (flowOf (now (file .entry))) (now (work .exit)) (h .statements) ⌝ }
-    ensures { λ _. ⌜ Keeps (callsAt (h .statements)) (enteredAt (h .statements)) (now (work .entry)) (now (work .exit)) ⌝ }
+    ensures { λ _. ⌜ Keeps (callsAt (h .statements)) (enteredRowAt (h .statements)) (now (work .entry)) (now (work .exit)) ⌝ }
 {
     let n = h.statements;
     let mut c = 0;

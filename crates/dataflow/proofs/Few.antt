@@ -15,7 +15,7 @@ use Rattle.flow.specs.Format.{flowOf, statementsOf, successorCount, kindAt, dat
 use Rattle.flow.specs.Fields.{FitFile}
 use Rattle.flow.specs.Limits.{maxFile, maxStatements, maxArrays}
 use Rattle.records.proofs.Files.{limited}
-use Rattle.theory.specs.Lists.{any, has, select, concatMap, optionList, upTo, sumBelow}
+use Rattle.theory.specs.Lists.{any, elem, select, concatMap, optionList, upTo, sumBelow}
 use Rattle.theory.specs.Body.{kind, successors, callLines, continuationOf, isReturn, entered, opaqueCall}
 use Rattle.theory.specs.Doubled.{Base, Node, Edge, at, plain, node, sameNode, once, edges, edgesOf, listedEdges, returnEdges, callEdges, returnsTo, number, edgeEffects, arcsOf, doubled}
 use Rattle.theory.specs.Queue.{Graph, Arc, arcCount, visitBound}
@@ -77,11 +77,11 @@ module _ (f : Flow) (b : Base) (i most : ℕ) (sized : size f ≤ most) (next : 
   call-few : (k : ℕ) → length (callEdges f b i k) ≤ most + most + 1
   unfolding callEdges entered
   call-few k =
-      let others : List ℕ = select (λ j. not (has j (entered f i) || eqb j k)) (successors f i) in
+      let others : List ℕ = select (λ j. not (elem j (entered f i) || eqb j k)) (successors f i) in
       let nodes : List Node = map (at Base.n) (entered f i) ++ (at b k ∷ map (at b) others) in
       let e : List Edge = map (λ v. record { to = v; continues = sameNode v (at b k) }) nodes in
       let p = length-once e in
-      let q = length-select (λ j. not (has j (entered f i) || eqb j k)) (successors f i) in
+      let q = length-select (λ j. not (elem j (entered f i) || eqb j k)) (successors f i) in
       let r = length-options f (callLines (kind f i)) in
       omega (
         arith,

@@ -8,8 +8,8 @@ use mathlib.Core.Path.{_≡_, refl, ap, sym, _∙_, subst}
 use lib.Dec.{leb, leb→le, T}
 use lib.ListN.{length, getD, replicate}
 use borrow.Author.Tests.{leb-true}
-use Rattle.words.specs.Change.{cleared}
-use Rattle.words.proofs.Cleared.{cleared-all}
+use Rattle.words.specs.Change.{zeroed}
+use Rattle.words.proofs.Zeroed.{zeroed-all}
 use Rattle.flow.specs.declared.Refusal.{Refusal}
 use Rattle.flow.specs.declared.Refusal.the-variants.{Areas}
 use Rattle.flow.specs.declared.Header.{Header}
@@ -31,7 +31,7 @@ use Rattle.statements.proofs.WellFormed.{arrays-is, well-formed}
 use Rattle.dataflow.specs.declared.Answer.{Answer}
 use Rattle.dataflow.specs.declared.Answer.the-variants.{Accepted, Refused}
 use Rattle.dataflow.specs.Promise.{Promise, Answered, Untouched, Written, Door, judged, answerBy, answerOf, numberOfAnswer, placeOfAnswer, visitsOfAnswer}
-use Rattle.dataflow.specs.Phases.{Solved}
+use Rattle.dataflow.specs.Phases.{Findings}
 use Rattle.dataflow.proofs.Promised.{promised}
 
 -- an accepted answer is no refusal
@@ -118,7 +118,7 @@ rooms n arrays masks liveIn liveOut work e =
 -- an accepted flow keeps the promise from what the phases left
 pub accepting : (s masks masks′ liveIn liveIn′ liveOut liveOut′ work work′ : List ℕ) (v : ℕ) → FitFile s
     → judged s (length masks) (length liveIn) (length liveOut) (length work) ≡ fit
-    → Solved (flowOf s) masks masks′ liveIn liveIn′ liveOut liveOut′ v
+    → Findings (flowOf s) masks masks′ liveIn liveIn′ liveOut liveOut′ v
     → work′ ≡ replicate (length work) 0
     → Promise s masks masks′ liveIn liveIn′ liveOut liveOut′ work work′ (Accepted v)
 accepting s masks masks′ liveIn liveIn′ liveOut liveOut′ work work′ v h e solved empty = record {
@@ -129,7 +129,7 @@ accepting s masks masks′ liveIn liveIn′ liveOut liveOut′ work work′ v h 
 }
 
 -- with no statements the phases have nothing to do
-pub nothing-solved : (s masks liveIn liveOut : List ℕ) → statementsOf s ≡ 0 → Solved (flowOf s) masks masks liveIn liveIn liveOut liveOut 0
+pub nothing-solved : (s masks liveIn liveOut : List ℕ) → statementsOf s ≡ 0 → Findings (flowOf s) masks masks liveIn liveIn liveOut liveOut 0
 nothing-solved s masks liveIn liveOut z =
     let none : size (flowOf s) ≡ 0 = size-is s ∙ z in
     record {
@@ -172,14 +172,14 @@ zeros zero x = refl
 zeros (suc n) zero = refl
 zeros (suc n) (suc x) = zeros n x
 
--- a list that was cleared whole, by its length before
-pub cleared-whole : (ws : List ℕ) (n : ℕ) → length ws ≡ n → cleared ws 0 n ≡ replicate n 0
-cleared-whole ws n e = subst (λ k. cleared ws 0 k ≡ replicate k 0) e (cleared-all ws)
+-- a list that was zeroed whole, by its length before
+pub zeroed-whole : (ws : List ℕ) (n : ℕ) → length ws ≡ n → zeroed ws 0 n ≡ replicate n 0
+zeroed-whole ws n e = subst (λ k. zeroed ws 0 k ≡ replicate k 0) e (zeroed-all ws)
 
--- the work area where it is cleared only if b
+-- the work area where it is zeroed only if b
 
-pub unfit-kept : (ws : List ℕ) (b : Bool) → b ≡ false → cond b (cleared ws 0 (length ws)) ws ≡ ws
-unfit-kept ws b e = ap (λ (b : Bool). cond b (cleared ws 0 (length ws)) ws) e
+pub unfit-kept : (ws : List ℕ) (b : Bool) → b ≡ false → cond b (zeroed ws 0 (length ws)) ws ≡ ws
+unfit-kept ws b e = ap (λ (b : Bool). cond b (zeroed ws 0 (length ws)) ws) e
 
-pub fit-zero : (ws : List ℕ) (b : Bool) → b ≡ true → cond b (cleared ws 0 (length ws)) ws ≡ replicate (length ws) 0
-fit-zero ws b e = ap (λ (b : Bool). cond b (cleared ws 0 (length ws)) ws) e ∙ cleared-whole ws (length ws) refl
+pub fit-zero : (ws : List ℕ) (b : Bool) → b ≡ true → cond b (zeroed ws 0 (length ws)) ws ≡ replicate (length ws) 0
+fit-zero ws b e = ap (λ (b : Bool). cond b (zeroed ws 0 (length ws)) ws) e ∙ zeroed-whole ws (length ws) refl

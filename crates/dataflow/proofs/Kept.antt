@@ -8,7 +8,7 @@ use lib.ListN.{length, getD}
 use Rattle.words.specs.Row.{has}
 use Rattle.words.proofs.Row.{has-cong}
 use Rattle.flow.specs.Flow.{Flow}
-use Rattle.statements.specs.Layout.{callsAt, rowAt, rowWords, queueAt, enteredAt, waitingAt, areaEnd}
+use Rattle.statements.specs.Layout.{callsAt, rowAt, rowWords, queueAt, enteredRowAt, waitingAt, areaEnd}
 use Rattle.statements.specs.Ready.{Ready, Keeps}
 use Rattle.statements.proofs.WorkArea.{row-from, row-fits, row-words-le, member-word}
 use Rattle.statements.proofs.Keeps.{keeps-has, ready-keeps}
@@ -35,10 +35,10 @@ module _ {ws vs : List ℕ} {n hi : ℕ} (k : Keeps (queueAt n) hi ws vs) where
       }
 
 -- the row of entered statements goes by its words
-module _ (ws vs : List ℕ) (n : ℕ) (k : (x : ℕ) → enteredAt n ≤ x → x < waitingAt n → getD vs x 0 ≡ getD ws x 0) where
-  entered-has : (j : ℕ) → j < n → has vs (enteredAt n) j ≡ has ws (enteredAt n) j
+module _ (ws vs : List ℕ) (n : ℕ) (k : (x : ℕ) → enteredRowAt n ≤ x → x < waitingAt n → getD vs x 0 ≡ getD ws x 0) where
+  entered-has : (j : ℕ) → j < n → has vs (enteredRowAt n) j ≡ has ws (enteredRowAt n) j
   entered-has j l =
-      has-cong vs ws (enteredAt n) j (k (enteredAt n + j / 64) (omega arith) (let word = member-word l in let few = row-words-le n in omega arith))
+      has-cong vs ws (enteredRowAt n) j (k (enteredRowAt n + j / 64) (omega arith) (let word = member-word l in let few = row-words-le n in omega arith))
 
   pub entered-stays : {f : Flow} {i : ℕ} → EnteredRow f ws n i → EnteredRow f vs n i
   entered-stays x = record { row = λ j e o m l. entered-has m l ∙ x .row j e o m l }

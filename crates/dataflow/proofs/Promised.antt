@@ -15,10 +15,10 @@ use Rattle.theory.proofs.Terms.{term-1, term-2-sound, term-2-complete, term-3}
 use Rattle.theory.proofs.Term3.{run-brings}
 use Rattle.theory.proofs.Names.{liveInWord-sound, liveInWord-complete, liveOutWord-sound, liveOutWord-complete}
 use Rattle.dataflow.specs.Promise.{Answered}
-use Rattle.dataflow.specs.Phases.{Solved}
+use Rattle.dataflow.specs.Phases.{Findings}
 
 module _ (f : Flow) (wf : WellFormed f) (masks masks′ liveIn liveIn′ liveOut liveOut′ work work′ : List ℕ) (visits : ℕ)
-    (left : Solved f masks masks′ liveIn liveIn′ liveOut liveOut′ visits) (zero : work′ ≡ replicate (length work) 0) where
+    (left : Findings f masks masks′ liveIn liveIn′ liveOut liveOut′ visits) (zero : work′ ≡ replicate (length work) 0) where
   pub promised : Answered f masks masks′ liveIn liveIn′ liveOut liveOut′ work work′ visits
   promised = record {
     mask-bytes = left .mask-bytes;

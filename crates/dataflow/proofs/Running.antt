@@ -13,10 +13,10 @@ use lib.Dec.{eqb, ltb}
 use lib.ListN.{length, getD}
 use Rattle.words.specs.Byte.{byteAt, byteOf}
 use Rattle.words.proofs.Bytes.{byte-cong}
-use Rattle.masks.specs.declared.Effect.the-variants.{Clear}
+use Rattle.masks.specs.declared.Effect.the-variants.{Reset}
 use Rattle.flow.specs.Flow.{Flow, size}
 use Rattle.flow.specs.Limits.{maxArrays}
-use Rattle.theory.specs.Lists.{has}
+use Rattle.theory.specs.Lists.{elem}
 use Rattle.theory.specs.Doubled.{doubled, boundary}
 use Rattle.theory.specs.Queue.{Graph, Solver, join, pulled, initial, visit, visitBound, solved}
 use Rattle.theory.specs.Masks.{nodeMask, visitsOf}
@@ -26,7 +26,7 @@ use Rattle.theory.proofs.Terms.{doubled-well-formed}
 use Rattle.theory.proofs.Ends.{RuleState, rule-starts, rule-visits, rule-keeps, rule-bound, rule-ends, potential}
 use Rattle.theory.proofs.Exact.{pulled-held}
 use Rattle.theory.proofs.Push.{pulled-first}
-use Rattle.statements.specs.Layout.{maskWords, queueAt, enteredAt, waitingAt, visitedAt, grownAt, maskRowAt, areaEnd}
+use Rattle.statements.specs.Layout.{maskWords, queueAt, enteredRowAt, waitingAt, visitedAt, grownAt, maskRowAt, areaEnd}
 use Rattle.statements.specs.Ready.{Keeps}
 use Rattle.statements.proofs.WorkArea.{member-word, row-words-le}
 use Rattle.statements.proofs.Keeps.{keeps-refl, keeps-trans, keeps-widen}
@@ -38,7 +38,7 @@ use Rattle.solve.specs.Waiting.{Waits, Enqueued}
 use Rattle.solve.specs.Pushed.{masksAt}
 use Rattle.solve.proofs.Waiting.{rest-keeps, waits-none}
 use Rattle.dataflow.specs.Sent.{masksBelow}
-use Rattle.dataflow.specs.Solving.{Solving, Underway, VisitsFront, Unused, Solved}
+use Rattle.dataflow.specs.Solving.{Solving, Underway, VisitsFront, Unused, RuleResult}
 use Rattle.dataflow.proofs.Unions.{cond-zero}
 use Rattle.dataflow.proofs.Visiting.{nodes-are, arrays-are, below-at}
 
@@ -61,7 +61,7 @@ abbrev pub nothing : Queue
 nothing = record { head = 0; len = 0 }
 
 module _ (f : Flow) (n : ℕ) (ws us : List ℕ) (entry count row : ℕ) (sized : size f ≡ n) (some : 0 < n) (unused : Unused ws n) (first : entry ≡ f .entry) (below : entry < n)
-    (all : count ≡ f .arrays) (place : row ≡ maskRowAt n entry) (entered : RowIs ws us row (stepWhere (λ b. ltb b count) Clear (byteAt ws row))) where
+    (all : count ≡ f .arrays) (place : row ≡ maskRowAt n entry) (entered : RowIs ws us row (stepWhere (λ b. ltb b count) Reset (byteAt ws row))) where
   abbrev g : Graph
   g = doubled f
 
@@ -80,7 +80,7 @@ module _ (f : Flow) (n : ℕ) (ws us : List ℕ) (entry count row : ℕ) (sized 
     entry-is = zero-add (f .entry) ∙ sym first
 
     waits : Waits vs n r (initial g .waiting)
-    unfolding initial doubled has
+    unfolding initial doubled elem
     waits =
         subst (λ (l : List ℕ). Waits vs n r l)
         (ap (λ (e : ℕ). e ∷ []) (sym entry-is) ∙ sym (ap (λ (b : Bool). cond b [] (g .entry ∷ [])) (ne-eqb (size f + size f) 0 (λ e. omega arith))))
@@ -116,10 +116,10 @@ module _ (f : Flow) (n : ℕ) (ws us : List ℕ) (entry count row : ℕ) (sized 
 
     empty : EmptyEntered vs n
     empty j l =
-        zero-has vs (enteredAt n) j
+        zero-has vs (enteredRowAt n) j
         (let word = member-word l in
         let few = row-words-le n in
-        q .kept .between (enteredAt n + j / 64) (omega arith) (omega arith) ∙ low (enteredAt n + j / 64) (omega arith) ∙ unused (enteredAt n + j / 64) (omega arith) (omega arith))
+        q .kept .between (enteredRowAt n + j / 64) (omega arith) (omega arith) ∙ low (enteredRowAt n + j / 64) (omega arith) ∙ unused (enteredRowAt n + j / 64) (omega arith) (omega arith))
 
     pub starts : Running f n vs vs r 0
     unfolding initial
@@ -132,7 +132,7 @@ module _ (f : Flow) (n : ℕ) (ws us : List ℕ) (entry count row : ℕ) (sized 
           visited = λ d l. zero-below (visitedAt n + d) (omega arith) (omega arith);
           masks = masks;
           grown = λ d l v. clash false v refl;
-          entered = empty;
+          entered-row = empty;
         };
       };
       counted = refl;
@@ -163,7 +163,7 @@ module _ {f : Flow} (wf : WellFormed f) {n : ℕ} (sized : size f ≡ n) (some :
       let counted = x .counted in
       omega arith
 
-  pub running-ends : queue .len ≡ 0 → Solved f ws₀ ws n visits
+  pub running-ends : queue .len ≡ 0 → RuleResult f ws₀ ws n visits
   unfolding visitsOf nodeMask
   running-ends e = record {
     count = x .counted ∙ ap (λ (s : Solver). s .visits) last;

@@ -16,12 +16,12 @@ use Rattle.words.specs.Byte.{byteAt}
 use Rattle.flow.specs.declared.NodeId.{NodeId}
 use Rattle.flow.specs.Flow.{Flow, size}
 use Rattle.flow.specs.Limits.{maxArrays}
-use Rattle.theory.specs.Lists.{has}
+use Rattle.theory.specs.Lists.{elem}
 use Rattle.theory.specs.Queue.{Arc, join, enqueue, brings}
 use Rattle.theory.specs.Doubled.{Node, Edge, node, number, doubled}
 use Rattle.theory.specs.WellFormed.{WellFormed}
 use Rattle.theory.proofs.Push.{differ, differ-chain}
-use Rattle.statements.specs.Layout.{queueAt, enteredAt, waitingAt, visitedAt, grownAt, areaEnd}
+use Rattle.statements.specs.Layout.{queueAt, enteredRowAt, waitingAt, visitedAt, grownAt, areaEnd}
 use Rattle.statements.specs.Ready.{Keeps}
 use Rattle.statements.proofs.Keeps.{keeps-refl, keeps-trans}
 use Rattle.calls.specs.Slots.{slots, present, toArc}
@@ -54,7 +54,7 @@ pub record Sending (f : Flow) (ws₀ : List ℕ) (n : ℕ) (queue₀ : Queue) (d
   pub rows : (c : Bool) (a : ℕ) → a < maxArrays → masksAt ws n (edgeRow n c) a ≡ masksAt ws₀ n (edgeRow n c) a
   pub grown : GrownWords n ws₀ ws
   pub visited : SameVisited n ws₀ ws
-  pub entered : (x : ℕ) → enteredAt n ≤ x → x < waitingAt n → getD ws x 0 ≡ getD ws₀ x 0
+  pub entered-row : (x : ℕ) → enteredRowAt n ≤ x → x < waitingAt n → getD ws x 0 ≡ getD ws₀ x 0
   pub keeps : Keeps (queueAt n) (areaEnd n) ws₀ ws
 
 pub sending-none : (f : Flow) (ws : List ℕ) (n : ℕ) (queue : Queue) (d : ℕ) → Sending f ws n queue d ws queue 0
@@ -65,7 +65,7 @@ sending-none f ws n queue d = record {
   rows = λ c a l. refl;
   grown = λ t l. sym (ap (λ (b : Bool). cond b 1 (getD ws (grownAt n + t) 0)) (differ-self maxArrays (masksAt ws n t)));
   visited = λ x l h. refl;
-  entered = λ x l h. refl;
+  entered-row = λ x l h. refl;
   keeps = keeps-refl;
 }
 
@@ -150,7 +150,7 @@ module _ {f : Flow} {ws₀ : List ℕ} {n : ℕ} {queue₀ : Queue} {d : ℕ} {w
     rows = λ b a l. p .grown .others (edgeRow n b) a (apart b) l ∙ s .rows b a l;
     grown = grown-more;
     visited = λ y l h. p .visited y l h ∙ s .visited y l h;
-    entered = λ y l h. p .entered y l h ∙ s .entered y l h;
+    entered-row = λ y l h. p .entered-row y l h ∙ s .entered-row y l h;
     keeps = keeps-trans (s .keeps) (p .keeps);
   }
 
@@ -166,6 +166,6 @@ sending-all {f} {ws₀} {n} {queue₀} {d} {ws} {queue} {cursor} s e = record {
       sym (or-zero-r (masksAt ws n t a)) ∙ sym (ap (λ (l : List Edge). bitOr (masksAt ws n t a) (carried f ws₀ n l t a)) e) ∙ s .masks t a l m;
   grown = s .grown;
   visited = s .visited;
-  entered = s .entered;
+  entered-row = s .entered-row;
   keeps = s .keeps;
 }

@@ -17,7 +17,7 @@ use Rattle.theory.specs.Body.{kind, continuationOf, opaqueCall, callTouches}
 use Rattle.theory.specs.Doubled.{Edge, node, edges, statementEffects, edgeEffects, doubled}
 use Rattle.theory.specs.Queue.{stepAll, brings}
 use Rattle.theory.proofs.Push.{differ}
-use Rattle.statements.specs.Layout.{enteredAt, waitingAt, visitedAt, grownAt, callTouchedAt, maskRowAt, outRow, backRow, areaEnd}
+use Rattle.statements.specs.Layout.{enteredRowAt, waitingAt, visitedAt, grownAt, callTouchedAt, maskRowAt, outRow, backRow, areaEnd}
 use Rattle.statements.specs.Ready.{Keeps, MembersWord}
 use Rattle.statements.proofs.Keeps.{keeps-trans}
 use Rattle.words.specs.Byte.{byteAt}
@@ -61,7 +61,7 @@ module _ (f : Flow) (ws us : List ℕ) (n d i count : ℕ) (stmt : i ≡ node f 
 
   -- a call that is not opaque
   module _ (vs os : List ℕ) (touched : MembersWord (getD us (callTouchedAt n + i) 0) (callTouches f i))
-      (back : RowIs us vs (backRow n) (stepWhere (memberBelow us (callTouchedAt n + i) count) Touched (byteAt us (outRow n)))) (noted : Keeps (enteredAt n) (waitingAt n) vs os) where
+      (back : RowIs us vs (backRow n) (stepWhere (memberBelow us (callTouchedAt n + i) count) Touched (byteAt us (outRow n)))) (noted : Keeps (enteredRowAt n) (waitingAt n) vs os) where
     -- the rows for edges lie above the row of entered statements
     row-noted : (c : Bool) (a : ℕ) → masksAt os n (edgeRow n c) a ≡ masksAt vs n (edgeRow n c) a
     row-noted c a = byte-cong os vs (maskRowAt n (edgeRow n c)) a (noted .above _ (omega arith))
@@ -104,7 +104,7 @@ sends {f} {ws} {us} {vs} {os} {n} {d} {queue} {r} l p s c empty = record {
       (differ-as maxArrays (masksAt vs n t) (masksAt os n t) (masksAt us n t) (masksAt ws n t) (λ a m. sym (aside-masks c t a b m)) (λ a m. aside-masks (p .aside) t a b m))
       (aside-grown (p .aside) t b);
   visited = λ x b h. aside-visited c x b h ∙ s .visited x b h ∙ aside-visited (p .aside) x b h;
-  entered = empty;
+  entered-row = empty;
   keeps = keeps-trans (p .aside .keeps) (keeps-trans (s .keeps) (c .keeps));
 }
   where

@@ -11,14 +11,14 @@ use Rattle.flow.specs.Fields.{FitFile}
 use Rattle.flow.specs.Answers.{headerOf}
 use Rattle.theory.specs.Masks.{maskOf, visitsOf}
 use Rattle.theory.specs.Live.{liveInWord, liveOutWord}
-use Rattle.statements.specs.Layout.{queueAt, enteredAt, areaEnd}
+use Rattle.statements.specs.Layout.{queueAt, enteredRowAt, areaEnd}
 use Rattle.statements.specs.Ready.{Ready}
 use Rattle.flow.specs.Format.{flowOf}
 use Rattle.calls.specs.Held.{Summarized, Linked}
 use Rattle.dataflow.specs.Promise.{Written}
 
 -- a fit file, its header, and a work area that is zero
-pub record Fresh (s : List ℕ) (h : Header) (work : List ℕ) : Type 0 where
+pub record FitFlow (s : List ℕ) (h : Header) (work : List ℕ) : Type 0 where
   pub fit : FitFile s
   pub header : h ≡ headerOf s
   pub some : 0 < h .statements
@@ -26,13 +26,13 @@ pub record Fresh (s : List ℕ) (h : Header) (work : List ℕ) : Type 0 where
   pub zero : (x : ℕ) → getD work x 0 ≡ 0
 
 -- and areas with room
-pub record Blank (s : List ℕ) (h : Header) (masks liveIn liveOut work : List ℕ) : Type 0 where
-  pub fresh : Fresh s h work
+pub record FitAreas (s : List ℕ) (h : Header) (masks liveIn liveOut work : List ℕ) : Type 0 where
+  pub fresh : FitFlow s h work
   pub masks-room : h .statements * (h .arrays) ≤ length masks
   pub in-room : h .statements ≤ length liveIn
   pub out-room : h .statements ≤ length liveOut
 
-pub record Solved (f : Flow) (masks masks′ liveIn liveIn′ liveOut liveOut′ : List ℕ) (visits : ℕ) : Type 0 where
+pub record Findings (f : Flow) (masks masks′ liveIn liveIn′ liveOut liveOut′ : List ℕ) (visits : ℕ) : Type 0 where
   pub mask-bytes : (i a : ℕ) → i < size f → a < f .arrays → getD masks′ (i * (f .arrays) + a) 0 ≡ maskOf f i a
   pub masks-size : length masks′ ≡ length masks
   pub masks-kept : (x : ℕ) → size f * (f .arrays) ≤ x → getD masks′ x 0 ≡ getD masks x 0
@@ -41,13 +41,13 @@ pub record Solved (f : Flow) (masks masks′ liveIn liveIn′ liveOut liveOut′
   pub count : visits ≡ visitsOf f
 
 -- the calls have their summaries, and the solver's words are still zero
-pub record Begun (s : List ℕ) (h : Header) (ws : List ℕ) : Type 0 where
+pub record SummariesMade (s : List ℕ) (h : Header) (ws : List ℕ) : Type 0 where
   pub ready : Ready s ws (h .statements)
   pub summarized : Summarized (flowOf s) ws (h .statements)
-  pub zero : (x : ℕ) → enteredAt (h .statements) ≤ x → x < areaEnd (h .statements) → getD ws x 0 ≡ 0
+  pub zero : (x : ℕ) → enteredRowAt (h .statements) ≤ x → x < areaEnd (h .statements) → getD ws x 0 ≡ 0
 
 -- what the forward solver starts from: the edges are known, and its words are zero
-pub record SolverBlank (s : List ℕ) (h : Header) (ws : List ℕ) : Type 0 where
+pub record SolverStart (s : List ℕ) (h : Header) (ws : List ℕ) : Type 0 where
   pub ready : Ready s ws (h .statements)
   pub header : h ≡ headerOf s
   pub linked : Linked (flowOf s) ws (h .statements)

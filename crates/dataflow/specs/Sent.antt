@@ -12,7 +12,7 @@ use Rattle.flow.specs.Limits.{maxArrays}
 use Rattle.theory.specs.Doubled.{Edge, node, number, doubled}
 use Rattle.theory.specs.Queue.{enqueue, brings}
 use Rattle.theory.proofs.Push.{differ}
-use Rattle.statements.specs.Layout.{queueAt, enteredAt, waitingAt, visitedAt, grownAt, areaEnd}
+use Rattle.statements.specs.Layout.{queueAt, enteredRowAt, waitingAt, visitedAt, grownAt, areaEnd}
 use Rattle.statements.specs.Ready.{Keeps}
 use Rattle.calls.specs.Held.{EmptyEntered}
 use Rattle.calls.specs.Slots.{slots, present}
@@ -43,7 +43,7 @@ pub record Sent (f : Flow) (ws vs : List ℕ) (n : ℕ) (queue : Queue) (d : ℕ
   pub masks : (t a : ℕ) → t < 2 * n → a < maxArrays → masksAt vs n t a ≡ bitOr (masksAt ws n t a) (carried f ws n (present (slots f (node f d))) t a)
   pub grown : GrownWords n ws vs
   pub visited : SameVisited n ws vs
-  pub entered : (x : ℕ) → enteredAt n ≤ x → x < waitingAt n → getD vs x 0 ≡ getD ws x 0
+  pub entered-row : (x : ℕ) → enteredRowAt n ≤ x → x < waitingAt n → getD vs x 0 ≡ getD ws x 0
   pub keeps : Keeps (queueAt n) (areaEnd n) ws vs
 
 -- masks of the arrays below the count; the other bytes are 0
@@ -57,5 +57,5 @@ pub record Sends (f : Flow) (ws vs : List ℕ) (n : ℕ) (queue : Queue) (d : �
       → masksAt vs n t a ≡ bitOr (masksAt ws n t a) (masksBelow (f .arrays) (λ b. brings t b (m b) (doubled f .arcs d)) a)
   pub grown : GrownWords n ws vs
   pub visited : SameVisited n ws vs
-  pub entered : EmptyEntered vs n
+  pub entered-row : EmptyEntered vs n
   pub keeps : Keeps (queueAt n) (areaEnd n) ws vs

@@ -24,7 +24,7 @@ pub record Solving (f : Flow) (ws : List ℕ) (n : ℕ) (queue : Queue) (st : So
   pub visited : (d : ℕ) → d < 2 * n → getD ws (visitedAt n + d) 0 ≡ cond (st .visited d) 1 0
   pub masks : (d a : ℕ) → d < 2 * n → a < maxArrays → masksAt ws n d a ≡ masksBelow (f .arrays) (pulled (doubled f) st d) a
   pub grown : (d : ℕ) → d < 2 * n → st .visited d ≡ true → getD ws (grownAt n + d) 0 ≡ cond (changed (doubled f) st d) 1 0
-  pub entered : EmptyEntered ws n
+  pub entered-row : EmptyEntered ws n
 
 -- a state that the rule comes to, with its work area
 pub record Underway (f : Flow) (ws : List ℕ) (n : ℕ) (queue : Queue) : Type 0 where
@@ -44,7 +44,7 @@ abbrev pub Unused : List ℕ → ℕ → Type 0
 Unused ws n = (x : ℕ) → queueAt n ≤ x → x < areaEnd n → getD ws x 0 ≡ 0
 
 -- from an area that is zero from the queue on, the queue rule's visits and, of every number, what it leaves
-pub record Solved (f : Flow) (ws vs : List ℕ) (n visits : ℕ) : Type 0 where
+pub record RuleResult (f : Flow) (ws vs : List ℕ) (n visits : ℕ) : Type 0 where
   pub count : visits ≡ visitsOf f
   pub masks : (d a : ℕ) → d < 2 * n → a < f .arrays → masksAt vs n d a ≡ nodeMask f d a
   pub keeps : Keeps (queueAt n) (areaEnd n) ws vs

@@ -15,9 +15,9 @@ ghost use Rattle.calls.specs.Held.{Linked, EnteredRow, EmptyEntered};
 ghost use Rattle.solve.specs.Waiting.{Waits};
 ghost use Rattle.solve.specs.Pushed.{Pushed};
 ghost use Rattle.dataflow.specs.Sent.{edgeRow, Sent, Sends};
-ghost use Rattle.dataflow.specs.Solving.{Underway, VisitsFront, Unused, Solved};
+ghost use Rattle.dataflow.specs.Solving.{Underway, VisitsFront, Unused, RuleResult};
 use crate::transfer;
-use calls::CLEAR;
+use calls::TRANSPARENT;
 use calls::edges;
 use masks::Effect;
 use solve::Queue;
@@ -72,18 +72,18 @@ fn send(file: &[u8], h: flow::Header, work: &mut [u64], first: Queue, d: usize) 
     let n = h.statements;
     let i = statement_of(n, d);
     transfer::transfer(file, h, work, d, i);
-    if work[layout::calls(n) + i] == CLEAR {
+    if work[layout::calls(n) + i] == TRANSPARENT {
         transfer::transfer_back(work, h, i);
         edges::note_entered(file, work, n, i);
         let queue = push_edges(file, h, work, first, d);
-        edges::clear_entered(work, n);
+        edges::zero_entered(work, n);
         return queue;
     }
     push_edges(file, h, work, first, d)
 }
 
 // d was visited, and its masks have not grown since.
-fn settled(work: &[u64], n: usize, d: usize) -> bool
+fn unchanged(work: &[u64], n: usize, d: usize) -> bool
     requires { ⌜ (n ≤ maxStatements) × (areaEnd n ≤ length (now work)) × (d < 2 * n) ⌝ }
     ensures { λ r. ⌜ r ≡ (eqb (getD (now (work .entry)) (visitedAt n + d) 0) 1 && eqb (getD (now (work .entry)) (grownAt n + d) 0) 0) ⌝ }
 {
@@ -110,7 +110,7 @@ fn visit(file: &[u8], h: flow::Header, work: &mut [u64], first: Queue) -> Queue
     let n = h.statements;
     let d = ring::take(work, n, first);
     let queue = ring::rest(n, first);
-    if settled(work, n, d) {
+    if unchanged(work, n, d) {
         return queue;
     }
     note_visit(work, n, d);
@@ -120,11 +120,11 @@ fn visit(file: &[u8], h: flow::Header, work: &mut [u64], first: Queue) -> Queue
 // The queue rule. The count of visits comes back.
 pub fn array_states(file: &[u8], h: flow::Header, work: &mut [u64]) -> u64
     requires { ⌜ Ready (now file) (now work) (h .statements) × (h ≡ headerOf (now file)) × Linked (flowOf (now file)) (now work) (h .statements) × (0 < h .statements) × Unused (now work) (h .statements) ⌝ }
-    ensures { λ r. ⌜ Solved (flowOf (now (file .entry))) (now (work .entry)) (now (work .exit)) (h .statements) r ⌝ }
+    ensures { λ r. ⌜ RuleResult (flowOf (now (file .entry))) (now (work .entry)) (now (work .exit)) (h .statements) r ⌝ }
 {
     let n = h.statements;
     let entry = h.entry;
-    rows::step_all(work, layout::mask_row(n, entry), h.arrays, Effect::Clear);
+    rows::step_all(work, layout::mask_row(n, entry), h.arrays, Effect::Reset);
     let mut queue = ring::enqueue(work, n, Queue { head: 0, len: 0 }, entry);
     let mut visits = 0u64;
     while 0 < queue.len {

@@ -24,7 +24,7 @@ use statements::layout;
 
 fn step_references(file: &[u8], work: &mut [u64], n: usize, i: usize, row: usize)
     requires { ⌜ Ready (now file) (now work) n × (i < n) × (n ≤ row) × (row + maskWords ≤ length (now work)) ⌝ }
-    ensures { λ _. ⌜ RowIs (now (work .entry)) (now (work .exit)) row (stepWhere (λ a. lists.has a (references (flowOf (now (file .entry))) i)) Reference (byteAt (now (work .entry)) row)) ⌝ }
+    ensures { λ _. ⌜ RowIs (now (work .entry)) (now (work .exit)) row (stepWhere (λ a. lists.elem a (references (flowOf (now (file .entry))) i)) Reference (byteAt (now (work .entry)) row)) ⌝ }
 {
     let count = fields::reference_count(file, work, n, i);
     let mut k = 0;
@@ -68,8 +68,8 @@ pub fn transfer(file: &[u8], h: flow::Header, work: &mut [u64], d: usize, i: usi
     rows::copy_row(work, row, layout::mask_row(n, d));
     step_references(file, work, n, i, row);
     step_items(file, work, n, i, row);
-    if fields::clears(file, work, n, i) {
-        rows::step_all(work, row, h.arrays, Effect::Clear);
+    if fields::resets(file, work, n, i) {
+        rows::step_all(work, row, h.arrays, Effect::Reset);
     }
 }
 

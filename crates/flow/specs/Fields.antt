@@ -10,8 +10,8 @@ use lib.Bits.{bitOr}
 use lib.Dec.{eqb}
 use Rattle.flow.specs.declared.Continuation.{Continuation}
 use Rattle.flow.specs.declared.Continuation as C
-use Rattle.flow.specs.declared.Entered.{Entered}
-use Rattle.flow.specs.declared.Entered as E
+use Rattle.flow.specs.declared.LineEntry.{LineEntry}
+use Rattle.flow.specs.declared.LineEntry as E
 use Rattle.flow.specs.Format.{Verdict, fit, unfit, verdict, fileChecks, recordChecks, kindAt, dataPlace, dataCount, elementsEnd, continuationAt, recordEnd, lineCount, lineNumber, u16At}
 
 -- the file, or the record at p, was found fit
@@ -47,9 +47,9 @@ abbrev pub continuationTo : Option ℕ → Continuation
 continuationTo none = C.the-variants.None
 continuationTo (some t) = C.the-variants.To (record { 0 = t })
 
-abbrev pub enteredAt : Option ℕ → Entered
-enteredAt none = E.the-variants.Nothing
-enteredAt (some t) = E.the-variants.At (record { 0 = t })
+abbrev pub lineEntryOf : Option ℕ → LineEntry
+lineEntryOf none = E.the-variants.Nothing
+lineEntryOf (some t) = E.the-variants.At (record { 0 = t })
 
 abbrev pub isFit : Verdict → Bool
 isFit fit = true
@@ -67,9 +67,9 @@ abbrev pub bitIn : ℕ → ℕ → ℕ
 bitIn w a = cond (eqb (a / 64) w) (2 ^ (a % 64)) 0
 
 -- word w of the set f 0, f 1, .. of k elements
-unfoldable pub wordOf : ℕ → (ℕ → ℕ) → ℕ → ℕ
-wordOf zero f w = 0
-wordOf (suc k) f w = bitOr (wordOf k f w) (bitIn w (f k))
+unfoldable pub setWord : ℕ → (ℕ → ℕ) → ℕ → ℕ
+setWord zero f w = 0
+setWord (suc k) f w = bitOr (setWord k f w) (bitIn w (f k))
 
 -- ws with f 0, f 1, .. of k elements at base, base + 1, ..
 unfoldable pub noted : List ℕ → ℕ → ℕ → (ℕ → ℕ) → List ℕ

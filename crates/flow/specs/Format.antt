@@ -309,12 +309,12 @@ fileChecks s =
 
 -- What an accepted file says
 
-abbrev pub continuationOf : ℕ → Bool → Option ℕ
-continuationOf t true = none
-continuationOf t false = some t
+abbrev pub continuationFrom : ℕ → Bool → Option ℕ
+continuationFrom t true = none
+continuationFrom t false = some t
 
 abbrev pub continuationAt : List ℕ → ℕ → Option ℕ
-continuationAt s at = continuationOf (u16At s at) (eqb (u16At s at) noContinuation)
+continuationAt s at = continuationFrom (u16At s at) (eqb (u16At s at) noContinuation)
 
 abbrev pub itemAt : List ℕ → ℕ → ℕ → Item
 itemAt s p k = record { array = u8At s (elementPlace s p k); flag = u8At s (elementPlace s p k + 1) }

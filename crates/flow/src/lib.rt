@@ -92,7 +92,7 @@ pub enum Continuation {
 }
 
 // The statement that a line enters, if there is one.
-pub enum Entered {
+pub enum LineEntry {
     At(StmtId),
     Nothing,
 }

@@ -16,7 +16,7 @@ use Rattle.theory.specs.Lists as lists
 use Rattle.theory.specs.Lists.{In}
 use Rattle.theory.specs.Body.{successors}
 use Rattle.theory.specs.Live.{LiveIn, LiveOut, bitOf, writes, reads}
-use Rattle.theory.proofs.Lists.{In-has, has-In}
+use Rattle.theory.proofs.Lists.{In-elem, elem-In}
 use Rattle.statements.specs.Layout.{rowAt}
 use Rattle.solve.specs.declared.Queue.{Queue}
 use Rattle.live.specs.Predecessors.{Predecessors}
@@ -46,10 +46,10 @@ module _ {f : Flow} {ws vs ins outs outs′ w v : List ℕ} {n j live : ℕ} {q 
   -- a predecessor's word has what it had and the live-in; every other word is as it was
 
   in-row : (k : ℕ) → k < n → In j (successors f k) → has ws (rowAt n j) k ≡ 1
-  in-row k l m = rows k l j small ∙ ap bitOf (In-has m)
+  in-row k l m = rows k l j small ∙ ap bitOf (In-elem m)
 
   row-in : (k : ℕ) → k < n → has ws (rowAt n j) k ≡ 1 → In j (successors f k)
-  row-in k l e = has-In j (successors f k) (bit-one (lists.has j (successors f k)) (sym (rows k l j small) ∙ e))
+  row-in k l e = elem-In j (successors f k) (bit-one (lists.elem j (successors f k)) (sym (rows k l j small) ∙ e))
 
   out-more : (k x : ℕ) → k < n → bit (getD outs k 0) x ≡ 1 → bit (getD outs′ k 0) x ≡ 1
   out-more k x l e = subst (λ z. bit z x ≡ 1) (sym (p .words k l)) (go (ℕ-discrete (has ws (rowAt n j) k) 1))

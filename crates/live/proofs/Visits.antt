@@ -19,7 +19,7 @@ use Rattle.live.specs.Solving.{transfer, Solving, Held, Visited}
 use Rattle.live.proofs.Facts.{written-word}
 use Rattle.live.proofs.Pushing.{rest-row}
 use Rattle.live.proofs.Solving.{handled}
-use Rattle.live.proofs.Solved.{out-word}
+use Rattle.live.proofs.Solution.{out-word}
 
 -- the queue's words are kept apart from the noted places and from the rows
 

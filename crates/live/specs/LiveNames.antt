@@ -13,7 +13,7 @@ use Rattle.live.specs.Predecessors.{Predecessors}
 use Rattle.live.specs.Solving.{Held}
 
 -- the areas have room for n words, and the matrix and the queue are zero
-pub record Blank (s ws ins outs : List ℕ) (n : ℕ) : Type 0 where
+pub record LiveStart (s ws ins outs : List ℕ) (n : ℕ) : Type 0 where
   pub ready : Ready s ws n
   pub some : 0 < n
   pub in-room : n ≤ length ins
@@ -21,7 +21,7 @@ pub record Blank (s ws ins outs : List ℕ) (n : ℕ) : Type 0 where
   pub zero : (x : ℕ) → matrixAt n ≤ x → x < visitedAt n → getD ws x 0 ≡ 0
 
 -- no name is live yet, and every statement waits
-pub record Begun (f : Flow) (n : ℕ) (ws vs ins ins′ outs outs′ : List ℕ) (q : Queue) : Type 0 where
+pub record AllWaiting (f : Flow) (n : ℕ) (ws vs ins ins′ outs outs′ : List ℕ) (q : Queue) : Type 0 where
   pub predecessors : Predecessors f vs n
   pub held : Held f n vs ins′ outs′ q
   pub kept : Keeps (matrixAt n) (visitedAt n) ws vs

@@ -14,7 +14,7 @@ use Rattle.statements.specs.Ready.{Keeps}
 
 -- column i holds a list of statements
 abbrev pub Column : List ℕ → ℕ → ℕ → List ℕ → Type 0
-Column ws n i l = (j : ℕ) → j < n → has ws (rowAt n j) i ≡ bitOf (lists.has j l)
+Column ws n i l = (j : ℕ) → j < n → has ws (rowAt n j) i ≡ bitOf (lists.elem j l)
 
 -- statement i is noted in the rows of its successors
 pub record Noted (f : Flow) (ws vs : List ℕ) (n i : ℕ) : Type 0 where

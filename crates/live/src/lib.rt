@@ -10,7 +10,7 @@ ghost use Rattle.solve.specs.Waiting.{Waits};
 ghost use Rattle.live.specs.Predecessors.{Column, Noted, Predecessors};
 ghost use Rattle.live.specs.Spread.{PushedTo, PushedLive};
 ghost use Rattle.live.specs.Solving.{Held, Visited};
-ghost use Rattle.live.specs.LiveNames.{Blank, Begun, LiveNames};
+ghost use Rattle.live.specs.LiveNames.{LiveStart, AllWaiting, LiveNames};
 use solve::Queue;
 use solve::ring;
 use statements::fields;
@@ -99,8 +99,8 @@ fn begin(
     live_out: &mut [u64],
     n: usize,
 ) -> Queue
-    requires { ⌜ Blank (now file) (now work) (now «live_in») (now «live_out») n ⌝ }
-    ensures { λ q. ⌜ Begun (flowOf (now (file .entry))) n (now (work .entry)) (now (work .exit)) (now («live_in» .entry)) (now («live_in» .exit)) (now («live_out» .entry)) (now («live_out» .exit)) q ⌝ }
+    requires { ⌜ LiveStart (now file) (now work) (now «live_in») (now «live_out») n ⌝ }
+    ensures { λ q. ⌜ AllWaiting (flowOf (now (file .entry))) n (now (work .entry)) (now (work .exit)) (now («live_in» .entry)) (now («live_in» .exit)) (now («live_out» .entry)) (now («live_out» .exit)) q ⌝ }
 {
     let mut queue = Queue { head: 0, len: 0 };
     let mut i = n;
@@ -122,7 +122,7 @@ pub fn live_names(
     live_out: &mut [u64],
     n: usize,
 )
-    requires { ⌜ Blank (now file) (now work) (now «live_in») (now «live_out») n ⌝ }
+    requires { ⌜ LiveStart (now file) (now work) (now «live_in») (now «live_out») n ⌝ }
     ensures { λ _. ⌜ LiveNames (flowOf (now (file .entry))) n (now (work .entry)) (now (work .exit)) (now («live_in» .entry)) (now («live_in» .exit)) (now («live_out» .entry)) (now («live_out» .exit)) ⌝ }
 {
     let mut queue = begin(file, work, live_in, live_out, n);

@@ -2,7 +2,7 @@
 ghost use mathlib.Core.Path.{_≡_};
 ghost use Prim.Native.Nat.{_+_, _≤_, _<_};
 ghost use Rattle.flow.specs.Format.{lineAt, kindAt, successorCount, successorAt, referencesPlace, referenceCount, referenceAt, namesPlace, writtenAt, readAt, dataPlace, itemAt, recordEnd};
-ghost use Rattle.flow.specs.Fields.{FitRecord, recordPart, itemCount, callLineCount, callLineAt, continuationIn, continuationTo, bitIn, wordOf};
+ghost use Rattle.flow.specs.Fields.{FitRecord, recordPart, itemCount, callLineCount, callLineAt, continuationIn, continuationTo, bitIn, setWord};
 use flow::Continuation;
 use flow::Item;
 use flow::NO_CONTINUATION;
@@ -72,7 +72,7 @@ fn bit_in(w: usize, a: usize) -> u64
 // Word w of the set of references: array a is bit a % 64 of word a / 64.
 pub fn references_word(file: &[u8], p: usize, w: usize) -> u64
     requires { ⌜ FitRecord (now file) p ⌝ }
-    ensures { λ r. ⌜ r ≡ wordOf (referenceCount (now (file .entry)) p) (referenceAt (now (file .entry)) p) w ⌝ }
+    ensures { λ r. ⌜ r ≡ setWord (referenceCount (now (file .entry)) p) (referenceAt (now (file .entry)) p) w ⌝ }
 {
     let at = references_place(file, p);
     let n = u8_at(file, at);

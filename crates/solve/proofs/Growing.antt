@@ -151,7 +151,7 @@ pushed {ws} {us} {vs} {n} {from} {d} {queue} {r} below x y =
         not-grew = λ e l ne. y .kept .above (grownAt n + e) (omega arith) ∙ x .0 .not-grew e l ne;
       };
       waits = λ w h. y .waits w (waits-grown (x .1) h);
-      entered = λ i l h. y .kept .between i l h ∙ x .1 .below i (omega arith);
+      entered-row = λ i l h. y .kept .between i l h ∙ x .1 .below i (omega arith);
       visited = λ i l h. y .kept .above i l ∙ x .1 .below i h;
       keeps = keeps-trans (keeps-widen (omega arith) (omega arith) (x .1)) (keeps-widen (omega arith) (omega arith) (rest-keeps (y .kept)));
     }

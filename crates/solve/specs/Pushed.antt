@@ -11,7 +11,7 @@ use Rattle.words.specs.Byte.{byteAt}
 use Rattle.flow.specs.Limits.{maxArrays}
 use Rattle.theory.specs.Queue.{join}
 use Rattle.theory.proofs.Push.{differ}
-use Rattle.statements.specs.Layout.{maskWords, queueAt, enteredAt, waitingAt, visitedAt, grownAt, maskRowAt, areaEnd}
+use Rattle.statements.specs.Layout.{maskWords, queueAt, enteredRowAt, waitingAt, visitedAt, grownAt, maskRowAt, areaEnd}
 use Rattle.statements.specs.Ready.{Keeps}
 use Rattle.solve.specs.declared.Queue.{Queue}
 use Rattle.solve.specs.Waiting.{Waits}
@@ -31,6 +31,6 @@ pub record Grown (ws vs : List ℕ) (n from d : ℕ) : Type 0 where
 pub record Pushed (ws vs : List ℕ) (n : ℕ) (queue : Queue) (from d : ℕ) (r : Queue) : Type 0 where
   pub grown : Grown ws vs n from d
   pub waits : (w : List ℕ) → Waits ws n queue w → Waits vs n r (join w d)
-  pub entered : (x : ℕ) → enteredAt n ≤ x → x < waitingAt n → getD vs x 0 ≡ getD ws x 0
+  pub entered-row : (x : ℕ) → enteredRowAt n ≤ x → x < waitingAt n → getD vs x 0 ≡ getD ws x 0
   pub visited : (x : ℕ) → visitedAt n ≤ x → x < grownAt n → getD vs x 0 ≡ getD ws x 0
   pub keeps : Keeps (queueAt n) (areaEnd n) ws vs

@@ -6,9 +6,9 @@ use mathlib.Core.List.{List, _∷_}
 use mathlib.Core.Path.{_≡_}
 use lib.Dec.{ltb}
 use lib.ListN.{length, getD}
-use Rattle.theory.specs.Lists.{In, has, Distinct}
+use Rattle.theory.specs.Lists.{In, elem, Distinct}
 use Rattle.theory.specs.Queue.{join}
-use Rattle.statements.specs.Layout.{queueAt, enteredAt, waitingAt, visitedAt}
+use Rattle.statements.specs.Layout.{queueAt, enteredRowAt, waitingAt, visitedAt}
 use Rattle.solve.specs.declared.Queue.{Queue}
 
 -- the place i of a ring, where i has gone past its end at most once
@@ -20,7 +20,7 @@ pub record Waits (ws : List ℕ) (n : ℕ) (queue : Queue) (w : List ℕ) : Type
   pub count : queue .len ≡ length w
   pub front : queue .head < 2 * n
   pub slot : (k : ℕ) → k < length w → getD ws (queueAt n + wrapped (2 * n) (queue .head + k)) 0 ≡ getD w k 0
-  pub flag : (d : ℕ) → d < 2 * n → getD ws (waitingAt n + d) 0 ≡ cond (has d w) 1 0
+  pub flag : (d : ℕ) → d < 2 * n → getD ws (waitingAt n + d) 0 ≡ cond (elem d w) 1 0
   pub below : (d : ℕ) → In d w → d < 2 * n
   pub distinct : Distinct w
 
@@ -28,7 +28,7 @@ pub record Waits (ws : List ℕ) (n : ℕ) (queue : Queue) (w : List ℕ) : Type
 pub record KeepsRest (n : ℕ) (ws vs : List ℕ) : Type 0 where
   pub size : length vs ≡ length ws
   pub below : (x : ℕ) → x < queueAt n → getD vs x 0 ≡ getD ws x 0
-  pub between : (x : ℕ) → enteredAt n ≤ x → x < waitingAt n → getD vs x 0 ≡ getD ws x 0
+  pub between : (x : ℕ) → enteredRowAt n ≤ x → x < waitingAt n → getD vs x 0 ≡ getD ws x 0
   pub above : (x : ℕ) → visitedAt n ≤ x → getD vs x 0 ≡ getD ws x 0
 
 pub record Enqueued (ws vs : List ℕ) (n : ℕ) (queue : Queue) (d : ℕ) (r : Queue) : Type 0 where

@@ -8,7 +8,7 @@ use mathlib.Core.Path.{_≡_, refl, sym, _∙_, subst}
 use lib.ListN.{length, getD, set, length-set}
 use lib.Seq.{getD-set-other}
 use Rattle.words.specs.Row.{has}
-use Rattle.words.specs.Change.{joined, inserted, rewritten, unioned, cleared}
+use Rattle.words.specs.Change.{joined, inserted, rewritten, unioned, zeroed}
 use Rattle.words.specs.Byte.{byteSet}
 use Rattle.words.proofs.Row.{has-cong}
 use Rattle.words.proofs.Rewritten.{length-rewritten, rewritten-other}
@@ -86,9 +86,9 @@ module _ (ws : List ℕ) {lo hi : ℕ} where
   unfolding unioned
   keeps-unioned to from width l h = keeps-rewritten _ to width l h
 
-  pub keeps-cleared : (base width : ℕ) → lo ≤ base → base + width ≤ hi → Keeps lo hi ws (cleared ws base width)
-  unfolding cleared
-  keeps-cleared base width l h = keeps-rewritten _ base width l h
+  pub keeps-zeroed : (base width : ℕ) → lo ≤ base → base + width ≤ hi → Keeps lo hi ws (zeroed ws base width)
+  unfolding zeroed
+  keeps-zeroed base width l h = keeps-rewritten _ base width l h
 
 -- a phase that writes above the noted places keeps them
 pub ready-keeps : {s ws vs : List ℕ} {n lo hi : ℕ} → Ready s ws n → Keeps lo hi ws vs → n ≤ lo → Ready s vs n

@@ -34,8 +34,8 @@ rowAt n i = matrixAt n + rowWords n * i
 abbrev pub queueAt : ℕ → ℕ
 queueAt n = rowAt n n
 
-abbrev pub enteredAt : ℕ → ℕ
-enteredAt n = queueAt n + 2 * n
+abbrev pub enteredRowAt : ℕ → ℕ
+enteredRowAt n = queueAt n + 2 * n
 
 abbrev pub waitingAt : ℕ → ℕ
 waitingAt n = queueAt n + 3 * n

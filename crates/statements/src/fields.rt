@@ -6,7 +6,7 @@ ghost use lib.ListN.{length, getD};
 ghost use Rattle.flow.specs.Flow.{statement, enters, items};
 ghost use Rattle.flow.specs.Format as format;
 ghost use Rattle.flow.specs.Format.{flowOf};
-ghost use Rattle.flow.specs.Fields.{continuationTo, enteredAt};
+ghost use Rattle.flow.specs.Fields.{continuationTo, lineEntryOf};
 ghost use Rattle.flow.specs.Answers.{headerOf};
 ghost use Rattle.theory.specs.Body as body;
 ghost use Rattle.theory.specs.Body.{kind, successors, references, callLines, continuationOf, isReturn};
@@ -30,7 +30,7 @@ pub fn is_return(file: &[u8], work: &[u64], n: usize, i: usize) -> bool
 }
 
 // CLR and RUN: every array becomes NONE.
-pub fn clears(file: &[u8], work: &[u64], n: usize, i: usize) -> bool
+pub fn resets(file: &[u8], work: &[u64], n: usize, i: usize) -> bool
     requires { ⌜ Ready (now file) (now work) n × (i < n) ⌝ }
     ensures { λ r. ⌜ r ≡ empties (kind (flowOf (now (file .entry))) i) ⌝ }
 {
@@ -43,7 +43,7 @@ pub fn wipes(file: &[u8], work: &[u64], n: usize, i: usize) -> bool
     requires { ⌜ Ready (now file) (now work) n × (i < n) ⌝ }
     ensures { λ r. ⌜ r ≡ body.wipes (kind (flowOf (now (file .entry))) i) ⌝ }
 {
-    if clears(file, work, n, i) {
+    if resets(file, work, n, i) {
         return true;
     }
     0 < records::item_count(file, offset(file, work, n, i))
@@ -87,7 +87,7 @@ pub fn reference(file: &[u8], work: &[u64], n: usize, i: usize, k: usize) -> usi
 // The references as a set: array a is bit a of the word.
 pub fn references_word(file: &[u8], work: &[u64], n: usize, i: usize) -> u64
     requires { ⌜ Ready (now file) (now work) n × (i < n) ⌝ }
-    ensures { λ r. ⌜ MembersWord r (λ a. lists.has a (references (flowOf (now (file .entry))) i)) ⌝ }
+    ensures { λ r. ⌜ MembersWord r (λ a. lists.elem a (references (flowOf (now (file .entry))) i)) ⌝ }
 {
     records::references_word(file, offset(file, work, n, i), 0)
 }
@@ -129,9 +129,9 @@ pub fn line_count(file: &[u8], work: &[u64], n: usize, i: usize) -> usize
 }
 
 // The statement that the k-th of them enters, if any.
-pub fn entered(file: &[u8], h: flow::Header, work: &[u64], i: usize, k: usize) -> flow::Entered
+pub fn entered(file: &[u8], h: flow::Header, work: &[u64], i: usize, k: usize) -> flow::LineEntry
     requires { ⌜ Ready (now file) (now work) (h .statements) × (h ≡ headerOf (now file)) × (i < h .statements) × (k < length (callLines (kind (flowOf (now file)) i))) ⌝ }
-    ensures { λ r. ⌜ r ≡ enteredAt (enters (flowOf (now (file .entry))) (getD (callLines (kind (flowOf (now (file .entry))) i)) k 0)) ⌝ }
+    ensures { λ r. ⌜ r ≡ lineEntryOf (enters (flowOf (now (file .entry))) (getD (callLines (kind (flowOf (now (file .entry))) i)) k 0)) ⌝ }
 {
     let n = h.statements;
     let lines_at = h.lines_at;

@@ -72,9 +72,9 @@ fn part(n: usize, k: usize) -> usize
 }
 
 // The statements that the call at hand enters.
-pub fn entered(n: usize) -> usize
+pub fn entered_row(n: usize) -> usize
     requires { ⌜ n ≤ maxStatements ⌝ }
-    ensures { λ r. ⌜ r ≡ at.enteredAt n ⌝ }
+    ensures { λ r. ⌜ r ≡ at.enteredRowAt n ⌝ }
 {
     part(n, 2)
 }

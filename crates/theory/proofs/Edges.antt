@@ -12,11 +12,11 @@ use native.Mathlib.Decide.{decLt}
 use native.Mathlib.Omega.{arith}
 use borrow.Author.Tests.{eq-eqb, eqb-true}
 use Rattle.flow.specs.Flow.{Flow, Kind, size, statement, noStatement}
-use Rattle.theory.specs.Lists.{In, any, has, select, upTo}
+use Rattle.theory.specs.Lists.{In, any, elem, select, upTo}
 use Rattle.theory.specs.Body.{kind, successors, continuationOf, entered, callees, isReturn, walked, opaqueCall}
 use Rattle.theory.specs.WellFormed.{WellFormed}
 use Rattle.theory.specs.Doubled.{Base, Node, Edge, at, plain, sameBase, sameNode, returnsTo, returnEdges, once, callEdges, listedEdges, edgesOf, edges}
-use Rattle.theory.proofs.Lists.{any-In, In-has, select-In, In-select, upTo-In, In-upTo}
+use Rattle.theory.proofs.Lists.{any-In, In-elem, select-In, In-select, upTo-In, In-upTo}
 use Rattle.theory.proofs.Body.{entered-below}
 
 -- a test of two nodes is true of equal ones and of no others
@@ -72,7 +72,7 @@ in-once {x} (e ∷ es) m = go (in-once es) (List·Memᴰ·cases-cons m)
 
 -- where a call that is not opaque goes: the listed successors that are neither entered nor the continuation come last
 abbrev others : Flow → ℕ → ℕ → ℕ → Bool
-others f i k j = not (has j (entered f i) || eqb j k)
+others f i k j = not (elem j (entered f i) || eqb j k)
 
 abbrev targets : Flow → Base → ℕ → ℕ → List Node
 targets f b i k = map (at Base.n) (entered f i) ++ (at b k ∷ map (at b) (select (others f i k) (successors f i)))
@@ -134,7 +134,7 @@ return-edge f r {c} {k} {e} cr rr cn kn ck o m w =
     (any-In (returnsTo f r k) (upTo-In (size f) c cn) passes))))
   where
     passes : returnsTo f r k c ≡ true
-    passes = rw (ck, eq-eqb k k refl, o) (any-In (λ b. has r (walked f b)) m (In-has w))
+    passes = rw (ck, eq-eqb k k refl, o) (any-In (λ b. elem r (walked f b)) m (In-elem w))
 
 -- only a statement has a continuation
 pub statement-of : (f : Flow) (c : ℕ) {k : ℕ} → continuationOf (kind f c) ≡ some k → c < size f

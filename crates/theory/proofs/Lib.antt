@@ -1,7 +1,7 @@
 pub mod Lists
 pub mod Reach
 pub mod Body
-pub mod Clear
+pub mod Transparent
 pub mod Live
 pub mod Names
 pub mod Cases

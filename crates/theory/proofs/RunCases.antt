@@ -8,7 +8,7 @@ use lib.Dec.{lit<}
 use native.Mathlib.Omega.{arith}
 use Rattle.masks.specs.State.{State}
 use Rattle.flow.specs.Flow.{Kind, firstOf}
-use Rattle.theory.specs.Lists.{In, any, has, concatMap, optionList}
+use Rattle.theory.specs.Lists.{In, any, elem, concatMap, optionList}
 use Rattle.theory.specs.Body.{kind, successors, entered}
 use Rattle.theory.specs.Doubled.{kindEffects, statementEffects}
 use Rattle.theory.specs.Runs.{Frame, Config, config, becomeAll, act, Move, Run, Listed}
@@ -16,22 +16,22 @@ use Rattle.theory.specs.Cases.{p5With, item, p5, p5On, p6, p8}
 
 -- GOSUB 30 in P5 and its kin
 call-run : (k : Kind) (rs : List ℕ) → Run (p5With k rs) (config 2 (λ a. State.none) (Frame.back 1 ∷ []))
-unfolding entered concatMap optionList firstOf act becomeAll statementEffects kindEffects has
+unfolding entered concatMap optionList firstOf act becomeAll statementEffects kindEffects elem
 call-run k rs = Run.move (Run.start (lit< tt)) (Move.gosub refl (List·Memᴰ·head refl))
 
 -- a reference, and RETURN to statement 1
 pub p5-run : (s : ℕ → State) × Run p5 (config 1 s []) × (s 0 ≡ State.auto)
-unfolding act becomeAll statementEffects kindEffects has
+unfolding act becomeAll statementEffects kindEffects elem
 p5-run = (_, Run.move (Run.move (call-run Kind.other (0 ∷ [])) (Move.next refl (List·Memᴰ·head refl))) (Move.return refl), refl)
 
 -- a DIM, and RETURN
 pub p6-run : (s : ℕ → State) × Run p6 (config 1 s []) × (s 0 ≡ State.dimmed)
-unfolding act becomeAll statementEffects kindEffects has any
+unfolding act becomeAll statementEffects kindEffects elem any
 p6-run = (_, Run.move (Run.move (call-run (Kind.dim (item 0 1 ∷ [])) []) (Move.next refl (List·Memᴰ·head refl))) (Move.return refl), refl)
 
 -- ON GOSUB 30, a reference, and RETURN
 pub on-run : (s : ℕ → State) × Run p5On (config 1 s []) × (s 0 ≡ State.auto)
-unfolding entered concatMap optionList firstOf act becomeAll statementEffects kindEffects has
+unfolding entered concatMap optionList firstOf act becomeAll statementEffects kindEffects elem
 on-run = (
   _,
   Run.move
@@ -64,21 +64,21 @@ p5-listed = record { enters = entering; after = passing }
 
 -- ON GOSUB passed over: statement 1 is found with NONE
 pub skip-run : (s : ℕ → State) × Run p5On (config 1 s []) × (s 0 ≡ State.none)
-unfolding act becomeAll statementEffects kindEffects has
+unfolding act becomeAll statementEffects kindEffects elem
 skip-run = (_, Run.move (Run.start (lit< tt)) (Move.skip refl), refl)
 
 -- CLR and RUN in the subroutine empty the stack
 
 pub p8-run : (s : ℕ → State) × Run p8 (config 3 s [])
-p8-run = (_, Run.move (call-run Kind.clr []) (Move.clear refl (List·Memᴰ·head refl)))
+p8-run = (_, Run.move (call-run Kind.clr []) (Move.reset refl (List·Memᴰ·head refl)))
 
 pub run-run : (s : ℕ → State) × Run (p5With Kind.run []) (config 3 s [])
-run-run = (_, Run.move (call-run Kind.run []) (Move.clear refl (List·Memᴰ·head refl)))
+run-run = (_, Run.move (call-run Kind.run []) (Move.reset refl (List·Memᴰ·head refl)))
 
 -- and RETURN then ends the run
 pub p8-ends : {s : ℕ → State} {y : Config} → Move p8 (config 3 s []) y → ⊥
 p8-ends (Move.next h m) = clash (cc)
-p8-ends (Move.clear h m) = clash (cc)
+p8-ends (Move.reset h m) = clash (cc)
 p8-ends (Move.gosub h m) = clash (cc)
 p8-ends (Move.on-gosub h m) = clash (cc)
 p8-ends (Move.skip h) = clash (cc)

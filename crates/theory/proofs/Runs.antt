@@ -131,12 +131,12 @@ module _ (f : Flow) (T : Table) (wf : WellFormed f) (listed : Listed f) (closed 
   listed-move {i} g m = goes (λ b. (false, listed-edge f b i (g .alone) (g .moves) m)) (walk-listed f i (g .alone) (g .moves) m)
 
   -- CLR and RUN empty the stack, and no body that is not opaque meets them
-  clear-move : {i j : ℕ} {s : ℕ → State} {k : List Frame} → empties (kind f i) ≡ true → In j (successors f i) → Invariant f T i s k → Invariant f T j (act f i s) []
-  clear-move {i} h m (Invariant.outer t l) =
+  reset-move : {i j : ℕ} {s : ℕ → State} {k : List Frame} → empties (kind f i) ≡ true → In j (successors f i) → Invariant f T i s k → Invariant f T j (act f i s) []
+  reset-move {i} h m (Invariant.outer t l) =
       let g = listing (kind f i) (rw (h, or-true)) in
       Invariant.outer (along Base.zero i _ t (listed-edge f Base.zero i (g .alone) (g .moves) m)) Level.bottom
-  clear-move {i} h m (Invariant.last t w o) = absurd (o (Opaque.own w (empties-wipes (kind f i) h)))
-  clear-move {i} h m (Invariant.inner t w o c q b call r) = absurd (o (Opaque.own w (empties-wipes (kind f i) h)))
+  reset-move {i} h m (Invariant.last t w o) = absurd (o (Opaque.own w (empties-wipes (kind f i) h)))
+  reset-move {i} h m (Invariant.inner t w o c q b call r) = absurd (o (Opaque.own w (empties-wipes (kind f i) h)))
 
   -- a call without a continuation goes by a listed successor and pushes "end"
   enter-ending : {i e : ℕ} {s : ℕ → State} {k : List Frame} → Listing (kind f i) → In e (entered f i) → Invariant f T i s k
@@ -219,7 +219,7 @@ module _ (f : Flow) (T : Table) (wf : WellFormed f) (listed : Listed f) (closed 
 
   moved : {x y : Config} → Move f x y → Invariant f T (x .stmt) (x .states) (x .stack) → Invariant f T (y .stmt) (y .states) (y .stack)
   moved (Move.next {i = i} h m) inv = listed-move (listing (kind f i) (rw h)) m inv
-  moved (Move.clear h m) inv = clear-move h m inv
+  moved (Move.reset h m) inv = reset-move h m inv
   moved (Move.gosub {c = c} h m) inv = call-move c (ap continuationOf h) (ap isReturn h) m inv
   moved (Move.on-gosub {c = c} h m) inv = call-move c (ap continuationOf h) (ap isReturn h) m inv
   moved (Move.skip h) inv = skip-move h inv

@@ -6,9 +6,9 @@ use mathlib.Core.List.{List, [], _∷_, _++_, map}
 use mathlib.Core.Option.{Option, none, some}
 use lib.Dec.{eqb, ltb}
 use Rattle.masks.specs.declared.Effect.{Effect}
-use Rattle.masks.specs.declared.Effect.the-variants.{Reference, Dim, Clear, Touched}
+use Rattle.masks.specs.declared.Effect.the-variants.{Reference, Dim, Reset, Touched}
 use Rattle.flow.specs.Flow.{Flow, Kind, Item, size}
-use Rattle.theory.specs.Lists.{any, has, select, upTo}
+use Rattle.theory.specs.Lists.{any, elem, select, upTo}
 use Rattle.theory.specs.Body.{kind, successors, references, continuationOf, entered, callees, isReturn, walked, opaqueCall, callTouches}
 use Rattle.theory.specs.Queue.{Arc, Graph}
 
@@ -58,7 +58,7 @@ isSome (some j) k = eqb j k
 
 -- an opaque call with the continuation k that enters a body whose walk meets r
 unfoldable pub returnsTo : Flow → ℕ → ℕ → ℕ → Bool
-returnsTo f r k c = isSome (continuationOf (kind f c)) k && (opaqueCall f c && any (λ b. has r (walked f b)) (callees f c))
+returnsTo f r k c = isSome (continuationOf (kind f c)) k && (opaqueCall f c && any (λ b. elem r (walked f b)) (callees f c))
 
 -- RETURN: base 0 goes to the continuations of opaque calls that enter a body whose walk meets it, rising, each once; base n goes nowhere
 unfoldable pub returnEdges : Flow → Base → ℕ → List Edge
@@ -76,7 +76,7 @@ unfoldable pub callEdges : Flow → Base → ℕ → ℕ → List Edge
 callEdges f b i k =
     once (map (λ v. record { to = v; continues = sameNode v (at b k) })
     (map (at Base.n) (entered f i)
-    ++ (at b k ∷ map (at b) (select (λ j. not (has j (entered f i) || eqb j k)) (successors f i)))))
+    ++ (at b k ∷ map (at b) (select (λ j. not (elem j (entered f i) || eqb j k)) (successors f i)))))
 
 -- all others: base + listed successors
 unfoldable pub listedEdges : Flow → Base → ℕ → List Edge
@@ -97,14 +97,14 @@ dims a x = eqb (x .array) a && eqb (x .flag) 1
 unfoldable pub kindEffects : Kind → ℕ → List Effect
 kindEffects Kind.other a = []
 kindEffects Kind.return a = []
-kindEffects Kind.clr a = Clear ∷ []
-kindEffects Kind.run a = Clear ∷ []
+kindEffects Kind.clr a = Reset ∷ []
+kindEffects Kind.run a = Reset ∷ []
 kindEffects (Kind.dim items) a = cond (any (dims a) items) (Dim ∷ []) []
 kindEffects (Kind.gosub l c) a = []
 kindEffects (Kind.onGosub ls c) a = []
 
 unfoldable pub statementEffects : Flow → ℕ → ℕ → List Effect
-statementEffects f i a = cond (has a (references f i)) (Reference ∷ []) [] ++ kindEffects (kind f i) a
+statementEffects f i a = cond (elem a (references f i)) (Reference ∷ []) [] ++ kindEffects (kind f i) a
 
 -- the effect of an edge of statement i on array a: the statement's, then the touched step on the edge to base + continuation
 unfoldable pub edgeEffects : Flow → ℕ → Edge → ℕ → List Effect

@@ -8,7 +8,7 @@ use lib.Dec.{eqb, ltb}
 use lib.ListN.{length}
 use Rattle.masks.specs.declared.Effect.{Effect}
 use Rattle.masks.specs.Step.{stepOf}
-use Rattle.theory.specs.Lists.{has, sumBelow, allBelow, upd}
+use Rattle.theory.specs.Lists.{elem, sumBelow, allBelow, upd}
 
 -- an edge: the number it goes to, and what it does to each array, one effect after the other
 pub record Arc : Type 0 where
@@ -58,7 +58,7 @@ changed g st d = not (allBelow (g .arrays) (λ a. eqb (pulled g st d a) (st .mas
 
 -- the number joins the back unless it waits
 abbrev pub join : List ℕ → ℕ → List ℕ
-join w t = cond (has t w) w (w ++ (t ∷ []))
+join w t = cond (elem t w) w (w ++ (t ∷ []))
 
 -- the successors that do not wait join the back, in order
 unfoldable pub enqueue : List Arc → List ℕ → List ℕ

@@ -49,8 +49,8 @@ pub record Unioned (ws vs : List ℕ) (to from width : ℕ) (r : Bool) : Type 0 
   pub slice : vs ≡ unioned ws to from width
   pub grew : r ≡ differs ws vs to width
 
-unfoldable pub cleared : List ℕ → ℕ → ℕ → List ℕ
-cleared ws base width = rewritten (λ vs k. 0) ws base width
+unfoldable pub zeroed : List ℕ → ℕ → ℕ → List ℕ
+zeroed ws base width = rewritten (λ vs k. 0) ws base width
 
 -- the bits of a that are not in b, both words
 unfoldable pub without : ℕ → ℕ → ℕ

@@ -2,7 +2,7 @@
 -- What a row has, how many, and which comes next. Assumes nothing.
 use Prim.Native.Nat.{ℕ, zero, suc, _+_, _-_, _*_, _/_, _%_, _^_, _≤_, _<_}
 use mathlib.Core.Path.{_≡_}
-use mathlib.Core.Bool.{Bool, true, false}
+use mathlib.Core.Bool.{cond}
 use mathlib.Core.List.{List}
 use lib.Dec.{eqb}
 use lib.ListN.{getD}
@@ -28,14 +28,10 @@ tally f (suc n) = tally f n + f n
 unfoldable pub members : List ℕ → ℕ → ℕ → ℕ
 members ws base width = tally (has ws base) (64 * width)
 
-abbrev pub pick : Bool → ℕ → ℕ → ℕ
-pick true a b = a
-pick false a b = b
-
 -- the first member among the d numbers from i on, or i + d
 unfoldable pub seek : List ℕ → ℕ → ℕ → ℕ → ℕ
 seek ws base i zero = i
-seek ws base i (suc d) = pick (eqb (has ws base i) 1) i (seek ws base (i + 1) d)
+seek ws base i (suc d) = cond (eqb (has ws base i) 1) i (seek ws base (i + 1) d)
 
 -- the first member at or after `from` and below `bound`, or `bound`
 unfoldable pub nextMember : List ℕ → ℕ → ℕ → ℕ → ℕ

@@ -18,7 +18,7 @@ use Rattle.statements.specs.Layout.{rowAt}
 use Rattle.statements.proofs.Keeps.{ready-most, ready-size}
 use Rattle.calls.specs.Slots.{returnSlots, edgeFrom, copyOf, memberEdge}
 use Rattle.calls.proofs.Checked.{row-room, continues-to, continues-nowhere}
-use Rattle.calls.proofs.Found.{slots-return, slots-call, slots-listed, return-edge, return-end, call-opaque, call-clear}
+use Rattle.calls.proofs.Found.{slots-return, slots-call, slots-listed, return-edge, return-end, call-opaque, call-transparent}
 use Rattle.calls.proofs.edges.edge_of.Statement.{statement}
 use Rattle.calls.proofs.edges.edge_of.Tie as tie
 
@@ -99,7 +99,7 @@ not-opaque : (c : tie.After-k) → opaqueCall (flowOf (now (c .before .before .b
 not-opaque c =
     let start = c .before .before .before .before .before .before .before .before .before .before in
     let a = start .args in
-    call-clear (start .pre .2) (start .pre .3) (sym (ap (λ (b : ℕ). getD (now (a .work)) (b + a .i) 0) (c .before .before .before .before .before .calls .ensures)) ∙ c .before .before .before .if3 .left) (continued c)
+    call-transparent (start .pre .2) (start .pre .3) (sym (ap (λ (b : ℕ). getD (now (a .work)) (b + a .i) 0) (c .before .before .before .before .before .calls .ensures)) ∙ c .before .before .before .if3 .left) (continued c)
 
 call-edge-requires : tie.Need-call-edge-requires
 call-edge-requires c κs =

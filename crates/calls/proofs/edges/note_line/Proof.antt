@@ -31,11 +31,11 @@ below c =
     let ready = start .pre .0 in
     ready-below ready (ready-formed ready .first (getD (callLines (kind (flowOf (now (a .file))) (a .i))) (a .l) 0) (c .b .given .0 .0 .0) (enters-at _ _ (sym (c .before .before .entered .ensures) ∙ c .b .given .1)))
 
-entered-requires-2 : tie.Need-entered-requires-2
-entered-requires-2 c κs = ready-most (c .before .before .before .before .before .before .before .before .pre .0)
+entered-row-requires : tie.Need-entered-row-requires
+entered-row-requires c κs = ready-most (c .before .before .before .before .before .before .before .before .pre .0)
 
 insert-requires : tie.Need-insert-requires
-insert-requires c κs = omega (arith, entered-word (c .before .before .before .before .before .before .before .before .before .pre .0) (below (c .before .before .before)), c .entered2 .ensures)
+insert-requires c κs = omega (arith, entered-word (c .before .before .before .before .before .before .before .before .before .pre .0) (below (c .before .before .before)), c .entered-row .ensures)
 
 enum-told : tie.Need-enum-told
 enum-told c = search needs
@@ -50,7 +50,7 @@ returns c =
     let f = flowOf (now (a .file)) in
     let turn = c .before .before .before .before .before .before in
     adds-entered (λ bs. bs) (enters f (getD (callLines (kind f (a .i))) (a .l) 0)) (sym (turn .before .before .entered .ensures) ∙ turn .b .given .1)
-    (adds-insert (subst (λ (at : ℕ). Inserted (now (a .work)) (c .before .before .insert .last .0) at (turn .b .given .0 .0 .0) (c .before .before .insert .result)) (c .before .before .before .entered2 .ensures) (c .before .before .insert .ensures))
+    (adds-insert (subst (λ (at : ℕ). Inserted (now (a .work)) (c .before .before .insert .last .0) at (turn .b .given .0 .0 .0) (c .before .before .insert .result)) (c .before .before .before .entered-row .ensures) (c .before .before .insert .ensures))
     (below turn) (entered-room (start .pre .0) (start .pre .2)))
 
 same-length-2 : tie.Need-same-length-2
@@ -68,7 +68,7 @@ note-line-spec =
     (tie.spec
     entered-requires
     enum-known-b
-    entered-requires-2
+    entered-row-requires
     insert-requires
     enum-told
     same-length

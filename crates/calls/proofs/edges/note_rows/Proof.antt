@@ -1,4 +1,4 @@
--- `note_rows` meets its contract. The invariant: the rows of the clear calls before i are noted. The measure is how many statements are left.
+-- `note_rows` meets its contract. The invariant: the rows of the transparent calls before i are noted. The measure is how many statements are left.
 -- By the laws of `Notes`. Assumes nothing.
 use Prim.Native.Nat.{ℕ, _-_, _≤_}
 use mathlib.Core.Path.{_≡_, subst}

@@ -10,7 +10,7 @@ use denote.Ref.{now}
 use lib.Dec.{eqb}
 use lib.ListN.{length, getD, drop}
 use Rattle.flow.specs.Format.{flowOf}
-use Rattle.theory.specs.Lists.{has}
+use Rattle.theory.specs.Lists.{elem}
 use Rattle.theory.specs.Body.{successors, entered}
 use Rattle.theory.specs.Doubled.{at}
 use Rattle.statements.proofs.Keeps.{ready-most, ready-size}
@@ -61,12 +61,12 @@ some-left c = omega (arith, c .before .before .before .before .successor-count .
 left : (c : tie.After-left-out Inv-loop μ-loop) → let a = c .before .before .before .before .before .before .before .args in
     let f = flowOf (now (a .file)) in
     let j = getD (successors f (a .i)) (c .before .before .before .loop .c - a .first) 0 in
-    (has j (entered f (a .i)) || eqb j (a .k)) ≡ c .left-out .result
+    (elem j (entered f (a .i)) || eqb j (a .k)) ≡ c .left-out .result
 left c =
     let start = c .before .before .before .before .before .before .before in
     let a = start .args in
     let f = flowOf (now (a .file)) in
-    ap (λ (j : ℕ). has j (entered f (a .i)) || eqb j (a .k)) (sym (c .before .successor .ensures))
+    ap (λ (j : ℕ). elem j (entered f (a .i)) || eqb j (a .k)) (sym (c .before .successor .ensures))
     ∙ sym (c .left-out .ensures ∙ left-out-is f (now (a .work)) (a .i) (a .k) (c .before .successor .result .0) (start .pre .3) (below (c .before)))
 
 add-t16 : tie.Need-add-t16 Inv-loop μ-loop

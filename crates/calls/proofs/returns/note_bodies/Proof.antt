@@ -1,4 +1,4 @@
--- `note_bodies` meets its contract: the row of entered statements is cleared, the bodies' walks join it, and its RETURNs go to k.
+-- `note_bodies` meets its contract: the row of entered statements is zeroed, the bodies' walks join it, and its RETURNs go to k.
 -- By the laws of `Adds` and `Joins`. Assumes nothing.
 use native.Mathlib.Omega.{arith}
 use borrow.Author.Needs.{needs}
@@ -12,8 +12,8 @@ use Rattle.calls.proofs.Gathered.{rows-stay, bodies-noted}
 use Rattle.calls.proofs.returns.note_bodies.Statement.{statement}
 use Rattle.calls.proofs.returns.note_bodies.Tie as tie
 
-clear-entered-requires : tie.Need-clear-entered-requires
-clear-entered-requires c κs =
+zero-entered-requires : tie.Need-zero-entered-requires
+zero-entered-requires c κs =
     let ready = c .before .before .before .pre .0 in
     (omega arith, ready-most ready, ready .room)
 
@@ -22,14 +22,14 @@ join-lines-requires c κs =
     let start = c .before .before .before .before .before .before .before in
     let p = start .pre in
     let n = start .args .h .statements in
-    let kept = c .before .before .before .clear-entered .ensures .1 in
+    let kept = c .before .before .before .zero-entered .ensures .1 in
     (ready-keeps (p .0) kept (omega (arith, row-from n n)), p .1, p .2, rows-stay (start .args .c) (ready-formed (p .0)) (ready-size (p .0)) kept (p .4))
 
 note-members-requires : tie.Need-note-members-requires
 note-members-requires c κs =
     let start = c .before .before .before .before .before .before .before .before .before .before .before in
     let n = start .args .h .statements in
-    let kept = keeps-trans (c .before .before .before .before .before .before .before .clear-entered .ensures .1) (c .before .before .before .join-lines .ensures .kept) in
+    let kept = keeps-trans (c .before .before .before .before .before .before .before .zero-entered .ensures .1) (c .before .before .before .join-lines .ensures .kept) in
     (ready-keeps (start .pre .0) kept (omega (arith, row-from n n)), start .pre .3)
 
 same-length : tie.Need-same-length
@@ -39,11 +39,11 @@ returns : tie.Need-returns
 returns c =
     let a = c .before .before .before .before .before .before .before .before .before .before .before .before .before .before .args in
     let f = flowOf (now (a .file)) in
-    let cleared = c .before .before .before .before .before .before .before .before .before .before .clear-entered .ensures in
+    let zeroed = c .before .before .before .before .before .before .before .before .before .before .zero-entered .ensures in
     let walked = c .before .before .before .before .before .before .join-lines .ensures in
-    joins-after (keeps-trans (cleared .1) (walked .kept)) (bodies-noted f (a .k) (entered f (a .c)) (cleared .0) walked (c .before .before .note-members .ensures))
+    joins-after (keeps-trans (zeroed .1) (walked .kept)) (bodies-noted f (a .k) (entered f (a .c)) (zeroed .0) walked (c .before .before .note-members .ensures))
 
 pub note-bodies-spec : {M : Type 1} → statement M
 note-bodies-spec =
     tie.close
-    (tie.spec clear-entered-requires join-lines-requires note-members-requires same-length returns)
+    (tie.spec zero-entered-requires join-lines-requires note-members-requires same-length returns)

@@ -10,7 +10,7 @@ use Rattle.flow.specs.Format.{flowOf}
 use Rattle.theory.specs.Body.{kind, continuationOf}
 use Rattle.statements.proofs.Keeps.{ready-most, ready-formed, ready-below}
 use Rattle.calls.proofs.Checked.{continues-to, continues-nowhere}
-use Rattle.calls.proofs.Gathered.{call-none, call-clear, call-opaque}
+use Rattle.calls.proofs.Gathered.{call-none, call-transparent, call-opaque}
 use Rattle.calls.proofs.returns.note_call.Statement.{statement}
 use Rattle.calls.proofs.returns.note_call.Tie as tie
 
@@ -30,7 +30,7 @@ returns : tie.Need-returns
 returns c =
     let start = c .before .before .before .before .before in
     let a = start .args in
-    call-clear (a .c) (start .pre .3) (λ e. c .if1 .taken (ap (λ (b : ℕ). getD (now (a .work)) (b + a .c) 0) (c .before .before .calls .ensures) ∙ e))
+    call-transparent (a .c) (start .pre .3) (λ e. c .if1 .taken (ap (λ (b : ℕ). getD (now (a .work)) (b + a .c) 0) (c .before .before .calls .ensures) ∙ e))
 
 continuation-requires : tie.Need-continuation-requires
 continuation-requires c κs = search needs

@@ -1,5 +1,5 @@
 -- `note_returns` meets its contract. The invariant, `Calling`: the RETURNs go where the calls before c make them go.
--- The measure is how many statements are left. Then the clear calls' rows are noted, and no RETURN's row is one of them. Assumes nothing.
+-- The measure is how many statements are left. Then the transparent calls' rows are noted, and no RETURN's row is one of them. Assumes nothing.
 use Prim.Native.Nat.{ℕ, _-_}
 use mathlib.Core.Path.{_≡_, _∙_, subst}
 use native.Mathlib.Omega.{arith}

@@ -15,12 +15,12 @@ use Rattle.flow.specs.Format.{flowOf}
 use Rattle.flow.specs.Limits.{workWords}
 use Rattle.theory.specs.Lists as lists
 use Rattle.theory.specs.Body.{kind, callLines, continuationOf, callees, Walks}
-use Rattle.statements.specs.Layout.{callsAt, bodiesAt, matrixAt, enteredAt}
+use Rattle.statements.specs.Layout.{callsAt, bodiesAt, matrixAt, enteredRowAt}
 use Rattle.statements.specs.Ready.{Ready, Keeps}
 use Rattle.statements.proofs.Keeps.{ready-keeps, keeps-set, ready-most, ready-size, ready-formed}
 use Rattle.statements.proofs.WorkArea.{row-from}
-use Rattle.calls.specs.Held.{unentered, opened, clear, EmptyRow, Walked}
-use Rattle.calls.specs.Summing.{body, call, settled, Summing, OnwardBut, Onward, Leads, BodySummed, CallSummed}
+use Rattle.calls.specs.Held.{unentered, opened, transparent, EmptyRow, Walked}
+use Rattle.calls.specs.Summing.{body, call, summaryState, Summing, OnwardBut, Onward, Leads, BodySummed, CallSummed}
 use Rattle.calls.proofs.Checked.{row-room, continues-to, continues-nowhere, enters-at, enters-nothing}
 use Rattle.calls.proofs.Summing.{onward-refl, onward-trans, onward-but, body-open, onward-open, summing-open, rows-set, callee-low}
 use Rattle.calls.proofs.BodySummary.{BodyLoop, PassedBelow, body-next, passed-none, body-turn, body-done, body-leads, return-done, referred-summing, referred-onward, next-low, unentered-row}
@@ -37,7 +37,7 @@ use Rattle.calls.proofs.summary.+call_summary+sub_effect.Lts-sub_effect
 use Rattle.calls.proofs.summary.join_body.Reads as join-body-reads
 use Rattle.calls.proofs.summary.join_call.Reads as join-call-reads
 use Rattle.calls.proofs.summary.join_references.Reads as join-references-reads
-use Rattle.calls.proofs.summary.settled.Reads as settled-reads
+use Rattle.calls.proofs.summary.summary_state.Reads as summary-state-reads
 use Rattle.calls.proofs.walk.walk.Reads as walk-reads
 use Rattle.statements.proofs.fields.continuation.Reads as continuation-reads
 use Rattle.statements.proofs.fields.entered.Reads as entered-reads
@@ -85,8 +85,8 @@ call-claims t = (
   sub-effect.Post,
   join-body-reads.Asked,
   join-body-reads.Learnt,
-  settled-reads.Asked,
-  settled-reads.Learnt,
+  summary-state-reads.Asked,
+  summary-state-reads.Learnt,
 )
 
 abbrev sub-claims : ℕ → sub-effect-lts.Claims
@@ -109,8 +109,8 @@ sub-claims t = (
   call-summary.Post,
   join-call-reads.Asked,
   join-call-reads.Learnt,
-  settled-reads.Asked,
-  settled-reads.Learnt,
+  summary-state-reads.Asked,
+  summary-state-reads.Learnt,
 )
 
 abbrev call-summary-Inv-loop : call-summary-lts.InvT-loop
@@ -255,7 +255,7 @@ call-summary-loop-again t c =
     let turn = c .before .before .before in
     let s = call-start t (call-begun t turn) in
     let r = s .pre .1 .0 in
-    let After : List ℕ → Bool → Type 0 = λ ws hidden. CallLoop (flowOf (s .args .file .now)) (s .args .work .now) ws (s .args .h .statements) (s .args .c) hidden (turn .before .loop .k + 1) in
+    let After : List ℕ → Bool → Type 0 = λ ws found-opaque. CallLoop (flowOf (s .args .file .now)) (s .args .work .now) ws (s .args .h .statements) (s .args .c) found-opaque (turn .before .loop .k + 1) in
     ⊎-elim
     (λ w.
     let d : call-summary-lts.After-b (call-claims t) (call-summary-at t) call-summary.Post call-summary-Inv-loop call-summary-μ-loop = record { before = record { before = c .before; match2 = w .0 }; b = w .1 } in
@@ -267,8 +267,8 @@ call-summary-loop-again t c =
     (call-nothing (turn .before .loop .inv) (call-inside t turn) (enters-nothing _ (sym (c .before .entered .ensures) ∙ w .1 .given .1))))
     (c .match2 .came)
 
-call-summary-settled-requires : (t : ℕ) → call-summary-lts.Need-settled-requires (call-claims t) (call-summary-at t) call-summary.Post call-summary-Inv-loop call-summary-μ-loop
-call-summary-settled-requires t c κs = search needs
+call-summary-summary-state-requires : (t : ℕ) → call-summary-lts.Need-summary-state-requires (call-claims t) (call-summary-at t) call-summary.Post call-summary-Inv-loop call-summary-μ-loop
+call-summary-summary-state-requires t c κs = search needs
 
 call-summary-mul-work : (t : ℕ) → call-summary-lts.Need-mul-work (call-claims t) (call-summary-at t) call-summary.Post call-summary-Inv-loop call-summary-μ-loop
 call-summary-mul-work t c = omega (arith, call-bounds t (c .before .before .before .before .before .before .before .before .before .before .before), ready-most (c .before .before .before .before .before .before .before .before .before .before .before .before .before .before .pre .1 .0))
@@ -285,9 +285,9 @@ call-summary-returns-3 t c =
     let s = call-start t begun in
     let r = s .pre .1 .0 in
     let p = c .before .before .loop .inv in
-    subst (λ x. CallSummed (flowOf (s .args .file .now)) (s .args .work .now) (set (c .before .before .loop .work) (x + s .args .c) (c .settled .result)) (s .args .h .statements) (s .args .c)) (sym (c .before .before .before .before .before .before .before .before .before .before .before .calls .ensures))
+    subst (λ x. CallSummed (flowOf (s .args .file .now)) (s .args .work .now) (set (c .before .before .loop .work) (x + s .args .c) (c .summary-state .result)) (s .args .h .statements) (s .args .c)) (sym (c .before .before .before .before .before .before .before .before .before .before .before .calls .ensures))
     (call-done (flowOf (s .args .file .now)) (s .args .c) (continued t begun .1) (ready-formed r) (ready-size r) (s .pre .1 .2) (omega (arith, r .room, p .onward .keeps .size)) p
-    (omega (arith, c .before .loop-test .left, begun .line-count .ensures)) (c .settled .result) (c .settled .ensures))
+    (omega (arith, c .before .loop-test .left, begun .line-count .ensures)) (c .summary-state .result) (c .summary-state .ensures))
 
 -- sub_effect
 
@@ -346,7 +346,7 @@ sub-effect-returns-2 t c =
     let d = c .before .before .before .before .before .before .before in
     let s = body-start t d in
     let r = s .pre .1 .0 in
-    subst (λ x. BodySummed (flowOf (s .args .file .now)) (s .args .work .now) (set (c .before .before .join-references .last .1 .0) (x + s .args .e) clear) (s .args .h .statements) (s .args .e)) (sym (c .before .before .before .before .before .before .before .before .before .bodies .ensures))
+    subst (λ x. BodySummed (flowOf (s .args .file .now)) (s .args .work .now) (set (c .before .before .join-references .last .1 .0) (x + s .args .e) transparent) (s .args .h .statements) (s .args .e)) (sym (c .before .before .before .before .before .before .before .before .before .bodies .ensures))
     (return-done (ready-formed r) (ready-size r) (s .pre .1 .3) (body-room t d) (s .pre .1 .2) (was-unentered t d) (sym (c .before .before .before .before .before .is-return .ensures) ∙ c .before .before .before .before .if2 .taken) (c .before .before .join-references .ensures))
 
 sub-effect-mul-work-2 : (t : ℕ) → sub-effect-lts.Need-mul-work-2 (sub-claims t) (sub-effect-at t) sub-effect.Post sub-effect-Inv-loop sub-effect-μ-loop
@@ -360,7 +360,7 @@ module _ (t : ℕ) (c : sub-effect-lts.Else1 (sub-claims t) (sub-effect-at t) su
   abbrev body-place : ℕ
   body-place = c .before .before .bodies .result + body-start t c .args .e
 
-  body-opens : Keeps (callsAt (body-start t c .args .h .statements)) (enteredAt (body-start t c .args .h .statements)) (body-start t c .args .work .now) (set (body-start t c .args .work .now) body-place opened)
+  body-opens : Keeps (callsAt (body-start t c .args .h .statements)) (enteredRowAt (body-start t c .args .h .statements)) (body-start t c .args .work .now) (set (body-start t c .args .work .now) body-place opened)
   body-opens =
       keeps-set (body-start t c .args .work .now) body-place opened (omega (arith, c .before .before .bodies .ensures))
       (omega (arith, body-bounds t (c .before .before), row-from (body-start t c .args .h .statements) (body-start t c .args .h .statements)))
@@ -526,8 +526,8 @@ sub-effect-loop-again t c =
     let d = c .before .before .before .before in
     body-next (given t (turned t d) .pre .1 .2) (omega (arith, turned t d .loop-test .taken)) (passed t d) (turned t d .before .before .before .before .row .ensures) (c .next2 .ensures)
 
-sub-effect-settled-requires : (t : ℕ) → sub-effect-lts.Need-settled-requires (sub-claims t) (sub-effect-at t) sub-effect.Post sub-effect-Inv-loop sub-effect-μ-loop
-sub-effect-settled-requires t c κs = search needs
+sub-effect-summary-state-requires : (t : ℕ) → sub-effect-lts.Need-summary-state-requires (sub-claims t) (sub-effect-at t) sub-effect.Post sub-effect-Inv-loop sub-effect-μ-loop
+sub-effect-summary-state-requires t c κs = search needs
 
 sub-effect-mul-work-3 : (t : ℕ) → sub-effect-lts.Need-mul-work-3 (sub-claims t) (sub-effect-at t) sub-effect.Post sub-effect-Inv-loop sub-effect-μ-loop
 sub-effect-mul-work-3 t c = omega (arith, body-bounds t (c .before .before .before .before .before .before .before .before .before .before .before .before .before .before .before), ready-most (c .before .before .before .before .before .before .before .before .before .before .before .before .before .before .before .before .before .before .pre .1 .0))
@@ -548,8 +548,8 @@ sub-effect-returns-3 t c =
     let d = c .before .before .before .before .before .before .before .before in
     let s = entry t d in
     let r = s .pre .1 .0 in
-    subst (λ x. BodySummed (flowOf (s .args .file .now)) (s .args .work .now) (set (c .before .before .loop .work) (x + s .args .e) (c .settled .result)) (s .args .h .statements) (s .args .e)) (sym (c .before .before .before .before .before .before .before .before .before .before .before .before .before .before .before .bodies .ensures))
-    (body-done (ready-formed r) (ready-size r) (omega (arith, r .room, done-size t (c .before .before))) (s .pre .1 .2) (c .before .before .loop .inv .below) (c .before .loop-test .left) (c .settled .result) (c .settled .ensures)
+    subst (λ x. BodySummed (flowOf (s .args .file .now)) (s .args .work .now) (set (c .before .before .loop .work) (x + s .args .e) (c .summary-state .result)) (s .args .h .statements) (s .args .e)) (sym (c .before .before .before .before .before .before .before .before .before .before .before .before .before .before .before .bodies .ensures))
+    (body-done (ready-formed r) (ready-size r) (omega (arith, r .room, done-size t (c .before .before))) (s .pre .1 .2) (c .before .before .loop .inv .below) (c .before .loop-test .left) (c .summary-state .result) (c .summary-state .ensures)
     (walk-onward t d) (was-unentered t (unentered-at t d)))
 
 pub +call-summary+sub-effect-spec : {M : Type 1} → statement M
@@ -577,7 +577,7 @@ pub +call-summary+sub-effect-spec : {M : Type 1} → statement M
     (call-summary-add-k t)
     (call-summary-loop-less t)
     (call-summary-loop-again t)
-    (call-summary-settled-requires t)
+    (call-summary-summary-state-requires t)
     (call-summary-mul-work t)
     (call-summary-slice-write-work t)
     (call-summary-same-length-2 t)
@@ -609,7 +609,7 @@ pub +call-summary+sub-effect-spec : {M : Type 1} → statement M
     (sub-effect-next-requires-2 t)
     (sub-effect-loop-less t)
     (sub-effect-loop-again t)
-    (sub-effect-settled-requires t)
+    (sub-effect-summary-state-requires t)
     (sub-effect-mul-work-3 t)
     (sub-effect-slice-write-work-3 t)
     (sub-effect-same-length-2 t)

@@ -8,7 +8,7 @@ use denote.Ref.{now}
 use lib.Dec.{eqb}
 use lib.ListN.{getD}
 use Rattle.words.specs.Change.{joined}
-use Rattle.calls.specs.Held.{clear}
+use Rattle.calls.specs.Held.{transparent}
 use Rattle.calls.proofs.summary.join_body.Statement.{statement}
 use Rattle.calls.proofs.summary.join_body.Tie as tie
 
@@ -55,7 +55,7 @@ returns c =
     record {
       slice = c .before .before .union-word .ensures .slice
           ∙ ap₂ (λ (x y : ℕ). joined ws (x + a .c) (getD ws (y + a .b) 0)) (c .before .before .before .call-touched .ensures) (c .before .before .before .before .before .before .touched .ensures);
-      state = ap (λ (x : ℕ). not (eqb (getD ws (x + a .b) 0) clear)) (c .before .before .before .before .before .before .before .before .bodies .ensures);
+      state = ap (λ (x : ℕ). not (eqb (getD ws (x + a .b) 0) transparent)) (c .before .before .before .before .before .before .before .before .bodies .ensures);
     }
 
 pub join-body-spec : {M : Type 1} → statement M

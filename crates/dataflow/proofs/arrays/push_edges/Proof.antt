@@ -33,7 +33,7 @@ edge-requires : tie.Need-edge-requires Inv-loop μ-loop
 edge-requires c κs =
     let s = c .before .before .before .before in
     let inv = c .before .loop .inv in
-    (ready-stays (inv .keeps) (s .pre .0), s .pre .1, linked-stays (inv .keeps) (s .pre .2), search needs, entered-stays _ _ _ (inv .entered) (s .pre .4))
+    (ready-stays (inv .keeps) (s .pre .0), s .pre .1, linked-stays (inv .keeps) (s .pre .2), search needs, entered-stays _ _ _ (inv .entered-row) (s .pre .4))
 
 enum-known-t : tie.Need-enum-known-t Inv-loop μ-loop
 enum-known-t c = search needs

@@ -19,7 +19,7 @@ use Rattle.statements.specs.Layout.{callsAt, callTouchedAt}
 use Rattle.statements.specs.Ready.{Ready, MembersWord}
 use Rattle.statements.proofs.Keeps.{ready-most, ready-room, keeps-refl, keeps-trans, ready-size}
 use Rattle.statements.proofs.WellFormed.{arrays-is}
-use Rattle.calls.specs.Held.{Linked, EnteredRow, EmptyEntered, clear}
+use Rattle.calls.specs.Held.{Linked, EnteredRow, EmptyEntered, transparent}
 use Rattle.calls.proofs.Found.{call-opaque}
 use Rattle.dataflow.proofs.Kept.{queue-above, ready-stays, linked-stays, empty-stays}
 use Rattle.dataflow.proofs.Aside.{Aside, aside-refl, aside-trans, aside-row, aside-entered, aside-waits}
@@ -90,13 +90,13 @@ transfer-back-requires c κs =
     (ready-most (s .pre .0), omega arith, omega arith, l)
 
 -- the call is not opaque
-is-clear : (c : tie.Then1) → let a = c .before .before .before .before .before .before .before .before .before .before .args in getD (c .before .before .before .before .before .transfer .last .1 .1 .0) (callsAt (a .h .statements) + c .before .before .before .before .before .before .before .statement-of .result) 0 ≡ clear
-is-clear c =
-    subst (λ (x : ℕ). getD (c .before .before .before .before .before .transfer .last .1 .1 .0) (x + c .before .before .before .before .before .before .before .statement-of .result) 0 ≡ clear) (c .before .before .calls .ensures) (c .if1 .taken)
+is-transparent : (c : tie.Then1) → let a = c .before .before .before .before .before .before .before .before .before .before .args in getD (c .before .before .before .before .before .transfer .last .1 .1 .0) (callsAt (a .h .statements) + c .before .before .before .before .before .before .before .statement-of .result) 0 ≡ transparent
+is-transparent c =
+    subst (λ (x : ℕ). getD (c .before .before .before .before .before .transfer .last .1 .1 .0) (x + c .before .before .before .before .before .before .before .statement-of .result) 0 ≡ transparent) (c .before .before .calls .ensures) (c .if1 .taken)
 
 touched : (c : tie.Then1) → let a = c .before .before .before .before .before .before .before .before .before .before .args in
     MembersWord (getD (c .before .before .before .before .before .transfer .last .1 .1 .0) (callTouchedAt (a .h .statements) + c .before .before .before .before .before .before .before .statement-of .result) 0) (callTouches (flowOf (now (a .file))) (c .before .before .before .before .before .before .before .statement-of .result))
-touched c = linked-stays (acts (c .before .before .before .before .before) .keeps) (c .before .before .before .before .before .before .before .before .before .before .pre .2) .calls .touched _ (below (c .before .before .before .before .before .before .before)) (is-clear c)
+touched c = linked-stays (acts (c .before .before .before .before .before) .keeps) (c .before .before .before .before .before .before .before .before .before .before .pre .2) .calls .touched _ (below (c .before .before .before .before .before .before .before)) (is-transparent c)
 
 note-entered-requires : tie.Need-note-entered-requires
 note-entered-requires c κs =
@@ -125,8 +125,8 @@ push-edges-requires c κs =
       (s .pre .5 .0, aside-waits beside (s .pre .5 .1)),
     )
 
-clear-entered-requires : tie.Need-clear-entered-requires
-clear-entered-requires c κs =
+zero-entered-requires : tie.Need-zero-entered-requires
+zero-entered-requires c κs =
     let s = c .before .before .before .before .before .before .before .before .before .before .before .before .before .before .before .before .before .before .before .before .before .before .before in
     let l = below (c .before .before .before .before .before .before .before .before .before .before .before .before .before .before .before .before .before .before .before .before) in
     let room = s .pre .0 .room in
@@ -135,11 +135,11 @@ clear-entered-requires c κs =
     (omega (arith, l), ready-most (s .pre .0), omega (arith, room, before, after))
 
 same-length : tie.Need-same-length
-same-length c = c .before .before .clear-entered .ensures .1 .size ∙ c .before .before .before .before .before .before .push-edges .ensures .keeps .size ∙ prepared (c .before .before .before .before .before .before .before .before .before .before) .aside .keeps .size
+same-length c = c .before .before .zero-entered .ensures .1 .size ∙ c .before .before .before .before .before .before .push-edges .ensures .keeps .size ∙ prepared (c .before .before .before .before .before .before .before .before .before .before) .aside .keeps .size
 
 returns : tie.Need-returns
 returns c =
-    sends (c .before .before .before .before .before .before .before .before .before .before .before .before .before .before .before .before .before .before .before .before .before .before .before .before .before .before .pre .3) (prepared (c .before .before .before .before .before .before .before .before .before .before)) (c .before .before .before .before .before .before .push-edges .ensures) (aside-entered (c .before .before .clear-entered .ensures .1)) (c .before .before .clear-entered .ensures .0)
+    sends (c .before .before .before .before .before .before .before .before .before .before .before .before .before .before .before .before .before .before .before .before .before .before .before .before .before .before .pre .3) (prepared (c .before .before .before .before .before .before .before .before .before .before)) (c .before .before .before .before .before .before .push-edges .ensures) (aside-entered (c .before .before .zero-entered .ensures .1)) (c .before .before .zero-entered .ensures .0)
 
 -- a statement that is no call, or an opaque one
 opaque : (c : tie.Else1) → let a = c .before .before .before .before .before .before .before .before .before .before .args in let f = flowOf (now (a .file)) in (k : ℕ) → continuationOf (kind f (node f (a .d) .stmt)) ≡ some k → opaqueCall f (node f (a .d) .stmt) ≡ true
@@ -149,7 +149,7 @@ opaque c =
     let i : ℕ = c .before .before .before .before .before .before .before .statement-of .result in
     subst (λ (j : ℕ). (k : ℕ) → continuationOf (kind f j) ≡ some k → opaqueCall f j ≡ true) (stmt (c .before .before .before .before .before)) (λ k e.
     call-opaque (linked-stays (acts (c .before .before .before .before .before) .keeps) (s .pre .2)) (below (c .before .before .before .before .before .before .before)) (λ q.
-    c .if1 .left (subst (λ (x : ℕ). getD (c .before .before .before .before .before .transfer .last .1 .1 .0) (x + i) 0 ≡ clear) (sym (c .before .before .calls .ensures)) q)) e)
+    c .if1 .left (subst (λ (x : ℕ). getD (c .before .before .before .before .before .transfer .last .1 .1 .0) (x + i) 0 ≡ transparent) (sym (c .before .before .calls .ensures)) q)) e)
 
 push-edges-requires-2 : tie.Need-push-edges-requires-2
 push-edges-requires-2 c κs =
@@ -172,7 +172,7 @@ returns-2 c =
     let sent = c .before .before .push-edges2 .ensures in
     let act = c .before .before .before .before .before .before .before .before .before .transfer .ensures .keeps in
     sends (s .pre .3) (prepared-plain (flowOf (now (s .args .file))) _ _ _ (s .args .d) _ _ (stmt (c .before .before .before .before .before .before .before .before .before)) (count (c .before .before .before .before .before .before .before .before .before)) (c .before .before .before .before .before .before .before .before .before .transfer .ensures) (opaque (c .before .before .before .before)))
-    sent aside-refl (empty-stays _ _ _ (λ x l h. sent .entered x l h ∙ act .below x (omega arith)) (s .pre .4))
+    sent aside-refl (empty-stays _ _ _ (λ x l h. sent .entered-row x l h ∙ act .below x (omega arith)) (s .pre .4))
 
 pub send-spec : {M : Type 1} → statement M
 send-spec =
@@ -187,7 +187,7 @@ send-spec =
     transfer-back-requires
     note-entered-requires
     push-edges-requires
-    clear-entered-requires
+    zero-entered-requires
     same-length
     returns
     push-edges-requires-2

@@ -1,4 +1,4 @@
--- `dataflow::arrays::visit` meets its contract: the front is taken, and where it is settled nothing more is done; else the visit is noted, and its masks go on.
+-- `dataflow::arrays::visit` meets its contract: the front is taken, and where it is unchanged nothing more is done; else the visit is noted, and its masks go on.
 -- By what one visit of the queue rule is.
 use Prim.Native.Nat.{ℕ, _+_, _*_, _<_, _≤_}
 use mathlib.Core.Bool.{Bool, true, false, not}
@@ -21,7 +21,7 @@ use Rattle.solve.proofs.Waiting.{rest-keeps}
 use Rattle.dataflow.specs.Sent.{Sends}
 use Rattle.dataflow.specs.Solving.{Underway, VisitsFront}
 use Rattle.dataflow.proofs.Kept.{ready-stays, linked-stays}
-use Rattle.dataflow.proofs.Visiting.{underway-front, is-front, front-in, rest-waits, took-entered, settled-at, visits-settled, visits-sent, note-keeps, noted-waits, noted-entered}
+use Rattle.dataflow.proofs.Visiting.{underway-front, is-front, front-in, rest-waits, took-entered, unchanged-at, visits-unchanged, visits-sent, note-keeps, noted-waits, noted-entered}
 use Rattle.dataflow.proofs.arrays.visit.Statement.{statement}
 use Rattle.dataflow.proofs.arrays.visit.Tie as tie
 use Rattle.dataflow.proofs.arrays.visit.Reads as reads
@@ -59,8 +59,8 @@ below c =
     (sym (is-front wf (ready-size (s .pre .0)) (few s) u (front .0) (front .1) (front .2) (c .take .ensures)))
     (front-in wf (ready-size (s .pre .0)) (few s) u (front .0) (front .1) (front .2) (c .take .ensures))
 
-settled-requires : tie.Need-settled-requires
-settled-requires c κs =
+unchanged-requires : tie.Need-unchanged-requires
+unchanged-requires c κs =
     let s = c .before .before .before .before .before .before .before .before in
     let fits = room s in
     let size = taken-size (c .before .before .before .before) in
@@ -76,10 +76,10 @@ returns c =
       λ u.
           let front = underway-front u (s .pre .4) in
           let wf = well-formed (s .pre .0 .fit) in
-          let still = not-true _ (sym (settled-at wf (ready-size (s .pre .0)) (few s) u (front .0) (front .1) (front .2) taken (c .before .settled .ensures)) ∙ c .if1 .taken) in
+          let still = not-true _ (sym (unchanged-at wf (ready-size (s .pre .0)) (few s) u (front .0) (front .1) (front .2) taken (c .before .unchanged .ensures)) ∙ c .if1 .taken) in
           subst (λ r. VisitsFront (flowOf (now (s .args .file))) (now (s .args .work)) (c .before .before .before .before .before .before .take .last .0) (s .args .h .statements) (s .args .first) r u)
           (sym (c .before .before .before .rest .ensures))
-          (visits-settled wf (ready-size (s .pre .0)) (few s) u (front .0) (front .1) (front .2) taken still),
+          (visits-unchanged wf (ready-size (s .pre .0)) (few s) u (front .0) (front .1) (front .2) taken still),
       keeps-widen (omega arith) (omega arith) (rest-keeps (taken .kept)),
     )
 
@@ -135,7 +135,7 @@ returns-2 c =
     let sent = subst (λ r. Sends f (c .before .before .before .before .before .before .note-visit .last .0) (c .before .before .send .last .1 .1 .0) n r (c .before .before .before .before .before .before .before .before .before .before .before .before .before .before .take .result) (c .before .before .send .result)) (c .before .before .before .before .before .before .before .before .before .before .before .rest .ensures) (c .before .before .send .ensures) in (
       λ u.
           let front = underway-front u (s .pre .4) in
-          let new = not-false _ (sym (settled-at wf (ready-size (s .pre .0)) (few s) u (front .0) (front .1) (front .2) taken (c .before .before .before .before .before .before .before .before .before .settled .ensures)) ∙ c .before .before .before .before .before .before .before .before .if1 .left) in
+          let new = not-false _ (sym (unchanged-at wf (ready-size (s .pre .0)) (few s) u (front .0) (front .1) (front .2) taken (c .before .before .before .before .before .before .before .before .before .unchanged .ensures)) ∙ c .before .before .before .before .before .before .before .before .if1 .left) in
           visits-sent wf (ready-size (s .pre .0)) (few s) u (front .0) (front .1) (front .2) taken new (omega arith) noted sent
           (noted-waits _ _ n _ (below (c .before .before .before .before .before .before .before .before .before .before .before .before .before .before)) noted (rest-waits wf (ready-size (s .pre .0)) (few s) u (front .0) (front .1) (front .2) taken)),
       keeps-trans (beside (c .before .before .before .before .before .before)) (c .before .before .send .ensures .keeps),
@@ -147,7 +147,7 @@ visit-spec =
     (tie.spec
     take-requires
     rest-requires
-    settled-requires
+    unchanged-requires
     same-length
     returns
     note-visit-requires

@@ -11,9 +11,9 @@ use Rattle.masks.specs.declared.Effect.the-variants.{Reference}
 use Rattle.flow.specs.Format.{flowOf, arraysOf}
 use Rattle.flow.specs.Limits.{maxArrays}
 use Rattle.records.proofs.Files.{limited}
-use Rattle.theory.specs.Lists.{has}
+use Rattle.theory.specs.Lists.{elem}
 use Rattle.theory.specs.Body.{references}
-use Rattle.theory.proofs.Lists.{getD-In, has-any}
+use Rattle.theory.proofs.Lists.{getD-In, elem-any}
 use Rattle.statements.proofs.Keeps.{ready-keeps}
 use Rattle.statements.proofs.WellFormed.{statement-in}
 use Rattle.dataflow.proofs.Stepping.{Stepping, stepping-none, stepping-more, stepping-all}
@@ -68,8 +68,8 @@ returns c =
     let s = c .before .before .before .before .before .before in
     let some = c .before .loop .inv .some in
     let count = c .before .before .reference-count .ensures in
-    stepping-all eqb (references (flowOf (now (s .args .file))) (s .args .i)) Reference (λ a. has a (references (flowOf (now (s .args .file))) (s .args .i)))
-    (c .before .loop .inv) (search needs) (λ a. has-any a (references (flowOf (now (s .args .file))) (s .args .i)))
+    stepping-all eqb (references (flowOf (now (s .args .file))) (s .args .i)) Reference (λ a. elem a (references (flowOf (now (s .args .file))) (s .args .i)))
+    (c .before .loop .inv) (search needs) (λ a. elem-any a (references (flowOf (now (s .args .file))) (s .args .i)))
 
 pub step-references-spec : {M : Type 1} → statement M
 step-references-spec =

@@ -5,13 +5,13 @@ use mathlib.Core.Path.{_≡_, sym, ap, _∙_}
 use native.Mathlib.Omega.{arith}
 use borrow.Author.Needs.{needs}
 use denote.Ref.{now}
-use Rattle.masks.specs.declared.Effect.the-variants.{Reference, Dim, Clear}
+use Rattle.masks.specs.declared.Effect.the-variants.{Reference, Dim, Reset}
 use Rattle.flow.specs.Format.{flowOf}
 use Rattle.records.proofs.Files.{limited}
 use Rattle.statements.proofs.Keeps.{ready-keeps, ready-most, ready-room}
 use Rattle.statements.proofs.WellFormed.{well-formed, arrays-is}
 use Rattle.solve.proofs.RowChanges.{row-then, row-step}
-use Rattle.dataflow.proofs.Acted.{stays-row, clears-row}
+use Rattle.dataflow.proofs.Acted.{stays-row, resets-row}
 use Rattle.dataflow.proofs.transfer.transfer.Statement.{statement}
 use Rattle.dataflow.proofs.transfer.transfer.Tie as tie
 
@@ -59,8 +59,8 @@ step-items-requires c κs =
     let size = x .keeps .size in
     (ready-keeps (s .pre .0) (x .keeps) (omega arith), s .pre .3, omega arith, omega arith)
 
-clears-requires : tie.Need-clears-requires
-clears-requires c κs =
+resets-requires : tie.Need-resets-requires
+resets-requires c κs =
     let s = c .before .before .before .before .before .before .before .before .before .before .before .before .before .before .before .before .before in
     let most = ready-most (s .pre .0) in
     let room = ready-room (s .pre .0) (search needs) in
@@ -89,9 +89,9 @@ returns c =
     let s = c .before .before .before .before .before .before .before .before .before .before .before .before .before .before .before .before .before .before .before .before .before .before .before in
     let wf = well-formed (s .pre .0 .fit) in
     let count : s .args .h .arrays ≡ flowOf (now (s .args .file)) .arrays = ap (λ h. h .arrays) (s .pre .1) ∙ sym (arrays-is (now (s .args .file))) in
-    clears-row wf (s .args .i) (s .args .h .arrays) _ _ count (c .before .before .before .before .before .before .before .before .before .before .before .before .before .before .before .before .before .before .before .before .mask-row .ensures) (c .before .before .before .before .before .before .before .before .before .before .before .before .before .before .before .before .before .before .mask-row2 .ensures)
-    (sym (c .before .before .before .before .before .clears .ensures) ∙ c .before .before .before .before .if1 .taken)
-    (row-step _ _ Clear (row-step _ _ Dim (row-step _ _ Reference (c .before .before .before .before .before .before .before .before .before .before .before .before .before .before .before .before .before .copy-row .ensures) (c .before .before .before .before .before .before .before .before .before .before .before .before .before .step-references .ensures)) (c .before .before .before .before .before .before .before .before .before .step-items .ensures)) (c .before .before .step-all .ensures))
+    resets-row wf (s .args .i) (s .args .h .arrays) _ _ count (c .before .before .before .before .before .before .before .before .before .before .before .before .before .before .before .before .before .before .before .before .mask-row .ensures) (c .before .before .before .before .before .before .before .before .before .before .before .before .before .before .before .before .before .before .mask-row2 .ensures)
+    (sym (c .before .before .before .before .before .resets .ensures) ∙ c .before .before .before .before .if1 .taken)
+    (row-step _ _ Reset (row-step _ _ Dim (row-step _ _ Reference (c .before .before .before .before .before .before .before .before .before .before .before .before .before .before .before .before .before .copy-row .ensures) (c .before .before .before .before .before .before .before .before .before .before .before .before .before .step-references .ensures)) (c .before .before .before .before .before .before .before .before .before .step-items .ensures)) (c .before .before .step-all .ensures))
 
 same-length-2 : tie.Need-same-length-2
 same-length-2 c =
@@ -103,7 +103,7 @@ returns-2 c =
     let wf = well-formed (s .pre .0 .fit) in
     let count : s .args .h .arrays ≡ flowOf (now (s .args .file)) .arrays = ap (λ h. h .arrays) (s .pre .1) ∙ sym (arrays-is (now (s .args .file))) in
     stays-row wf (s .args .i) (s .args .h .arrays) _ _ count (c .before .before .before .before .before .before .before .before .before .before .before .before .before .before .before .before .mask-row .ensures) (c .before .before .before .before .before .before .before .before .before .before .before .before .before .before .mask-row2 .ensures)
-    (sym (c .before .clears .ensures) ∙ c .if1 .left)
+    (sym (c .before .resets .ensures) ∙ c .if1 .left)
     (row-step _ _ Dim (row-step _ _ Reference (c .before .before .before .before .before .before .before .before .before .before .before .before .before .copy-row .ensures) (c .before .before .before .before .before .before .before .before .before .step-references .ensures)) (c .before .before .before .before .before .step-items .ensures))
 
 pub transfer-spec : {M : Type 1} → statement M
@@ -116,7 +116,7 @@ transfer-spec =
     copy-row-requires
     step-references-requires
     step-items-requires
-    clears-requires
+    resets-requires
     step-all-requires
     same-length
     returns

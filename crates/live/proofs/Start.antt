@@ -1,18 +1,18 @@
--- What a caller of `live_names` has after it cleared the matrix and the queue: the noted places are below them.
--- By the laws of cleared words.
+-- What a caller of `live_names` has after it zeroed the matrix and the queue: the noted places are below them.
+-- By the laws of zeroed words.
 use Prim.Native.Nat.{ℕ, _+_, _*_, _-_, _<_, _≤_}
 use mathlib.Core.List.{List}
 use mathlib.Core.Path.{_≡_, _∙_, ap, subst}
 use native.Mathlib.Nat.{mul-zero, add-zero, le-refl}
 use native.Mathlib.Omega.{arith}
 use lib.ListN.{length, getD}
-use Rattle.words.specs.Change.{cleared}
-use Rattle.words.proofs.Cleared.{cleared-word}
+use Rattle.words.specs.Change.{zeroed}
+use Rattle.words.proofs.Zeroed.{zeroed-word}
 use Rattle.statements.specs.Layout.{rowWords, rowAt, matrixAt, visitedAt}
 use Rattle.statements.specs.Ready.{Ready}
 use Rattle.statements.proofs.WorkArea.{row-from}
-use Rattle.statements.proofs.Keeps.{keeps-cleared, ready-keeps, ready-room}
-use Rattle.live.specs.LiveNames.{Blank}
+use Rattle.statements.proofs.Keeps.{keeps-zeroed, ready-keeps, ready-room}
+use Rattle.live.specs.LiveNames.{LiveStart}
 
 -- the matrix begins with row 0
 first-row : (n : ℕ) → rowAt n 0 ≡ matrixAt n
@@ -20,14 +20,14 @@ unfolding rowAt
 first-row n = ap (λ z. matrixAt n + z) (mul-zero (rowWords n)) ∙ add-zero (matrixAt n)
 
 pub blank : {s ws : List ℕ} {n : ℕ} (ins outs : List ℕ) → Ready s ws n → 0 < n → n ≤ length ins → n ≤ length outs
-    → Blank s (cleared ws (rowAt n 0) (visitedAt n - rowAt n 0)) ins outs n
+    → LiveStart s (zeroed ws (rowAt n 0) (visitedAt n - rowAt n 0)) ins outs n
 blank {s} {ws} {n} ins outs r p in-room out-room = record {
-  ready = ready-keeps r (keeps-cleared ws (rowAt n 0) (visitedAt n - rowAt n 0) (le-refl _) (le-refl _)) (omega (arith, first-row n));
+  ready = ready-keeps r (keeps-zeroed ws (rowAt n 0) (visitedAt n - rowAt n 0) (le-refl _) (le-refl _)) (omega (arith, first-row n));
   some = p;
   in-room = in-room;
   out-room = out-room;
   zero = λ x l m.
       let here : rowAt n 0 + (x - rowAt n 0) ≡ x = omega (arith, first-row n) in
-      subst (λ z. getD (cleared ws (rowAt n 0) (visitedAt n - rowAt n 0)) z 0 ≡ 0) here
-      (cleared-word ws (rowAt n 0) (visitedAt n - rowAt n 0) (omega (arith, ready-room r p, first-row n)) (x - rowAt n 0) (omega (arith, first-row n)));
+      subst (λ z. getD (zeroed ws (rowAt n 0) (visitedAt n - rowAt n 0)) z 0 ≡ 0) here
+      (zeroed-word ws (rowAt n 0) (visitedAt n - rowAt n 0) (omega (arith, ready-room r p, first-row n)) (x - rowAt n 0) (omega (arith, first-row n)));
 }

@@ -1,4 +1,4 @@
--- `dataflow::arrays::settled` meets its contract: the two words are read where the layout has them.
+-- `dataflow::arrays::unchanged` meets its contract: the two words are read where the layout has them.
 -- By the test of the first.
 use Prim.Native.Nat.{ℕ, _+_}
 use mathlib.Core.Bool.{_&&_}
@@ -10,8 +10,8 @@ use denote.Ref.{now}
 use lib.Dec.{eqb}
 use lib.ListN.{getD}
 use Rattle.statements.specs.Layout.{visitedAt, grownAt}
-use Rattle.dataflow.proofs.arrays.settled.Statement.{statement}
-use Rattle.dataflow.proofs.arrays.settled.Tie as tie
+use Rattle.dataflow.proofs.arrays.unchanged.Statement.{statement}
+use Rattle.dataflow.proofs.arrays.unchanged.Tie as tie
 
 visited-requires : tie.Need-visited-requires
 visited-requires c κs = search needs
@@ -50,8 +50,8 @@ returns-2 c =
     sym (ap (λ b. b && eqb (getD (now (a .work)) (grownAt (a .n) + a .d) 0) 0)
     (ne-eqb (getD (now (a .work)) (visitedAt (a .n) + a .d) 0) 1 (λ e. c .if1 .left (ap (λ (x : ℕ). getD (now (a .work)) (x + a .d) 0) (c .before .before .visited .ensures) ∙ e))))
 
-pub settled-spec : {M : Type 1} → statement M
-settled-spec =
+pub unchanged-spec : {M : Type 1} → statement M
+unchanged-spec =
     tie.close
     (tie.spec
     visited-requires

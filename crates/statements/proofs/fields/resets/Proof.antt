@@ -1,4 +1,4 @@
--- `clears` meets its contract: a kind is CLR or RUN by its number.
+-- `resets` meets its contract: a kind is CLR or RUN by its number.
 -- Assumes nothing.
 use borrow.Author.Needs.{needs}
 use denote.Ref.{now}
@@ -9,8 +9,8 @@ use lib.Dec.{eqb}
 use Rattle.flow.specs.Format.{flowOf}
 use Rattle.theory.specs.Body.{kind}
 use Rattle.theory.specs.Runs.{empties}
-use Rattle.statements.proofs.fields.clears.Statement.{statement}
-use Rattle.statements.proofs.fields.clears.Tie as tie
+use Rattle.statements.proofs.fields.resets.Statement.{statement}
+use Rattle.statements.proofs.fields.resets.Tie as tie
 
 offset-requires : tie.Need-offset-requires
 offset-requires c κs = search needs
@@ -31,5 +31,5 @@ returns-2 : tie.Need-returns-2
 returns-2 c = let second : eqb (c .before .kind .result) 3 ≡ (eqb (c .before .kind .result) 2 || eqb (c .before .kind .result) 3) = rw (ne-eqb _ _ (c .if1 .left)) in
     second ∙ number (c .before)
 
-pub clears-spec : {M : Type 1} → statement M
-clears-spec = tie.close (tie.spec offset-requires kind-requires returns returns-2)
+pub resets-spec : {M : Type 1} → statement M
+resets-spec = tie.close (tie.spec offset-requires kind-requires returns returns-2)
