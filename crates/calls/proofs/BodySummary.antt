@@ -10,7 +10,7 @@ use native.Mathlib.Decide.{decLt, ℕ-discrete}
 use native.Mathlib.Omega.{arith}
 use borrow.Author.Tests.{eqb-true, eqb-false}
 use lib.ListN.{length, set}
-use Rattle.words.specs.Row.{bit, nextMember}
+use Rattle.words.specs.contracts.Row.{bit, nextMember}
 use Rattle.words.proofs.NextMember.{first}
 use Rattle.flow.specs.Flow.{Flow, Kind, size}
 use Rattle.theory.specs.Lists as lists
@@ -18,14 +18,14 @@ use Rattle.theory.specs.Lists.{In, any}
 use Rattle.theory.specs.Reach.{Reach}
 use Rattle.theory.specs.Body as theory
 use Rattle.theory.specs.Body.{kind, references, continuationOf, entered, ifSome, callees, isReturn, successors, orElse, walkNext, Walks, Calls, Touches, wipes, Calls⁺, Opaque, OpaqueCall, CallTouches, walked, touches, opaqueCall, callTouches}
-use Rattle.theory.specs.WellFormed.{WellFormed}
+use Rattle.theory.specs.contracts.WellFormed.{WellFormed}
 use Rattle.theory.proofs.Lists.{clash, or-cases, or-first, or-second, any-find, In-elem, elem-In}
 use Rattle.theory.proofs.Body.{walked-sound, touches-sound, touches-complete, touches-equation, opaque-complete, opaqueCall-sound, callTouches-sound}
 use Rattle.theory.proofs.Transparent.{Transparent, transparent-opaque, callee-transparent}
-use Rattle.statements.specs.Layout.{bodiesAt, touchedAt, matrixAt, rowAt}
-use Rattle.statements.specs.Ready.{MembersWord}
-use Rattle.calls.specs.Held.{unentered, opened, transparent, opaque, EmptyRow, WalkRow}
-use Rattle.calls.specs.Summing.{body, call, touchedBy, callTouchedBy, summaryState, Within, Holds, BodyState, CallState, Summing, OnwardBut, Onward, Leads, Referred, CallJoined, BodySummed, CallSummed}
+use Rattle.statements.specs.contracts.Layout.{bodiesAt, touchedAt, matrixAt, rowAt}
+use Rattle.statements.specs.contracts.Ready.{MembersWord}
+use Rattle.calls.specs.contracts.Held.{unentered, opened, transparent, opaque, EmptyRow, WalkRow}
+use Rattle.calls.specs.contracts.Summing.{body, call, touchedBy, callTouchedBy, summaryState, Within, Holds, BodyState, CallState, Summing, OnwardBut, Onward, Leads, Referred, CallJoined, BodySummed, CallSummed}
 use Rattle.calls.proofs.Summing.{joined-has, onward-refl, onward-trans, onward-but, onward-all, walk-low, onward-touched, summing-touched, body-set, body-other, onward-body, summing-body, rows-set, walk-kept}
 
 -- Members of a word
@@ -168,7 +168,7 @@ body-next {f} {ws₀} {ws} {n} {e} {from} {found-opaque} le l p {base} {i} q is 
     is′ : i ≡ nextMember ws (rowAt n e) from n
     is′ = is ∙ ap (λ b. nextMember ws b from n) q
 
-    is-first : Rattle.words.specs.Row.First ws (rowAt n e) from n (nextMember ws (rowAt n e) from n)
+    is-first : Rattle.words.specs.contracts.Row.First ws (rowAt n e) from n (nextMember ws (rowAt n e) from n)
     is-first = first ws (rowAt n e) from n l
 
     passed : (j : ℕ) → j < i → Walks f e j → found-opaque ≡ false → Dec (j < from) → Passed f ws n e j

@@ -8,16 +8,16 @@ use mathlib.Core.Path.{_≡_, refl, sym, _∙_, subst}
 use native.Mathlib.Decide.{decLt}
 use native.Mathlib.Omega.{arith}
 use lib.ListN.{getD}
-use Rattle.words.specs.Row.{has}
+use Rattle.words.specs.contracts.Row.{has}
 use Rattle.flow.specs.Flow.{Flow}
 use Rattle.theory.specs.Lists as lists
 use Rattle.theory.specs.Body.{entered}
-use Rattle.statements.specs.Layout.{callsAt, rowAt, rowWords, enteredRowAt, waitingAt}
-use Rattle.statements.specs.Ready.{Keeps}
+use Rattle.statements.specs.contracts.Layout.{callsAt, rowAt, rowWords, enteredRowAt, waitingAt}
+use Rattle.statements.specs.contracts.Ready.{Keeps}
 use Rattle.statements.proofs.WorkArea.{member-word, row-from, row-fits, rows-apart}
 use Rattle.statements.proofs.Keeps.{keeps-refl, keeps-trans, keeps-widen, keeps-has}
-use Rattle.calls.specs.Held.{EmptyEntered, transparent}
-use Rattle.calls.specs.Joins.{Adds, Notes}
+use Rattle.calls.specs.contracts.Held.{EmptyEntered, transparent}
+use Rattle.calls.specs.contracts.Joins.{Adds, Notes}
 use Rattle.calls.proofs.Joined.{row-stays, adds-all}
 
 pub notes-none : {f : Flow} {ws : List ℕ} {n : ℕ} (lo : ℕ) → Notes f ws ws n lo lo

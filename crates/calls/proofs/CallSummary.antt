@@ -10,17 +10,17 @@ use native.Mathlib.Omega.{arith}
 use borrow.Author.Tests.{eqb-true, eqb-false, not-true, not-false}
 use lib.Dec.{eqb}
 use lib.ListN.{length, getD, set, take}
-use Rattle.words.specs.Row.{bit}
+use Rattle.words.specs.contracts.Row.{bit}
 use Rattle.flow.specs.Flow.{Flow, size, enters}
 use Rattle.theory.specs.Lists.{In, concatMap, optionList}
 use Rattle.theory.specs.Body as theory
 use Rattle.theory.specs.Body.{kind, callLines, continuationOf, entered, ifSome, callees, Calls⁺, Opaque, OpaqueCall, CallTouches, touches, opaqueCall, callTouches}
-use Rattle.theory.specs.WellFormed.{WellFormed}
+use Rattle.theory.specs.contracts.WellFormed.{WellFormed}
 use Rattle.theory.proofs.Lists.{clash, or-cases, or-first, or-second, any-find, none-any, In-concatMap, In-optionList}
 use Rattle.theory.proofs.Body.{touches-sound, opaque-sound, opaqueCall-complete, callTouches-complete}
-use Rattle.statements.specs.Layout.{callsAt, callTouchedAt, bodiesAt, matrixAt}
-use Rattle.calls.specs.Held.{unentered, transparent, opaque}
-use Rattle.calls.specs.Summing.{body, call, touchedBy, callTouchedBy, summaryState, Holds, BodyState, CalleesEntered, CallState, Summing, Onward, Leads, BodyJoined, BodySummed, CallSummed}
+use Rattle.statements.specs.contracts.Layout.{callsAt, callTouchedAt, bodiesAt, matrixAt}
+use Rattle.calls.specs.contracts.Held.{unentered, transparent, opaque}
+use Rattle.calls.specs.contracts.Summing.{body, call, touchedBy, callTouchedBy, summaryState, Holds, BodyState, CalleesEntered, CallState, Summing, Onward, Leads, BodyJoined, BodySummed, CallSummed}
 use Rattle.calls.proofs.Lines.{enteredBy, entered-more, entered-all, entered-line}
 use Rattle.calls.proofs.Summing.{joined-has, onward-refl, onward-trans, callee-low, onward-callTouched, summing-callTouched, call-set, call-other, onward-call, summing-call}
 use Rattle.calls.proofs.BodySummary.{summary-state-not}

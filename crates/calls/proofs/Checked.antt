@@ -10,19 +10,21 @@ use Rattle.flow.specs.Limits.{maxFile}
 use Rattle.flow.specs.declared.StmtId.{StmtId}
 use Rattle.flow.specs.declared.Continuation as C
 use Rattle.flow.specs.declared.LineEntry as E
-use Rattle.flow.specs.Fields.{FitRecord, callLineCount, callLineAt, continuationTo, lineEntryOf}
+use Rattle.flow.specs.contracts.Answers.{FitRecord}
+use Rattle.records.specs.contracts.Fields.{callLineCount, callLineAt, continuationTo, lineEntryOf}
 use Rattle.flow.specs.Format.{flowOf, statementsOf, recordPlace, successorCount, successorAt}
 use Rattle.records.proofs.Files.{limited, record-fit}
-use Rattle.flow.proofs.Records.{call-line-fits, references-fit}
+use Rattle.records.proofs.KindData.{call-line-fits}
+use Rattle.flow.proofs.Records.{references-fit}
 use Rattle.records.proofs.Statements.{says}
 use Rattle.records.proofs.Tabulated.{length-tabulate}
 use Rattle.theory.specs.Lists.{In}
 use Rattle.theory.specs.Body.{kind, callLines, successors, walkNext}
 use Rattle.theory.proofs.Body.{walkNext-below}
 use Rattle.theory.proofs.Lists.{getD-In}
-use Rattle.statements.specs.Layout as layout
-use Rattle.statements.specs.Layout.{rowAt, rowWords, queueAt, waitingAt}
-use Rattle.statements.specs.Ready.{Ready}
+use Rattle.statements.specs.contracts.Layout as layout
+use Rattle.statements.specs.contracts.Layout.{rowAt, rowWords, queueAt, waitingAt}
+use Rattle.statements.specs.contracts.Ready.{Ready}
 use Rattle.statements.proofs.Keeps.{ready-formed, ready-below, ready-room}
 use Rattle.statements.proofs.WorkArea.{member-word, row-words-le, row-fits}
 

@@ -13,17 +13,17 @@ use borrow.Author.Tests.{lt-ltb, le-ltb, eq-eqb, ne-eqb, eqb-true}
 use lib.Dec.{eqb}
 use lib.ListN.{length, getD, drop, length-append, length-map, List·getD-append, List·getD-map, drop-of-length-le}
 use lib.Seq.{drop-cons, drop-nil, drop-append-add, drop-at, getD-at}
-use Rattle.words.specs.Row as row
-use Rattle.words.specs.Row.{seek, nextMember}
+use Rattle.words.specs.contracts.Row as row
+use Rattle.words.specs.contracts.Row.{seek, nextMember}
 use Rattle.flow.specs.Flow.{Flow, size, enters}
 use Rattle.theory.specs.Lists.{any, elem, upTo}
 use Rattle.theory.specs.Body.{kind, successors, callLines, continuationOf, entered, isReturn, opaqueCall}
 use Rattle.theory.specs.Doubled.{Base, Node, Edge, at, plain, offset, number, node, sameNode, returnsTo}
 use Rattle.theory.proofs.Lists.{same-test, or-second, says-one, length-upTo}
 use Rattle.theory.proofs.Edges.{node-same}
-use Rattle.statements.specs.Layout.{callsAt, enteredRowAt}
-use Rattle.calls.specs.Held.{EnteredIs, Linked, transparent, opaque}
-use Rattle.calls.specs.Slots.{edgeTo, ifEntered, otherSlots, callSlots, returnSlots, listedSlots, slotsOf, slots, edgeFrom, copyOf, memberEdge}
+use Rattle.statements.specs.contracts.Layout.{callsAt, enteredRowAt}
+use Rattle.calls.specs.contracts.Held.{EnteredIs, Linked, transparent, opaque}
+use Rattle.calls.specs.contracts.Slots.{edgeTo, ifEntered, otherSlots, callSlots, returnSlots, listedSlots, slotsOf, slots, edgeFrom, copyOf, memberEdge}
 use Rattle.calls.specs.declared.Edge as E
 use Rattle.calls.proofs.BodySummary.{return-ordinary}
 

@@ -10,24 +10,24 @@ use native.Mathlib.Omega.{arith}
 use borrow.Author.Tests.{eqb-true, eq-eqb, lt-ltb}
 use lib.Dec.{eqb, ltb}
 use lib.ListN.{getD}
-use Rattle.words.specs.Row as row
-use Rattle.words.specs.Row.{nextMember, First}
+use Rattle.words.specs.contracts.Row as row
+use Rattle.words.specs.contracts.Row.{nextMember, First}
 use Rattle.words.proofs.Row.{has-lt}
 use Rattle.words.proofs.NextMember.{first}
 use Rattle.flow.specs.Flow.{Flow, size, enters}
 use Rattle.theory.specs.Lists.{any, elem, concatMap, upTo}
 use Rattle.theory.specs.Reach.{Reach}
 use Rattle.theory.specs.Body.{kind, continuationOf, isReturn, entered, callees, walked, opaqueCall, callTouches}
-use Rattle.theory.specs.WellFormed.{WellFormed}
+use Rattle.theory.specs.contracts.WellFormed.{WellFormed}
 use Rattle.theory.specs.Doubled.{returnsTo, isSome}
 use Rattle.theory.proofs.Lists.{same-test, not-so, eqb-sym, says-one, any-append, In-elem, elem-In, elem-not, elem-append, concatMap-append}
 use Rattle.theory.proofs.Body.{entered-below, walked-sound, walked-complete}
-use Rattle.statements.specs.Layout.{callsAt, callTouchedAt, matrixAt, rowAt, queueAt, enteredRowAt, waitingAt}
-use Rattle.statements.specs.Ready.{Keeps, MembersWord}
+use Rattle.statements.specs.contracts.Layout.{callsAt, callTouchedAt, matrixAt, rowAt, queueAt, enteredRowAt, waitingAt}
+use Rattle.statements.specs.contracts.Ready.{Keeps, MembersWord}
 use Rattle.statements.proofs.Keeps.{keeps-has}
 use Rattle.statements.proofs.Members.{first-as, members-none, members-next}
-use Rattle.calls.specs.Held.{WalkRow, EmptyEntered, CallSummaries, Summarized, Linked, transparent, opaque}
-use Rattle.calls.specs.Joins.{Joins, Adds, Notes, Summary, BodyRows, walks, fromReturn, fromEntered, fromBodies}
+use Rattle.calls.specs.contracts.Held.{WalkRow, EmptyEntered, CallSummaries, Summarized, Linked, transparent, opaque}
+use Rattle.calls.specs.contracts.Joins.{Joins, Adds, Notes, Summary, BodyRows, walks, fromReturn, fromEntered, fromBodies}
 use Rattle.calls.proofs.Joined.{joins-none, joins-then, joins-same, row-stays, adds-all}
 use Rattle.calls.proofs.Summing.{walk-low, walk-kept}
 use Rattle.calls.proofs.BodySummary.{return-stays, return-ordinary}

@@ -8,8 +8,8 @@ use native.Mathlib.Omega.{arith}
 use borrow.Author.Tests.{eqb-true, eqb-false}
 use lib.Dec.{eqb}
 use lib.ListN.{length}
-use Rattle.words.specs.Row.{has}
-use Rattle.words.specs.Change.{Inserted, inserted, Unioned}
+use Rattle.words.specs.contracts.Row.{has}
+use Rattle.words.specs.contracts.Change.{Inserted, inserted, Unioned}
 use Rattle.words.proofs.Row.{has-lt}
 use Rattle.words.proofs.Inserted.{insert-same, insert-other}
 use Rattle.words.proofs.Unioned.{unioned-has}
@@ -17,12 +17,12 @@ use Rattle.flow.specs.Flow.{Flow}
 use Rattle.theory.specs.Lists as lists
 use Rattle.theory.specs.Body.{kind, isReturn}
 use Rattle.theory.proofs.Lists.{clash, not-so, elem-append}
-use Rattle.statements.specs.Layout.{rowAt, rowWords, queueAt, enteredRowAt, waitingAt}
-use Rattle.statements.specs.Ready.{Keeps}
+use Rattle.statements.specs.contracts.Layout.{rowAt, rowWords, queueAt, enteredRowAt, waitingAt}
+use Rattle.statements.specs.contracts.Ready.{Keeps}
 use Rattle.statements.proofs.WorkArea.{member-word, row-holds, row-words-le, row-from, row-fits, insert-row}
 use Rattle.statements.proofs.Keeps.{keeps-refl, keeps-trans, keeps-widen, keeps-has, keeps-inserted, keeps-unioned}
-use Rattle.calls.specs.Held.{EmptyEntered}
-use Rattle.calls.specs.Joins.{Joins, Adds, fromReturn}
+use Rattle.calls.specs.contracts.Held.{EmptyEntered}
+use Rattle.calls.specs.contracts.Joins.{Joins, Adds, fromReturn}
 
 max-or : (a : ℕ) (p q : Bool) → max (max a (cond p 1 0)) (cond q 1 0) ≡ max a (cond (p || q) 1 0)
 max-or a true true = omega arith

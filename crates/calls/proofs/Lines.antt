@@ -10,11 +10,11 @@ use lib.Seq.{take-suc, take-all}
 use Rattle.flow.specs.Flow.{Flow, enters}
 use Rattle.flow.specs.declared.StmtId.{StmtId}
 use Rattle.flow.specs.declared.LineEntry as E
-use Rattle.flow.specs.Fields.{lineEntryOf}
+use Rattle.records.specs.contracts.Fields.{lineEntryOf}
 use Rattle.theory.specs.Lists.{In, concatMap, optionList}
 use Rattle.theory.specs.Body.{kind, callLines, entered}
 use Rattle.theory.proofs.Lists.{getD-In, concatMap-In, concatMap-append, optionList-In}
-use Rattle.calls.specs.Joins.{Adds}
+use Rattle.calls.specs.contracts.Joins.{Adds}
 use Rattle.calls.proofs.Checked.{enters-at, enters-nothing}
 use Rattle.calls.proofs.Joined.{adds-none, adds-then}
 

@@ -11,13 +11,13 @@ use Rattle.flow.specs.declared.NodeId.{NodeId}
 use Rattle.flow.specs.Flow.{Flow, size}
 use Rattle.theory.specs.Lists.{In, any, concatMap, optionList, select, upTo}
 use Rattle.theory.specs.Body.{kind, successors, continuationOf, isReturn, opaqueCall}
-use Rattle.theory.specs.WellFormed.{WellFormed}
+use Rattle.theory.specs.contracts.WellFormed.{WellFormed}
 use Rattle.theory.specs.Doubled.{Base, Node, Edge, at, plain, offset, number, returnsTo, returnEdges, listedEdges, edgesOf, edges}
 use Rattle.theory.proofs.Lists.{clash, In-map}
 use Rattle.theory.proofs.Edges.{edge-below}
-use Rattle.statements.specs.Layout.{callsAt}
-use Rattle.calls.specs.Held.{Linked, EnteredRow, transparent, opaque}
-use Rattle.calls.specs.Slots.{slots, present}
+use Rattle.statements.specs.contracts.Layout.{callsAt}
+use Rattle.calls.specs.contracts.Held.{Linked, EnteredRow, transparent, opaque}
+use Rattle.calls.specs.contracts.Slots.{slots, present}
 use Rattle.calls.proofs.Slots.{slot-edge}
 use Rattle.calls.proofs.Cursor.{NextEdge}
 use Rattle.calls.proofs.Found.{call-opaque}

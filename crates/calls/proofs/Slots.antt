@@ -17,7 +17,7 @@ use Rattle.theory.specs.Queue.{Arc, brings, join, enqueue, stepAll}
 use Rattle.theory.proofs.Lists.{In-elem, In-map, select-In, concatMap-append}
 use Rattle.theory.proofs.Edges.{same-node, in-once}
 use Rattle.theory.proofs.Enqueue.{join-keeps, join-adds}
-use Rattle.calls.specs.Slots.{edgeTo, ifEntered, otherSlots, callSlots, returnSlots, listedSlots, slotsOf, slots, present, toArc}
+use Rattle.calls.specs.contracts.Slots.{edgeTo, ifEntered, otherSlots, callSlots, returnSlots, listedSlots, slotsOf, slots, present, toArc}
 
 -- Present slots
 

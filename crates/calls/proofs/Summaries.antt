@@ -11,19 +11,19 @@ use native.Mathlib.Omega.{arith}
 use borrow.Author.Tests.{eqb-true, eq-eqb, ne-eqb}
 use lib.Dec.{eqb}
 use lib.ListN.{getD}
-use Rattle.words.specs.Row.{bit, has, Words}
+use Rattle.words.specs.contracts.Row.{bit, has, Words}
 use Rattle.words.proofs.Bit.{bit-lt, bit-of-zero}
 use Rattle.flow.specs.Flow.{Flow, size}
 use Rattle.theory.specs.Lists.{In, sumBelow}
 use Rattle.theory.specs.Body.{kind, continuationOf, entered, ifSome, isReturn, callees, touches, opaqueCall, callTouches}
-use Rattle.theory.specs.WellFormed.{WellFormed}
+use Rattle.theory.specs.contracts.WellFormed.{WellFormed}
 use Rattle.theory.proofs.Lists.{clash, sumBelow-le, sumBelow-lt}
-use Rattle.statements.specs.Layout.{callsAt, callTouchedAt, bodiesAt, touchedAt, matrixAt, rowAt}
-use Rattle.statements.specs.Ready.{MembersWord}
+use Rattle.statements.specs.contracts.Layout.{callsAt, callTouchedAt, bodiesAt, touchedAt, matrixAt, rowAt}
+use Rattle.statements.specs.contracts.Ready.{MembersWord}
 use Rattle.statements.proofs.WorkArea.{member-word, row-from, row-fits}
 use Rattle.statements.proofs.Members.{zero-has}
-use Rattle.calls.specs.Held.{unentered, opened, transparent, opaque, EmptyRow, WalkRow, NoSummaries, Summarized}
-use Rattle.calls.specs.Summing.{body, call, callTouchedBy, Within, Holds, BodyState, CallState, Summing, OnwardBut, Onward, CallSummed}
+use Rattle.calls.specs.contracts.Held.{unentered, opened, transparent, opaque, EmptyRow, WalkRow, NoSummaries, Summarized}
+use Rattle.calls.specs.contracts.Summing.{body, call, callTouchedBy, Within, Holds, BodyState, CallState, Summing, OnwardBut, Onward, CallSummed}
 use Rattle.calls.proofs.Summing.{onward-refl, onward-trans, callee-low}
 
 -- Unentered bodies

@@ -9,24 +9,24 @@ use native.Mathlib.Decide.{decLt, ℕ-discrete}
 use native.Mathlib.Omega.{arith}
 use lib.ListN.{length, getD, set}
 use lib.Seq.{getD-set-same, getD-set-other}
-use Rattle.words.specs.Row.{bit, has}
-use Rattle.words.specs.Change.{joined}
+use Rattle.words.specs.contracts.Row.{bit, has}
+use Rattle.words.specs.contracts.Change.{joined}
 use Rattle.words.proofs.Bit.{bit-lt, bit-or}
 use Rattle.words.proofs.Row.{has-cong}
 use Rattle.words.proofs.Inserted.{joined-word, joined-other}
 use Rattle.flow.specs.Flow.{Flow, size}
 use Rattle.theory.specs.Lists.{In}
 use Rattle.theory.specs.Body.{kind, isReturn, callees, touches, callTouches, Walks}
-use Rattle.theory.specs.WellFormed.{WellFormed}
+use Rattle.theory.specs.contracts.WellFormed.{WellFormed}
 use Rattle.theory.proofs.Lists.{clash}
 use Rattle.theory.proofs.Reach.{reach-below}
 use Rattle.theory.proofs.Body.{walkNext-below, callees-below}
-use Rattle.statements.specs.Layout.{callsAt, callTouchedAt, bodiesAt, touchedAt, matrixAt, rowAt, enteredRowAt}
-use Rattle.statements.specs.Ready.{Keeps}
+use Rattle.statements.specs.contracts.Layout.{callsAt, callTouchedAt, bodiesAt, touchedAt, matrixAt, rowAt, enteredRowAt}
+use Rattle.statements.specs.contracts.Ready.{Keeps}
 use Rattle.statements.proofs.WorkArea.{member-word, row-from, row-fits, rows-apart}
 use Rattle.statements.proofs.Keeps.{keeps-trans, keeps-refl, keeps-set, keeps-joined, keeps-widen}
-use Rattle.calls.specs.Held.{unentered, opened, EmptyRow, WalkRow, Walked}
-use Rattle.calls.specs.Summing.{body, call, touchedBy, callTouchedBy, Within, BodyState, CalleesEntered, CallState, Summing, OnwardBut, Onward}
+use Rattle.calls.specs.contracts.Held.{unentered, opened, EmptyRow, WalkRow, Walked}
+use Rattle.calls.specs.contracts.Summing.{body, call, touchedBy, callTouchedBy, Within, BodyState, CalleesEntered, CallState, Summing, OnwardBut, Onward}
 use Rattle.calls.proofs.Walking.{only-keeps}
 
 -- Sets

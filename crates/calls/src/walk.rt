@@ -3,9 +3,9 @@ ghost use Prim.Native.Nat.{_<_};
 ghost use mathlib.Core.List.{_∷_, []};
 ghost use Rattle.flow.specs.Format.{flowOf};
 ghost use Rattle.theory.specs.Body.{successors, walkNext};
-ghost use Rattle.statements.specs.Ready.{Ready};
-ghost use Rattle.calls.specs.Held.{EmptyRow, Walked};
-ghost use Rattle.calls.specs.Walking.{Stack, Met};
+ghost use Rattle.statements.specs.contracts.Ready.{Ready};
+ghost use Rattle.calls.specs.contracts.Held.{EmptyRow, Walked};
+ghost use Rattle.calls.specs.contracts.Walking.{Stack, Met};
 use statements::fields;
 use statements::layout;
 

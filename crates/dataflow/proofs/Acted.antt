@@ -17,15 +17,15 @@ use Rattle.theory.specs.Body.{kind, references}
 use Rattle.theory.specs.Doubled.{dims, kindEffects, statementEffects}
 use Rattle.theory.specs.Queue.{stepAll}
 use Rattle.theory.specs.Runs.{empties}
-use Rattle.theory.specs.WellFormed.{WellFormed}
+use Rattle.theory.specs.contracts.WellFormed.{WellFormed}
 use Rattle.theory.proofs.Lists.{clash, not-so, elem-In, any-find, and-both}
-use Rattle.words.specs.Row as bits
-use Rattle.words.specs.Byte.{byteAt}
+use Rattle.words.specs.contracts.Row as bits
+use Rattle.words.specs.contracts.Byte.{byteAt}
 use Rattle.flow.specs.Limits.{maxArrays}
 use Rattle.statements.proofs.Keeps.{keeps-has}
-use Rattle.solve.specs.Rows.{RowIs, stepWhere, memberBelow}
+use Rattle.solve.specs.contracts.Rows.{RowIs, stepWhere, memberBelow}
 use Rattle.solve.proofs.RowChanges.{row-as, row-step}
-use Rattle.dataflow.specs.Transfer.{acted}
+use Rattle.dataflow.specs.contracts.Transfer.{acted}
 
 pub stepAll-append : (es fs : List Effect) (m : ℕ) → stepAll (es ++ fs) m ≡ stepAll fs (stepAll es m)
 unfolding stepAll

@@ -10,7 +10,7 @@ use borrow.Author.Tests.{lt-ltb, le-ltb}
 use lib.Bits.{bitOr}
 use lib.Dec.{eqb, ltb}
 use lib.ListN.{length, getD}
-use Rattle.words.specs.Row as bits
+use Rattle.words.specs.contracts.Row as bits
 use Rattle.masks.specs.declared.Effect.{Effect}
 use Rattle.masks.specs.declared.Effect.the-variants.{Touched}
 use Rattle.masks.specs.Step.{stepOf}
@@ -21,14 +21,14 @@ use Rattle.theory.specs.Body.{callTouches}
 use Rattle.theory.specs.Doubled.{Base, Edge, at, node, number, edges, statementEffects, edgeEffects, doubled}
 use Rattle.theory.specs.Queue.{stepAll, brings}
 use Rattle.theory.proofs.Lists.{says-one}
-use Rattle.statements.specs.Layout.{callTouchedAt, outRow, backRow}
-use Rattle.statements.specs.Ready.{MembersWord}
-use Rattle.calls.specs.Slots.{slots, present, toArc}
+use Rattle.statements.specs.contracts.Layout.{callTouchedAt, outRow, backRow}
+use Rattle.statements.specs.contracts.Ready.{MembersWord}
+use Rattle.calls.specs.contracts.Slots.{slots, present, toArc}
 use Rattle.calls.proofs.Slots.{slot-edge, brings-slots}
-use Rattle.solve.specs.Rows.{stepWhere, memberBelow}
-use Rattle.solve.specs.Pushed.{masksAt}
-use Rattle.dataflow.specs.Transfer.{acted}
-use Rattle.dataflow.specs.Sent.{edgeRow, carried, masksBelow}
+use Rattle.solve.specs.contracts.Rows.{stepWhere, memberBelow}
+use Rattle.solve.specs.contracts.Pushed.{masksAt}
+use Rattle.dataflow.specs.contracts.Transfer.{acted}
+use Rattle.dataflow.specs.contracts.Sent.{edgeRow, carried, masksBelow}
 use Rattle.dataflow.proofs.Unions.{cond-zero}
 use Rattle.dataflow.proofs.Acted.{stepAll-append, stepAll-if}
 

@@ -12,7 +12,7 @@ use lib.Dec.{eqb, ltb}
 use lib.ListN.{length, length-append, length-map}
 use Rattle.flow.specs.Flow.{Flow, size, enters, statement}
 use Rattle.flow.specs.Format.{flowOf, statementsOf, successorCount, kindAt, dataPlace}
-use Rattle.flow.specs.Fields.{FitFile}
+use Rattle.flow.specs.contracts.Answers.{FitFile}
 use Rattle.flow.specs.Limits.{maxFile, maxStatements, maxArrays}
 use Rattle.records.proofs.Files.{limited}
 use Rattle.theory.specs.Lists.{any, elem, select, concatMap, optionList, upTo, sumBelow}
@@ -21,7 +21,7 @@ use Rattle.theory.specs.Doubled.{Base, Node, Edge, at, plain, node, sameNode, o
 use Rattle.theory.specs.Queue.{Graph, Arc, arcCount, visitBound}
 use Rattle.theory.proofs.Lists.{length-upTo, sumBelow-le}
 use Rattle.theory.proofs.Below.{sumBelow-const}
-use Rattle.statements.specs.Ready.{Ready}
+use Rattle.statements.specs.contracts.Ready.{Ready}
 use Rattle.statements.proofs.WellFormed.{arrays-is}
 use Rattle.statements.proofs.Keeps.{ready-size, ready-most}
 use Rattle.calls.proofs.Checked.{successors-few, lines-few}

@@ -8,7 +8,7 @@ use mathlib.Core.Path.{_≡_, refl, ap, sym, _∙_, subst}
 use lib.Dec.{leb, leb→le, T}
 use lib.ListN.{length, getD, replicate}
 use borrow.Author.Tests.{leb-true}
-use Rattle.words.specs.Change.{zeroed}
+use Rattle.words.specs.contracts.Change.{zeroed}
 use Rattle.words.proofs.Zeroed.{zeroed-all}
 use Rattle.flow.specs.declared.Refusal.{Refusal}
 use Rattle.flow.specs.declared.Refusal.the-variants.{Areas}
@@ -18,10 +18,10 @@ use Rattle.flow.specs.declared.Checked.the-variants.{Fit, Unfit}
 use Rattle.flow.specs.Limits.{workWords}
 use Rattle.flow.specs.Flow.{Flow, size}
 use Rattle.flow.specs.Format.{Verdict, fit, unfit, verdict, fileChecks, areaChecks, flowOf, statementsOf, arraysOf}
-use Rattle.flow.specs.Fields.{FitFile, isFit}
-use Rattle.flow.specs.Answers.{headerOf, checkedOf}
+use Rattle.flow.specs.contracts.Answers.{FitFile, isFit}
+use Rattle.flow.specs.contracts.Answers.{headerOf, checkedOf}
 use Rattle.flow.proofs.Verdicts.{fit-append, unfit-append}
-use Rattle.records.proofs.AreaVerdict.{longEnough, area-verdict, areas-fit}
+use Rattle.flow.proofs.AreaVerdict.{longEnough, area-verdict, areas-fit}
 use Rattle.flow.proofs.Reading.{fit-answer, unfit-answer, accepts}
 use Rattle.records.proofs.Statements.{size-is}
 use Rattle.theory.specs.Masks.{visitsOf}
@@ -31,7 +31,7 @@ use Rattle.statements.proofs.WellFormed.{arrays-is, well-formed}
 use Rattle.dataflow.specs.declared.Answer.{Answer}
 use Rattle.dataflow.specs.declared.Answer.the-variants.{Accepted, Refused}
 use Rattle.dataflow.specs.Promise.{Promise, Answered, Untouched, Written, Door, judged, answerBy, answerOf, numberOfAnswer, placeOfAnswer, visitsOfAnswer}
-use Rattle.dataflow.specs.Phases.{Findings}
+use Rattle.dataflow.specs.contracts.Phases.{Findings}
 use Rattle.dataflow.proofs.Promised.{promised}
 
 -- an accepted answer is no refusal

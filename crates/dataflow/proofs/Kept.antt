@@ -5,14 +5,14 @@ use mathlib.Core.List.{List}
 use mathlib.Core.Path.{_≡_, sym, ap, _∙_}
 use native.Mathlib.Omega.{arith}
 use lib.ListN.{length, getD}
-use Rattle.words.specs.Row.{has}
+use Rattle.words.specs.contracts.Row.{has}
 use Rattle.words.proofs.Row.{has-cong}
 use Rattle.flow.specs.Flow.{Flow}
-use Rattle.statements.specs.Layout.{callsAt, rowAt, rowWords, queueAt, enteredRowAt, waitingAt, areaEnd}
-use Rattle.statements.specs.Ready.{Ready, Keeps}
+use Rattle.statements.specs.contracts.Layout.{callsAt, rowAt, rowWords, queueAt, enteredRowAt, waitingAt, areaEnd}
+use Rattle.statements.specs.contracts.Ready.{Ready, Keeps}
 use Rattle.statements.proofs.WorkArea.{row-from, row-fits, row-words-le, member-word}
 use Rattle.statements.proofs.Keeps.{keeps-has, ready-keeps}
-use Rattle.calls.specs.Held.{Linked, EnteredRow, EmptyEntered}
+use Rattle.calls.specs.contracts.Held.{Linked, EnteredRow, EmptyEntered}
 use Rattle.calls.proofs.Gathered.{summaries-kept}
 
 -- the words from the queue on are the solver's

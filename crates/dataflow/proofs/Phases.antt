@@ -8,33 +8,33 @@ use mathlib.Core.List.{List}
 use mathlib.Core.Path.{_≡_, refl, ap, ap₂, sym, _∙_, subst}
 use lib.Bits.{bitOr}
 use lib.ListN.{length, getD}
-use Rattle.words.specs.Byte.{byteAt}
-use Rattle.words.specs.Change.{zeroed}
+use Rattle.words.specs.contracts.Byte.{byteAt}
+use Rattle.words.specs.contracts.Change.{zeroed}
 use Rattle.words.proofs.Zeroed.{zeroed-word, zeroed-other}
 use Rattle.flow.specs.declared.Header.{Header}
 use Rattle.flow.specs.Limits.{workWords, maxStatements, maxArrays}
 use Rattle.flow.specs.Flow.{Flow, size}
 use Rattle.flow.specs.Format.{flowOf, recordPlace, statementsOf, arraysOf}
-use Rattle.flow.specs.Fields.{noted}
-use Rattle.flow.specs.Answers.{headerOf}
+use Rattle.words.specs.contracts.Change.{noted}
+use Rattle.flow.specs.contracts.Answers.{headerOf}
 use Rattle.records.proofs.Files.{limited}
 use Rattle.records.proofs.Noting.{length-noted, noted-at, noted-other}
 use Rattle.records.proofs.Statements.{size-is}
 use Rattle.theory.specs.Masks.{nodeMask, maskOf, visitsOf}
 use Rattle.theory.specs.Live.{liveInWord, liveOutWord}
-use Rattle.statements.specs.Layout.{callsAt, callTouchedAt, matrixAt, rowAt, queueAt, enteredRowAt, waitingAt, maskRowAt, areaEnd}
+use Rattle.statements.specs.contracts.Layout.{callsAt, callTouchedAt, matrixAt, rowAt, queueAt, enteredRowAt, waitingAt, maskRowAt, areaEnd}
 use Rattle.theory.specs.Body.{callTouches}
-use Rattle.statements.specs.Ready.{Ready, Keeps, MembersWord}
+use Rattle.statements.specs.contracts.Ready.{Ready, Keeps, MembersWord}
 use Rattle.statements.proofs.Keeps.{keeps-word, keeps-has, keeps-zeroed, ready-keeps, ready-most, ready-room}
 use Rattle.statements.proofs.WorkArea.{row-from, row-fits, member-word}
 use Rattle.statements.proofs.WellFormed.{arrays-is}
-use Rattle.calls.specs.Held as held
-use Rattle.calls.specs.Held.{Summarized, Linked}
+use Rattle.calls.specs.contracts.Held as held
+use Rattle.calls.specs.contracts.Held.{Summarized, Linked}
 use Rattle.dataflow.specs.Promise.{Written}
-use Rattle.dataflow.specs.Phases.{FitFlow, SummariesMade, SolverStart, Masked, Findings}
-use Rattle.dataflow.specs.Solving as solver
-use Rattle.solve.specs.Pushed.{masksAt}
-use Rattle.dataflow.specs.Bytes.{bothCopies, notedRows}
+use Rattle.dataflow.specs.contracts.Phases.{FitFlow, SummariesMade, SolverStart, Masked, Findings}
+use Rattle.dataflow.specs.contracts.Solving as solver
+use Rattle.solve.specs.contracts.Pushed.{masksAt}
+use Rattle.dataflow.specs.contracts.Bytes.{bothCopies, notedRows}
 use Rattle.dataflow.proofs.Kept.{linked-stays}
 use Rattle.dataflow.proofs.NotedRows.{length-rows, rows-past, rows-at}
 

@@ -7,7 +7,7 @@ use mathlib.Core.Path.{_≡_, sym, subst}
 use lib.ListN.{length, replicate}
 use Rattle.masks.specs.State.{holds}
 use Rattle.flow.specs.Flow.{Flow}
-use Rattle.theory.specs.WellFormed.{WellFormed}
+use Rattle.theory.specs.contracts.WellFormed.{WellFormed}
 use Rattle.theory.specs.Doubled.{doubled}
 use Rattle.theory.specs.Queue.{visitBound}
 use Rattle.theory.specs.Live.{member}
@@ -15,7 +15,7 @@ use Rattle.theory.proofs.Terms.{term-1, term-2-sound, term-2-complete, term-3}
 use Rattle.theory.proofs.Term3.{run-brings}
 use Rattle.theory.proofs.Names.{liveInWord-sound, liveInWord-complete, liveOutWord-sound, liveOutWord-complete}
 use Rattle.dataflow.specs.Promise.{Answered}
-use Rattle.dataflow.specs.Phases.{Findings}
+use Rattle.dataflow.specs.contracts.Phases.{Findings}
 
 module _ (f : Flow) (wf : WellFormed f) (masks masks′ liveIn liveIn′ liveOut liveOut′ work work′ : List ℕ) (visits : ℕ)
     (left : Findings f masks masks′ liveIn liveIn′ liveOut liveOut′ visits) (zero : work′ ≡ replicate (length work) 0) where

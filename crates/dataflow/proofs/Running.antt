@@ -11,7 +11,7 @@ use native.Mathlib.Omega.{arith}
 use borrow.Author.Tests.{eq-eqb, ne-eqb}
 use lib.Dec.{eqb, ltb}
 use lib.ListN.{length, getD}
-use Rattle.words.specs.Byte.{byteAt, byteOf}
+use Rattle.words.specs.contracts.Byte.{byteAt, byteOf}
 use Rattle.words.proofs.Bytes.{byte-cong}
 use Rattle.masks.specs.declared.Effect.the-variants.{Reset}
 use Rattle.flow.specs.Flow.{Flow, size}
@@ -20,25 +20,25 @@ use Rattle.theory.specs.Lists.{elem}
 use Rattle.theory.specs.Doubled.{doubled, boundary}
 use Rattle.theory.specs.Queue.{Graph, Solver, join, pulled, initial, visit, visitBound, solved}
 use Rattle.theory.specs.Masks.{nodeMask, visitsOf}
-use Rattle.theory.specs.WellFormed.{WellFormed}
+use Rattle.theory.specs.contracts.WellFormed.{WellFormed}
 use Rattle.theory.proofs.Lists.{clash}
 use Rattle.theory.proofs.Terms.{doubled-well-formed}
 use Rattle.theory.proofs.Ends.{RuleState, rule-starts, rule-visits, rule-keeps, rule-bound, rule-ends, potential}
 use Rattle.theory.proofs.Exact.{pulled-held}
 use Rattle.theory.proofs.Push.{pulled-first}
-use Rattle.statements.specs.Layout.{maskWords, queueAt, enteredRowAt, waitingAt, visitedAt, grownAt, maskRowAt, areaEnd}
-use Rattle.statements.specs.Ready.{Keeps}
+use Rattle.statements.specs.contracts.Layout.{maskWords, queueAt, enteredRowAt, waitingAt, visitedAt, grownAt, maskRowAt, areaEnd}
+use Rattle.statements.specs.contracts.Ready.{Keeps}
 use Rattle.statements.proofs.WorkArea.{member-word, row-words-le}
 use Rattle.statements.proofs.Keeps.{keeps-refl, keeps-trans, keeps-widen}
 use Rattle.statements.proofs.Members.{zero-has}
-use Rattle.calls.specs.Held.{EmptyEntered}
+use Rattle.calls.specs.contracts.Held.{EmptyEntered}
 use Rattle.solve.specs.declared.Queue.{Queue}
-use Rattle.solve.specs.Rows.{RowIs, stepWhere}
-use Rattle.solve.specs.Waiting.{Waits, Enqueued}
-use Rattle.solve.specs.Pushed.{masksAt}
+use Rattle.solve.specs.contracts.Rows.{RowIs, stepWhere}
+use Rattle.solve.specs.contracts.Waiting.{Waits, Enqueued}
+use Rattle.solve.specs.contracts.Pushed.{masksAt}
 use Rattle.solve.proofs.Waiting.{rest-keeps, waits-none}
-use Rattle.dataflow.specs.Sent.{masksBelow}
-use Rattle.dataflow.specs.Solving.{Solving, Underway, VisitsFront, Unused, RuleResult}
+use Rattle.dataflow.specs.contracts.Sent.{masksBelow}
+use Rattle.dataflow.specs.contracts.Solving.{Solving, Underway, VisitsFront, Unused, RuleResult}
 use Rattle.dataflow.proofs.Unions.{cond-zero}
 use Rattle.dataflow.proofs.Visiting.{nodes-are, arrays-are, below-at}
 

@@ -12,27 +12,27 @@ use borrow.Author.Tests.{eq-eqb, ne-eqb}
 use lib.Bits.{bitOr, or-self, or-zero-l, or-zero-r}
 use lib.Dec.{eqb}
 use lib.ListN.{length, getD, drop}
-use Rattle.words.specs.Byte.{byteAt}
+use Rattle.words.specs.contracts.Byte.{byteAt}
 use Rattle.flow.specs.declared.NodeId.{NodeId}
 use Rattle.flow.specs.Flow.{Flow, size}
 use Rattle.flow.specs.Limits.{maxArrays}
 use Rattle.theory.specs.Lists.{elem}
 use Rattle.theory.specs.Queue.{Arc, join, enqueue, brings}
 use Rattle.theory.specs.Doubled.{Node, Edge, node, number, doubled}
-use Rattle.theory.specs.WellFormed.{WellFormed}
+use Rattle.theory.specs.contracts.WellFormed.{WellFormed}
 use Rattle.theory.proofs.Push.{differ, differ-chain}
-use Rattle.statements.specs.Layout.{queueAt, enteredRowAt, waitingAt, visitedAt, grownAt, areaEnd}
-use Rattle.statements.specs.Ready.{Keeps}
+use Rattle.statements.specs.contracts.Layout.{queueAt, enteredRowAt, waitingAt, visitedAt, grownAt, areaEnd}
+use Rattle.statements.specs.contracts.Ready.{Keeps}
 use Rattle.statements.proofs.Keeps.{keeps-refl, keeps-trans}
-use Rattle.calls.specs.Slots.{slots, present, toArc}
+use Rattle.calls.specs.contracts.Slots.{slots, present, toArc}
 use Rattle.calls.proofs.Cursor.{NextEdge}
 use Rattle.calls.proofs.Slots.{enqueue-slots, or-assoc}
 use Rattle.calls.proofs.Next.{next-below}
 use Rattle.solve.specs.declared.Queue.{Queue}
-use Rattle.solve.specs.Waiting.{Waits}
-use Rattle.solve.specs.Pushed.{masksAt, Pushed}
+use Rattle.solve.specs.contracts.Waiting.{Waits}
+use Rattle.solve.specs.contracts.Pushed.{masksAt, Pushed}
 use Rattle.solve.proofs.Growing.{differ-as}
-use Rattle.dataflow.specs.Sent.{edgeRow, carried, GrownWords, SameVisited, Sent}
+use Rattle.dataflow.specs.contracts.Sent.{edgeRow, carried, GrownWords, SameVisited, Sent}
 use Rattle.dataflow.proofs.Unions.{or-between, differ-self, cond-or}
 
 -- the edges of d from a cursor on

@@ -17,21 +17,21 @@ use Rattle.theory.specs.Body.{kind, continuationOf, opaqueCall, callTouches}
 use Rattle.theory.specs.Doubled.{Edge, node, edges, statementEffects, edgeEffects, doubled}
 use Rattle.theory.specs.Queue.{stepAll, brings}
 use Rattle.theory.proofs.Push.{differ}
-use Rattle.statements.specs.Layout.{enteredRowAt, waitingAt, visitedAt, grownAt, callTouchedAt, maskRowAt, outRow, backRow, areaEnd}
-use Rattle.statements.specs.Ready.{Keeps, MembersWord}
+use Rattle.statements.specs.contracts.Layout.{enteredRowAt, waitingAt, visitedAt, grownAt, callTouchedAt, maskRowAt, outRow, backRow, areaEnd}
+use Rattle.statements.specs.contracts.Ready.{Keeps, MembersWord}
 use Rattle.statements.proofs.Keeps.{keeps-trans}
-use Rattle.words.specs.Byte.{byteAt}
+use Rattle.words.specs.contracts.Byte.{byteAt}
 use Rattle.words.proofs.Bytes.{byte-cong}
-use Rattle.calls.specs.Held.{EmptyEntered}
-use Rattle.calls.specs.Slots.{slots, present}
+use Rattle.calls.specs.contracts.Held.{EmptyEntered}
+use Rattle.calls.specs.contracts.Slots.{slots, present}
 use Rattle.calls.proofs.Slots.{slot-edge, brings-slots}
 use Rattle.calls.proofs.Next.{plain-edge}
 use Rattle.solve.specs.declared.Queue.{Queue}
-use Rattle.solve.specs.Rows.{RowIs, stepWhere, memberBelow}
-use Rattle.solve.specs.Pushed.{masksAt}
+use Rattle.solve.specs.contracts.Rows.{RowIs, stepWhere, memberBelow}
+use Rattle.solve.specs.contracts.Pushed.{masksAt}
 use Rattle.solve.proofs.Growing.{differ-as}
-use Rattle.dataflow.specs.Transfer.{acted}
-use Rattle.dataflow.specs.Sent.{edgeRow, carried, masksBelow, Sent, Sends}
+use Rattle.dataflow.specs.contracts.Transfer.{acted}
+use Rattle.dataflow.specs.contracts.Sent.{edgeRow, carried, masksBelow, Sent, Sends}
 use Rattle.dataflow.proofs.Aside.{Aside, aside-trans, aside-row, aside-entered, aside-waits, aside-masks, aside-visited, aside-grown}
 use Rattle.dataflow.proofs.EdgeRows.{act-row, back-row, carried-brings}
 

@@ -17,23 +17,23 @@ use Rattle.flow.specs.Flow.{Flow, size}
 use Rattle.flow.specs.Limits.{maxArrays}
 use Rattle.theory.specs.Doubled.{doubled}
 use Rattle.theory.specs.Queue.{Graph, Solver, pulled, changed, visit, enqueue, brings}
-use Rattle.theory.specs.WellFormed.{WellFormed}
+use Rattle.theory.specs.contracts.WellFormed.{WellFormed}
 use Rattle.theory.proofs.Lists.{clash, or-second}
 use Rattle.theory.proofs.Terms.{doubled-well-formed}
 use Rattle.theory.proofs.Invariant.{WellFormedGraph, Invariant, grew, queue, front-below, visited-at, visited-other, waiting-next, was-visited}
 use Rattle.theory.proofs.Ends.{RuleState, rule-keeps}
 use Rattle.theory.proofs.Push.{differ, alike, no-differ, pulled-next, pulled-same, changed-front, changed-other}
-use Rattle.statements.specs.Layout.{queueAt, enteredRowAt, waitingAt, visitedAt, grownAt, maskRowAt, areaEnd}
-use Rattle.statements.specs.Ready.{Keeps}
+use Rattle.statements.specs.contracts.Layout.{queueAt, enteredRowAt, waitingAt, visitedAt, grownAt, maskRowAt, areaEnd}
+use Rattle.statements.specs.contracts.Ready.{Keeps}
 use Rattle.statements.proofs.Keeps.{keeps-set, keeps-trans, keeps-widen}
-use Rattle.calls.specs.Held.{EmptyEntered}
+use Rattle.calls.specs.contracts.Held.{EmptyEntered}
 use Rattle.solve.specs.declared.Queue.{Queue}
-use Rattle.solve.specs.Waiting.{Waits, Taken, KeepsRest, restOf}
-use Rattle.solve.specs.Pushed.{masksAt}
+use Rattle.solve.specs.contracts.Waiting.{Waits, Taken, KeepsRest, restOf}
+use Rattle.solve.specs.contracts.Pushed.{masksAt}
 use Rattle.solve.proofs.Waiting.{rest-keeps, waits-kept}
 use Rattle.solve.proofs.Growing.{differ-as}
-use Rattle.dataflow.specs.Sent.{masksBelow, Sends}
-use Rattle.dataflow.specs.Solving.{Solving, Underway, VisitsFront}
+use Rattle.dataflow.specs.contracts.Sent.{masksBelow, Sends}
+use Rattle.dataflow.specs.contracts.Solving.{Solving, Underway, VisitsFront}
 use Rattle.dataflow.proofs.Kept.{empty-stays}
 use Rattle.dataflow.proofs.Unions.{cond-or}
 

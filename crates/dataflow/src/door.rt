@@ -3,13 +3,13 @@ ghost use Prim.Native.Nat.{_*_, _<_, _≤_};
 ghost use mathlib.Core.Bool.{cond};
 ghost use mathlib.Core.Path.{_≡_};
 ghost use lib.ListN.{length};
-ghost use Rattle.words.specs.Change.{zeroed};
+ghost use Rattle.words.specs.contracts.Change.{zeroed};
 ghost use Rattle.flow.specs.Format.{flowOf};
-ghost use Rattle.flow.specs.Answers.{headerOf};
+ghost use Rattle.flow.specs.contracts.Answers.{headerOf};
 ghost use Rattle.theory.specs.Live.{liveInWord, liveOutWord};
-ghost use Rattle.statements.specs.Ready.{Ready};
+ghost use Rattle.statements.specs.contracts.Ready.{Ready};
 ghost use Rattle.dataflow.specs.Promise.{Promise, Door, Written};
-ghost use Rattle.dataflow.specs.Phases.{FitFlow, SummariesMade, SolverStart, Masked, FitAreas, Findings};
+ghost use Rattle.dataflow.specs.contracts.Phases.{FitFlow, SummariesMade, SolverStart, Masked, FitAreas, Findings};
 use crate::Answer;
 use crate::arrays;
 use crate::write;
@@ -103,7 +103,7 @@ pub fn states(
     };
     let n = h.statements;
     let arrays = h.arrays;
-    let fit = records::areas::areas_fit(
+    let fit = flow::areas::areas_fit(
         n,
         arrays,
         masks.len(),

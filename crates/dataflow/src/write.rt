@@ -2,11 +2,11 @@
 ghost use Prim.Native.Nat.{_+_, _*_, _<_, _≤_};
 ghost use mathlib.Core.Path.{_≡_};
 ghost use lib.ListN.{length};
-ghost use Rattle.words.specs.Byte.{byteOf};
+ghost use Rattle.words.specs.contracts.Byte.{byteOf};
 ghost use Rattle.flow.specs.Limits.{maxStatements, maxArrays};
-ghost use Rattle.flow.specs.Fields.{noted};
-ghost use Rattle.statements.specs.Layout.{maskWords, areaEnd};
-ghost use Rattle.dataflow.specs.Bytes.{joinedWord, bothCopies, notedRows};
+ghost use Rattle.words.specs.contracts.Change.{noted};
+ghost use Rattle.statements.specs.contracts.Layout.{maskWords, areaEnd};
+ghost use Rattle.dataflow.specs.contracts.Bytes.{joinedWord, bothCopies, notedRows};
 use statements::layout;
 
 // Word k of the masks of statement i, both copies joined.

@@ -8,7 +8,7 @@ use Rattle.flow.specs.declared.Refusal.{Refusal}
 use Rattle.flow.specs.declared.Passed.{Passed}
 use Rattle.flow.specs.declared.Passed.the-variants.{To, Unfit}
 use Rattle.flow.specs.Format.{Check, Verdict, fit, unfit, verdict, each}
-use Rattle.flow.specs.Answers.{passedOf}
+use Rattle.flow.specs.contracts.Answers.{passedOf}
 use Rattle.flow.proofs.Verdicts.{AllHold, all-fit, StopsAt, refusalAt, stops-at, fit-append, unfit-append, unfit-at, fit-more}
 
 -- from a verdict that is known

@@ -9,8 +9,8 @@ use lib.ListN.{length}
 use Rattle.flow.specs.declared.Refusal.{Refusal}
 use Rattle.flow.specs.Format.{Check, verdict, fit, unfit, each, headerChecks, statementChecks, recordChecks, recordPlace, statementsOf, lineRecordChecks, lineCount, linesPlace, endPlace, endChecks, fileChecks}
 use Rattle.flow.specs.declared.Part.the-variants.{Statements, Lines, End}
-use Rattle.flow.specs.Fields.{FitRecord}
-use Rattle.flow.specs.Parts.{Due, headerEnd}
+use Rattle.flow.specs.contracts.Answers.{FitRecord}
+use Rattle.flow.specs.contracts.Parts.{Due, headerEnd}
 use Rattle.flow.proofs.Verdicts.{all-hold, fit-append, unfit-append, fit-right, elements-within}
 use Rattle.flow.proofs.Records.{end-fits}
 use Rattle.flow.proofs.Answers.{Through}

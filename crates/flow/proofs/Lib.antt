@@ -8,3 +8,4 @@ pub mod FileVerdict
 pub mod Reading
 pub mod Cases
 pub mod Held
+pub mod AreaVerdict

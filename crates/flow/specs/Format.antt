@@ -9,6 +9,7 @@ use lib.Dec.{leb, ltb, eqb}
 use Rattle.flow.specs.declared.Refusal.{Refusal}
 use Rattle.flow.specs.declared.Refusal.the-variants.{TooLong, Record, Header, Kind, Target, Member, ReturnReference, Order, Trailing, Areas}
 use Rattle.flow.specs.Limits.{maxFile, maxStatements, maxArrays, maxNames, maxKind, noContinuation, workWords}
+use Rattle.flow.specs.Refusals.{numberOf, placeOf}
 use Rattle.flow.specs.Flow as F
 use Rattle.flow.specs.Flow.{Flow, Statement, Item, Line, size}
 
@@ -370,3 +371,12 @@ areaCheck need have = check (leb need have) Areas
 unfoldable pub areaChecks : ℕ → ℕ → ℕ → ℕ → ℕ → ℕ → List Check
 areaChecks n arrays masks liveIn liveOut work =
     areaCheck (n * arrays) masks ∷ areaCheck n liveIn ∷ areaCheck n liveOut ∷ areaCheck (workWords n) work ∷ []
+
+-- a verdict's number and place as the outside sees them: 0 and 0 where the file is fit
+abbrev pub verdictNumber : Verdict → ℕ
+verdictNumber fit = 0
+verdictNumber (unfit r) = numberOf r
+
+abbrev pub verdictPlace : Verdict → ℕ
+verdictPlace fit = 0
+verdictPlace (unfit r) = placeOf r

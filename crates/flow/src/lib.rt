@@ -97,6 +97,7 @@ pub enum LineEntry {
     Nothing,
 }
 
+pub mod areas;
 pub mod bytes;
 pub mod check;
 pub mod reader;

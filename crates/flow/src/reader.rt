@@ -1,7 +1,7 @@
 // The reader: the file and how far it has read. A function that holds the struct has no loop and no branch: it takes the struct apart
 // and leaves the work to a function on the slice and the number. `read_part` is for callers that have a slice and a place.
 ghost use mathlib.Core.Path.{_≡_};
-ghost use Rattle.flow.specs.Parts.{Due, partAnswer, placeAfter};
+ghost use Rattle.flow.specs.contracts.Parts.{Due, partAnswer, placeAfter};
 use crate::Part;
 use crate::Passed;
 use crate::check::check_part;

@@ -4,7 +4,7 @@ use Prim.Native.Nat.{ℕ, _*_, _≤_}
 use mathlib.Core.List.{List}
 use lib.ListN.{length}
 use Rattle.flow.specs.Format.{statementsOf, arraysOf}
-use Rattle.flow.specs.Fields.{FitFile}
+use Rattle.flow.specs.contracts.Answers.{FitFile}
 
 pub record Room (s masks liveIn liveOut : List ℕ) : Type 0 where
   pub fit : FitFile s

@@ -1,7 +1,7 @@
 // The lines of the listing.
 ghost use mathlib.Core.Path.{_≡_};
 ghost use Rattle.flow.specs.Format.{statementsOf, arraysOf};
-ghost use Rattle.flow.specs.Fields.{FitRecord};
+ghost use Rattle.flow.specs.contracts.Answers.{FitRecord};
 ghost use Rattle.listing.specs.Room.{Room};
 
 // A number, and what parts it from what follows.

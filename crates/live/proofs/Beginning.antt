@@ -9,7 +9,7 @@ use native.Mathlib.Nat.{le-refl}
 use native.Mathlib.Omega.{arith}
 use lib.ListN.{length, getD, set}
 use lib.Seq.{getD-set-same, getD-set-other}
-use Rattle.words.specs.Row.{bit, has}
+use Rattle.words.specs.contracts.Row.{bit, has}
 use Rattle.words.proofs.Bit.{bit-of-zero}
 use Rattle.flow.specs.Flow.{Flow}
 use Rattle.theory.specs.Lists as lists
@@ -18,16 +18,16 @@ use Rattle.theory.specs.Body.{successors}
 use Rattle.theory.specs.Queue.{join}
 use Rattle.theory.specs.Live.{bitOf}
 use Rattle.theory.proofs.Enqueue.{join-keeps, join-adds, join-cases}
-use Rattle.statements.specs.Layout.{rowAt, matrixAt, visitedAt}
-use Rattle.statements.specs.Ready.{Keeps}
+use Rattle.statements.specs.contracts.Layout.{rowAt, matrixAt, visitedAt}
+use Rattle.statements.specs.contracts.Ready.{Keeps}
 use Rattle.statements.proofs.WorkArea.{row-from, row-fits, member-word}
 use Rattle.statements.proofs.Keeps.{keeps-refl, keeps-trans, keeps-widen, keeps-set}
 use Rattle.statements.proofs.Members.{zero-has}
 use Rattle.solve.specs.declared.Queue.{Queue}
-use Rattle.solve.specs.Waiting.{Waits, Enqueued}
+use Rattle.solve.specs.contracts.Waiting.{Waits, Enqueued}
 use Rattle.solve.proofs.Waiting.{waits-none, waits-kept, rest-keeps}
-use Rattle.live.specs.Predecessors.{Column, Noted}
-use Rattle.live.specs.LiveNames.{LiveStart, AllWaiting}
+use Rattle.live.specs.contracts.Predecessors.{Column, Noted}
+use Rattle.live.specs.contracts.LiveNames.{LiveStart, AllWaiting}
 use Rattle.live.proofs.Pushing.{rest-row}
 
 -- the queue holds the statements from i on

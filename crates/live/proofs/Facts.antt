@@ -13,8 +13,8 @@ use Rattle.records.proofs.Files.{limited}
 use Rattle.theory.specs.Lists.{In}
 use Rattle.theory.specs.Body.{successors}
 use Rattle.theory.proofs.Lists.{getD-In}
-use Rattle.statements.specs.Layout.{rowWords, rowAt, queueAt, visitedAt}
-use Rattle.statements.specs.Ready.{Ready}
+use Rattle.statements.specs.contracts.Layout.{rowWords, rowAt, queueAt, visitedAt}
+use Rattle.statements.specs.contracts.Ready.{Ready}
 use Rattle.statements.proofs.WorkArea.{row-fits}
 use Rattle.statements.proofs.Keeps.{ready-formed, ready-below}
 use Rattle.statements.proofs.WellFormed.{statement-in}

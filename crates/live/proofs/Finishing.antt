@@ -6,14 +6,14 @@ use native.Mathlib.Nat.{le-refl}
 use native.Mathlib.Omega.{arith}
 use Rattle.flow.specs.Flow.{Flow}
 use Rattle.flow.specs.Format.{flowOf}
-use Rattle.statements.specs.Ready.{Ready}
+use Rattle.statements.specs.contracts.Ready.{Ready}
 use Rattle.statements.proofs.WorkArea.{row-from}
 use Rattle.statements.proofs.Keeps.{keeps-refl, keeps-trans, keeps-widen, ready-keeps}
 use Rattle.solve.specs.declared.Queue.{Queue}
-use Rattle.solve.specs.Waiting.{Waits}
+use Rattle.solve.specs.contracts.Waiting.{Waits}
 use Rattle.solve.proofs.Waiting.{rest-keeps}
-use Rattle.live.specs.Solving.{Solving, Held, Visited}
-use Rattle.live.specs.LiveNames.{AllWaiting, LiveNames}
+use Rattle.live.specs.contracts.Solving.{Solving, Held, Visited}
+use Rattle.live.specs.contracts.LiveNames.{AllWaiting, LiveNames}
 use Rattle.live.proofs.Visits.{rest-predecessors}
 use Rattle.live.proofs.Solution.{solved-in, solved-out}
 

@@ -10,19 +10,19 @@ use native.Mathlib.Numerals.{add-one}
 use native.Mathlib.Omega.{arith}
 use lib.ListN.{length, take, getD}
 use lib.Seq.{take-suc, take-all}
-use Rattle.words.specs.Row.{has}
-use Rattle.words.specs.Change.{Inserted, inserted}
+use Rattle.words.specs.contracts.Row.{has}
+use Rattle.words.specs.contracts.Change.{Inserted, inserted}
 use Rattle.words.proofs.Inserted.{insert-same, insert-other}
 use Rattle.flow.specs.Flow.{Flow}
 use Rattle.theory.specs.Lists as lists
 use Rattle.theory.specs.Body.{successors}
 use Rattle.theory.specs.Live.{bitOf}
 use Rattle.theory.proofs.Lists.{elem-last, elem-before}
-use Rattle.statements.specs.Layout.{rowAt, matrixAt, queueAt}
-use Rattle.statements.specs.Ready.{Keeps}
+use Rattle.statements.specs.contracts.Layout.{rowAt, matrixAt, queueAt}
+use Rattle.statements.specs.contracts.Ready.{Keeps}
 use Rattle.statements.proofs.WorkArea.{member-word, row-fits, row-from, insert-row}
 use Rattle.statements.proofs.Keeps.{keeps-refl, keeps-trans, keeps-inserted}
-use Rattle.live.specs.Predecessors.{Column, Noted}
+use Rattle.live.specs.contracts.Predecessors.{Column, Noted}
 
 pub record Noting (l ws₀ ws : List ℕ) (n i k : ℕ) : Type 0 where
   pub low : k ≤ length l

@@ -9,16 +9,16 @@ use native.Mathlib.Omega.{arith}
 use borrow.Author.Tests.{eq-eqb, ne-eqb}
 use lib.Bits.{bitOr}
 use lib.ListN.{length, getD}
-use Rattle.words.specs.Row.{has, nextMember, First}
+use Rattle.words.specs.contracts.Row.{has, nextMember, First}
 use Rattle.words.proofs.NextMember.{first}
 use Rattle.words.proofs.Inserted.{length-joined, joined-word, joined-other}
-use Rattle.statements.specs.Layout.{rowAt}
+use Rattle.statements.specs.contracts.Layout.{rowAt}
 use Rattle.statements.proofs.WorkArea.{member-word, row-fits}
 use Rattle.statements.proofs.Keeps.{keeps-has}
 use Rattle.solve.specs.declared.Queue.{Queue}
-use Rattle.solve.specs.Waiting.{KeepsRest}
+use Rattle.solve.specs.contracts.Waiting.{KeepsRest}
 use Rattle.solve.proofs.Waiting.{rest-keeps}
-use Rattle.live.specs.Spread.{Spread, PushedTo, pushed, PushedLive}
+use Rattle.live.specs.contracts.Spread.{Spread, PushedTo, pushed, PushedLive}
 use Rattle.live.proofs.Spread.{spread-refl, spread-trans}
 
 pub record Pushing (ws₀ ws before after : List ℕ) (n : ℕ) (q₀ q : Queue) (j live i : ℕ) : Type 0 where

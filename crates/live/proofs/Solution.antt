@@ -8,7 +8,7 @@ use native.Mathlib.Nat.{lt-of-lt-of-le}
 use native.Mathlib.Omega.{arith}
 use lib.ListN.{getD}
 use lib.Pow.{pow-mono}
-use Rattle.words.specs.Row.{bit}
+use Rattle.words.specs.contracts.Row.{bit}
 use Rattle.flow.specs.Flow.{statement, size}
 use Rattle.flow.specs.Format.{flowOf, namesOf}
 use Rattle.records.proofs.Files.{limited}
@@ -16,10 +16,10 @@ use Rattle.theory.specs.Live.{member, LiveIn, LiveOut, liveIn, liveOut, liveInW
 use Rattle.theory.proofs.Lists.{same-test}
 use Rattle.theory.proofs.Live.{liveIn-sound, liveIn-complete, liveOut-sound, liveOut-complete}
 use Rattle.theory.proofs.Names.{wordOf-unique}
-use Rattle.statements.specs.Ready.{Ready}
+use Rattle.statements.specs.contracts.Ready.{Ready}
 use Rattle.statements.proofs.WellFormed.{well-formed, statement-in, names-is}
 use Rattle.statements.proofs.Keeps.{ready-size}
-use Rattle.live.specs.Solving.{Settled, Solving}
+use Rattle.live.specs.contracts.Solving.{Settled, Solving}
 use Rattle.live.proofs.Facts.{successor-in, written-word}
 use Rattle.live.proofs.Bits.{member-bit, bit-member, transfer-reads, transfer-keeps, bit-below, word-below}
 

@@ -9,7 +9,7 @@ use native.Mathlib.Decide.{ℕ-discrete}
 use native.Mathlib.Omega.{arith}
 use lib.ListN.{length, getD, set}
 use lib.Seq.{getD-set-same, getD-set-other}
-use Rattle.words.specs.Row.{bit, has}
+use Rattle.words.specs.contracts.Row.{bit, has}
 use Rattle.words.proofs.Row.{has-lt}
 use Rattle.flow.specs.Flow.{Flow, statement}
 use Rattle.theory.specs.Lists as lists
@@ -17,11 +17,11 @@ use Rattle.theory.specs.Lists.{In}
 use Rattle.theory.specs.Body.{successors}
 use Rattle.theory.specs.Live.{LiveIn, LiveOut, bitOf, writes, reads}
 use Rattle.theory.proofs.Lists.{In-elem, elem-In}
-use Rattle.statements.specs.Layout.{rowAt}
+use Rattle.statements.specs.contracts.Layout.{rowAt}
 use Rattle.solve.specs.declared.Queue.{Queue}
-use Rattle.live.specs.Predecessors.{Predecessors}
-use Rattle.live.specs.Spread.{pushed, Follows, PushedLive}
-use Rattle.live.specs.Solving.{transfer, Settled, Solving}
+use Rattle.live.specs.contracts.Predecessors.{Predecessors}
+use Rattle.live.specs.contracts.Spread.{pushed, Follows, PushedLive}
+use Rattle.live.specs.contracts.Solving.{transfer, Settled, Solving}
 use Rattle.live.proofs.Bits.{or-first, or-second, or-either, transfer-cases}
 use Rattle.live.proofs.Pushing.{pushed-member, pushed-other}
 

@@ -6,13 +6,13 @@ use mathlib.Core.Path.{_≡_, _∙_, ap, subst}
 use native.Mathlib.Nat.{mul-zero, add-zero, le-refl}
 use native.Mathlib.Omega.{arith}
 use lib.ListN.{length, getD}
-use Rattle.words.specs.Change.{zeroed}
+use Rattle.words.specs.contracts.Change.{zeroed}
 use Rattle.words.proofs.Zeroed.{zeroed-word}
-use Rattle.statements.specs.Layout.{rowWords, rowAt, matrixAt, visitedAt}
-use Rattle.statements.specs.Ready.{Ready}
+use Rattle.statements.specs.contracts.Layout.{rowWords, rowAt, matrixAt, visitedAt}
+use Rattle.statements.specs.contracts.Ready.{Ready}
 use Rattle.statements.proofs.WorkArea.{row-from}
 use Rattle.statements.proofs.Keeps.{keeps-zeroed, ready-keeps, ready-room}
-use Rattle.live.specs.LiveNames.{LiveStart}
+use Rattle.live.specs.contracts.LiveNames.{LiveStart}
 
 -- the matrix begins with row 0
 first-row : (n : ℕ) → rowAt n 0 ≡ matrixAt n

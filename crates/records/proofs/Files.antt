@@ -10,7 +10,7 @@ use lib.Dec.{eqb, ltb}
 use borrow.Author.Tests.{leb-true, ltb-true, ne-eqb}
 use Rattle.flow.specs.Limits.{maxFile, maxStatements, maxArrays, maxNames}
 use Rattle.flow.specs.Format.{verdict, fit, each, headerChecks, statementChecks, lineRecordChecks, endChecks, fileChecks, recordChecks, recordPlace, statementsOf, arraysOf, namesOf, entryOf, lineCount, linePlace, lineNumber, lineFirst}
-use Rattle.flow.specs.Fields.{FitFile, FitRecord}
+use Rattle.flow.specs.contracts.Answers.{FitFile, FitRecord}
 use Rattle.records.proofs.Rising.{Rising, rising, risesAt, or-second}
 use Rattle.flow.proofs.Verdicts.{all-hold, fit-left, fit-right, fit-at}
 

@@ -11,11 +11,11 @@ use lib.Bits.{or-lt}
 use lib.Dec.{eqb, lit<}
 use lib.Pow.{pow-lt}
 use borrow.Author.Tests.{eqb-true, eqb-false, eq-eqb}
-use Rattle.words.specs.Row.{bit}
+use Rattle.words.specs.contracts.Row.{bit}
 use Rattle.words.proofs.Bit.{bit-lt, bit-or, bit-of-zero, bit-pow-same, bit-pow-other}
 use Rattle.flow.specs.Flow.{statement}
 use Rattle.flow.specs.Format.{tabulate, flowOf, recordPlace, statementsOf, referenceCount, referenceAt}
-use Rattle.flow.specs.Fields.{bitIn, setWord}
+use Rattle.records.specs.contracts.Fields.{bitIn, setWord}
 use Rattle.records.proofs.Tabulated.{member-of, member-at}
 use Rattle.records.proofs.Statements.{says}
 

@@ -10,10 +10,12 @@ use lib.Dec.{eqb, ltb}
 use borrow.Author.Tests.{leb-true, ltb-true, eqb-true, eq-eqb}
 use Rattle.flow.specs.Limits.{maxKind, noContinuation}
 use Rattle.flow.specs.Format.{verdict, fit, each, present, startChecks, successorChecks, referenceCountChecks, referenceChecks, nameChecks, itemChecks, lineChecks, continuationChecks, dimChecks, gosubChecks, onGosubChecks, dataChecks, successorCount, successorAt, referenceCount, referenceAt, dataPlace, dataCount, elementsEnd, kindAt, continuationAt, continuationFrom, continuationFits, writtenAt, readAt, itemAt, statementsOf, arraysOf, namesOf, u16At, byData}
-use Rattle.flow.specs.Fields.{FitRecord, itemCount, continuationIn}
+use Rattle.flow.specs.contracts.Answers.{FitRecord}
+use Rattle.records.specs.contracts.Fields.{itemCount, continuationIn}
 use Rattle.records.proofs.Rising.{Rising, rising, risesAt, or-second}
 use Rattle.flow.proofs.Verdicts.{all-hold, fit-left, fit-right, fit-at}
-use Rattle.flow.proofs.Records.{parts, continuation-none}
+use Rattle.flow.proofs.Records.{parts}
+use Rattle.records.proofs.KindData.{continuation-none}
 use Rattle.records.proofs.KindNumber.{Number, number, dim, gosub, onGosub, other}
 
 pub record InRange (s : List ℕ) (p : ℕ) : Type 0 where

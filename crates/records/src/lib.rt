@@ -2,7 +2,8 @@
 ghost use mathlib.Core.Path.{_≡_};
 ghost use Prim.Native.Nat.{_+_, _≤_, _<_};
 ghost use Rattle.flow.specs.Format.{lineAt, kindAt, successorCount, successorAt, referencesPlace, referenceCount, referenceAt, namesPlace, writtenAt, readAt, dataPlace, itemAt, recordEnd};
-ghost use Rattle.flow.specs.Fields.{FitRecord, recordPart, itemCount, callLineCount, callLineAt, continuationIn, continuationTo, bitIn, setWord};
+ghost use Rattle.flow.specs.contracts.Answers.{FitRecord};
+ghost use Rattle.records.specs.contracts.Fields.{recordPart, itemCount, callLineCount, callLineAt, continuationIn, continuationTo, bitIn, setWord};
 use flow::Continuation;
 use flow::Item;
 use flow::NO_CONTINUATION;
@@ -210,6 +211,5 @@ pub fn record_of<'a>(r: Reader<'a>) -> &'a [u8]
     record(r.file, r.at)
 }
 
-pub mod areas;
 pub mod lines;
 pub mod offsets;

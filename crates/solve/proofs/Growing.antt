@@ -11,9 +11,9 @@ use lib.Bits.{bitOr}
 use lib.Dec.{eqb}
 use lib.ListN.{length, getD, set, length-set}
 use lib.Seq.{getD-set-same, getD-set-other}
-use Rattle.words.specs.Row.{bit, has, Words}
-use Rattle.words.specs.Byte.{byteAt}
-use Rattle.words.specs.Change.{unioned, Unioned, ReadFirst, differs}
+use Rattle.words.specs.contracts.Row.{bit, has, Words}
+use Rattle.words.specs.contracts.Byte.{byteAt}
+use Rattle.words.specs.contracts.Change.{unioned, Unioned, ReadFirst, differs}
 use Rattle.words.proofs.Bit.{bits-below}
 use Rattle.words.proofs.Row.{has-word}
 use Rattle.words.proofs.Bytes.{byte-cong, byte-has, unioned-byte}
@@ -24,12 +24,12 @@ use Rattle.theory.specs.Lists.{allBelow}
 use Rattle.theory.proofs.Lists.{same-test, clash}
 use Rattle.theory.proofs.Below.{allBelow-at, allBelow-all}
 use Rattle.theory.proofs.Push.{differ}
-use Rattle.statements.specs.Layout.{maskWords, grownAt, maskRowAt, maskRows, areaEnd}
-use Rattle.statements.specs.Ready.{Keeps}
+use Rattle.statements.specs.contracts.Layout.{maskWords, grownAt, maskRowAt, maskRows, areaEnd}
+use Rattle.statements.specs.contracts.Ready.{Keeps}
 use Rattle.statements.proofs.Keeps.{keeps-set, keeps-unioned, keeps-trans, keeps-refl, keeps-widen}
 use Rattle.solve.specs.declared.Queue.{Queue}
-use Rattle.solve.specs.Waiting.{Waits, Enqueued}
-use Rattle.solve.specs.Pushed.{masksAt, Grown, Pushed}
+use Rattle.solve.specs.contracts.Waiting.{Waits, Enqueued}
+use Rattle.solve.specs.contracts.Pushed.{masksAt, Grown, Pushed}
 use Rattle.solve.proofs.Waiting.{rest-keeps, waits-kept}
 
 -- words whose bytes are alike are alike

@@ -4,8 +4,8 @@ ghost use mathlib.Core.List.{List};
 ghost use Prim.Native.Nat.{ℕ, _+_, _*_, _^_, _<_, _≤_};
 ghost use lib.ListN.{length};
 ghost use Rattle.flow.specs.Limits.{maxStatements};
-ghost use Rattle.statements.specs.Layout.{waitingAt, visitedAt};
-ghost use Rattle.solve.specs.Waiting.{wrapped, Waits, Enqueued, restOf, Taken};
+ghost use Rattle.statements.specs.contracts.Layout.{waitingAt, visitedAt};
+ghost use Rattle.solve.specs.contracts.Waiting.{wrapped, Waits, Enqueued, restOf, Taken};
 use crate::Queue;
 use statements::layout;
 

@@ -12,14 +12,15 @@ use lib.ListN.{length, getD}
 use Rattle.flow.specs.Limits.{maxKind}
 use Rattle.flow.specs.Flow.{Kind, Item, statement, items}
 use Rattle.flow.specs.Format.{flowOf, tabulate, recordPlace, statementsOf, kindAt, kindOf, byData, plainKind, successorCount, successorAt, referenceCount, referenceAt, writtenAt, readAt, itemAt}
-use Rattle.flow.specs.Fields.{FitRecord, itemCount, callLineCount, callLineAt, continuationIn}
+use Rattle.flow.specs.contracts.Answers.{FitRecord}
+use Rattle.records.specs.contracts.Fields.{itemCount, callLineCount, callLineAt, continuationIn}
 use Rattle.records.proofs.Files.{record-fit}
 use Rattle.records.proofs.Values.{in-range}
 use Rattle.records.proofs.Statements.{Says, says}
 use Rattle.records.proofs.Tabulated.{length-tabulate, getD-tabulate}
 use Rattle.theory.specs.Body.{isReturn, counts, wipes}
 use Rattle.theory.specs.Runs.{empties}
-use Rattle.statements.specs.Ready.{Ready, Elements, RecordOf}
+use Rattle.statements.specs.contracts.Ready.{Ready, Elements, RecordOf}
 
 elements : {A : Type 0} {l : List A} (n : ℕ) (f : ℕ → A) → l ≡ tabulate n f → Elements l n f
 elements n f e = record {

@@ -7,9 +7,9 @@ use mathlib.Core.List.{List}
 use mathlib.Core.Path.{_≡_, refl, sym, _∙_, subst}
 use lib.ListN.{length, getD, set, length-set}
 use lib.Seq.{getD-set-other}
-use Rattle.words.specs.Row.{has}
-use Rattle.words.specs.Change.{joined, inserted, rewritten, unioned, zeroed}
-use Rattle.words.specs.Byte.{byteSet}
+use Rattle.words.specs.contracts.Row.{has}
+use Rattle.words.specs.contracts.Change.{joined, inserted, rewritten, unioned, zeroed}
+use Rattle.words.specs.contracts.Byte.{byteSet}
 use Rattle.words.proofs.Row.{has-cong}
 use Rattle.words.proofs.Rewritten.{length-rewritten, rewritten-other}
 use Rattle.flow.specs.Limits.{maxStatements}
@@ -17,9 +17,9 @@ use Rattle.flow.specs.Flow.{size}
 use Rattle.flow.specs.Format.{flowOf}
 use Rattle.records.proofs.Files.{limited}
 use Rattle.records.proofs.Statements.{size-is}
-use Rattle.theory.specs.WellFormed.{WellFormed}
-use Rattle.statements.specs.Layout.{areaEnd}
-use Rattle.statements.specs.Ready.{Ready, Keeps}
+use Rattle.theory.specs.contracts.WellFormed.{WellFormed}
+use Rattle.statements.specs.contracts.Layout.{areaEnd}
+use Rattle.statements.specs.contracts.Ready.{Ready, Keeps}
 use Rattle.statements.proofs.WorkArea.{area-fits}
 use Rattle.statements.proofs.WellFormed.{well-formed}
 

@@ -9,13 +9,13 @@ use borrow.Author.Tests.{eq-eqb, ne-eqb, eqb-true}
 use lib.Bits.{or-lt}
 use lib.Dec.{eqb}
 use lib.Pow.{pow-pos, pow-lt}
-use Rattle.words.specs.Row.{bit}
+use Rattle.words.specs.contracts.Row.{bit}
 use Rattle.words.proofs.Bit.{bit-of-zero, bit-or, bit-pow-same, bit-pow-other}
 use Rattle.flow.specs.Format.{tabulate}
-use Rattle.flow.specs.Fields.{bitIn, setWord}
+use Rattle.records.specs.contracts.Fields.{bitIn, setWord}
 use Rattle.theory.specs.Lists.{elem}
 use Rattle.theory.proofs.Lists.{elem-one-more}
-use Rattle.statements.specs.Ready.{MembersWord}
+use Rattle.statements.specs.contracts.Ready.{MembersWord}
 
 bit-in-lt : (x : ℕ) → bitIn 0 x < 2 ^ 64
 bit-in-lt x = go (eqb (x / 64) 0)

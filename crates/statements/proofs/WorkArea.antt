@@ -9,11 +9,11 @@ use mathlib.Core.Logic.{_≢_}
 use mathlib.Core.Path.{_≡_}
 use lib.ListN.{getD}
 use Rattle.flow.specs.Limits.{maxStatements, workWords}
-use Rattle.words.specs.Row.{has}
-use Rattle.words.specs.Change.{inserted}
+use Rattle.words.specs.contracts.Row.{has}
+use Rattle.words.specs.contracts.Change.{inserted}
 use Rattle.words.proofs.Row.{has-cong}
 use Rattle.words.proofs.Inserted.{insert-else}
-use Rattle.statements.specs.Layout.{rowWords, rowAt, matrixAt, queueAt, areaEnd}
+use Rattle.statements.specs.contracts.Layout.{rowWords, rowAt, matrixAt, queueAt, areaEnd}
 
 -- Words of a row
 

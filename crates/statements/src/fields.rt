@@ -6,13 +6,13 @@ ghost use lib.ListN.{length, getD};
 ghost use Rattle.flow.specs.Flow.{statement, enters, items};
 ghost use Rattle.flow.specs.Format as format;
 ghost use Rattle.flow.specs.Format.{flowOf};
-ghost use Rattle.flow.specs.Fields.{continuationTo, lineEntryOf};
-ghost use Rattle.flow.specs.Answers.{headerOf};
+ghost use Rattle.records.specs.contracts.Fields.{continuationTo, lineEntryOf};
+ghost use Rattle.flow.specs.contracts.Answers.{headerOf};
 ghost use Rattle.theory.specs.Body as body;
 ghost use Rattle.theory.specs.Body.{kind, successors, references, callLines, continuationOf, isReturn};
 ghost use Rattle.theory.specs.Runs.{empties};
 ghost use Rattle.theory.specs.Lists as lists;
-ghost use Rattle.statements.specs.Ready.{Ready, RecordOf, MembersWord, noItem};
+ghost use Rattle.statements.specs.contracts.Ready.{Ready, RecordOf, MembersWord, noItem};
 
 // The place of statement i's record.
 pub fn offset(file: &[u8], work: &[u64], n: usize, i: usize) -> usize

@@ -3,7 +3,7 @@
 ghost use mathlib.Core.Path.{_≡_};
 ghost use Prim.Native.Nat.{_+_, _*_, _≤_};
 ghost use Rattle.flow.specs.Limits.{maxStatements};
-ghost use Rattle.statements.specs.Layout as at;
+ghost use Rattle.statements.specs.contracts.Layout as at;
 
 // Words of a row of mask bytes.
 pub const MASK_WORDS: usize = 8;

@@ -10,7 +10,7 @@ use Rattle.flow.specs.Flow.{Flow, size, enters}
 use Rattle.theory.specs.Lists.{In, any, elem, optionList}
 use Rattle.theory.specs.Reach.{Reach}
 use Rattle.theory.specs.Body.{kind, successors, references, callLines, continuationOf, entered, ifSome, callees, isReturn, orElse, walkNext, Walks, walked, Calls, called, Touches, wipes, Calls⁺, Opaque, OpaqueCall, CallTouches, bodies, touches, onCycle, opaque, opaqueCall, callTouches}
-use Rattle.theory.specs.WellFormed.{WellFormed}
+use Rattle.theory.specs.contracts.WellFormed.{WellFormed}
 use Rattle.theory.proofs.Lists.{or-cases, or-left, or-right, same-test, any-In, any-find, In-elem, elem-In, concatMap-In, In-concatMap, In-optionList}
 use Rattle.theory.proofs.Reach.{reach-first, reach-below, reach-back, reached-sound, reached-complete}
 

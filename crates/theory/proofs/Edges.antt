@@ -14,7 +14,7 @@ use borrow.Author.Tests.{eq-eqb, eqb-true}
 use Rattle.flow.specs.Flow.{Flow, Kind, size, statement, noStatement}
 use Rattle.theory.specs.Lists.{In, any, elem, select, upTo}
 use Rattle.theory.specs.Body.{kind, successors, continuationOf, entered, callees, isReturn, walked, opaqueCall}
-use Rattle.theory.specs.WellFormed.{WellFormed}
+use Rattle.theory.specs.contracts.WellFormed.{WellFormed}
 use Rattle.theory.specs.Doubled.{Base, Node, Edge, at, plain, sameBase, sameNode, returnsTo, returnEdges, once, callEdges, listedEdges, edgesOf, edges}
 use Rattle.theory.proofs.Lists.{any-In, In-elem, select-In, In-select, upTo-In, In-upTo}
 use Rattle.theory.proofs.Body.{entered-below}

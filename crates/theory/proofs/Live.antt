@@ -12,7 +12,7 @@ use Rattle.flow.specs.Flow.{Flow, Kind, size}
 use Rattle.theory.specs.Lists.{In, any, elem, sumBelow}
 use Rattle.theory.specs.Reach.{Reach, closure, closureFuel, reached}
 use Rattle.theory.specs.Body.{successors}
-use Rattle.theory.specs.WellFormed.{WellFormed}
+use Rattle.theory.specs.contracts.WellFormed.{WellFormed}
 use Rattle.theory.specs.Live.{reads, writes, LiveIn, LiveOut, unwritten, liveIn, liveOut, Equations}
 use Rattle.theory.proofs.Lists.{or-cases, or-left, or-right, and-both, and-true, same-test, any-In, any-find}
 use Rattle.theory.proofs.Reach.{reach-first, reach-back, reached-sound, reached-complete}

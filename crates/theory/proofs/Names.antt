@@ -10,7 +10,7 @@ use lib.Pow.{pow-pos, pow-add}
 use borrow.Author.Tests.{eqb-true, eqb-false}
 use Rattle.flow.specs.Flow.{Flow, size}
 use Rattle.theory.specs.Lists.{sumBelow}
-use Rattle.theory.specs.WellFormed.{WellFormed}
+use Rattle.theory.specs.contracts.WellFormed.{WellFormed}
 use Rattle.theory.specs.Live.{member, LiveIn, LiveOut, bitOf, namesWord, liveIn, liveOut, liveInWord, liveOutWord}
 use Rattle.theory.proofs.Live.{liveIn-sound, liveIn-complete, liveOut-sound, liveOut-complete}
 

@@ -10,7 +10,7 @@ use Rattle.flow.specs.Flow.{Flow, Kind, size}
 use Rattle.theory.specs.Lists.{In}
 use Rattle.theory.specs.Reach.{Reach}
 use Rattle.theory.specs.Body.{kind, successors, continuationOf, entered, callees, isReturn, wipes, walkNext, Walks, Calls, Opaque, OpaqueCall, CallTouches, opaqueCall}
-use Rattle.theory.specs.WellFormed.{WellFormed}
+use Rattle.theory.specs.contracts.WellFormed.{WellFormed}
 use Rattle.theory.specs.Doubled.{Base, Node, Edge, at, sameNode, edges, statementEffects, edgeEffects}
 use Rattle.theory.specs.Walks.{Turns}
 use Rattle.theory.specs.Runs.{Frame, back, end, frameOf, Config, act, goesOn, empties, Move, Run, Listed}

@@ -11,7 +11,7 @@ use borrow.Author.Tests.{lt-ltb, le-ltb}
 use Rattle.masks.specs.State.{State, holds}
 use Rattle.flow.specs.Flow.{Flow, size}
 use Rattle.theory.specs.Lists.{In}
-use Rattle.theory.specs.WellFormed.{WellFormed}
+use Rattle.theory.specs.contracts.WellFormed.{WellFormed}
 use Rattle.theory.specs.Queue.{Arc, Graph}
 use Rattle.theory.specs.Walks.{Turns, Brings}
 use Rattle.theory.specs.Doubled.{Base, Node, Edge, at, number, node, edges, edgeEffects, boundary, arcsOf, doubled}

@@ -10,7 +10,7 @@ use lib.Bits.{bitOr, or-lt}
 use lib.Dec.{lit<}
 use Rattle.masks.specs.State.{State, holds}
 use Rattle.flow.specs.Flow.{Flow, size}
-use Rattle.theory.specs.WellFormed.{WellFormed}
+use Rattle.theory.specs.contracts.WellFormed.{WellFormed}
 use Rattle.theory.specs.Queue.{Arc, Solver, solved, initial, visitBound}
 use Rattle.theory.specs.Doubled.{Base, Edge, at, number, node, edges, edgeEffects, boundary, arcsOf, doubled}
 use Rattle.theory.specs.Masks.{nodeMask, maskOf, visitsOf, BringsTo, copy}

@@ -8,7 +8,7 @@ use Rattle.flow.specs.Flow.{Flow, size}
 use Rattle.theory.specs.Lists.{In, elem, sumBelow}
 use Rattle.theory.specs.Reach.{Reach}
 use Rattle.theory.specs.Body.{kind, callees, Walks, Calls, wipes, Calls⁺, Opaque, OpaqueCall, bodies, opaque, opaqueCall}
-use Rattle.theory.specs.WellFormed.{WellFormed}
+use Rattle.theory.specs.contracts.WellFormed.{WellFormed}
 use Rattle.theory.proofs.Lists.{clash, not-so, In-elem, elem-In, sumBelow-lt}
 use Rattle.theory.proofs.Reach.{reach-first}
 use Rattle.theory.proofs.Body.{bodies-sound, bodies-complete, called-complete, calls-then, calls-below, callees-below, opaque-sound, opaque-complete, opaqueCall-sound, opaqueCall-complete}

@@ -1,7 +1,6 @@
 pub mod Lists
 pub mod Reach
 pub mod Body
-pub mod WellFormed
 pub mod Doubled
 pub mod Queue
 pub mod Walks
@@ -9,3 +8,4 @@ pub mod Masks
 pub mod Live
 pub mod Runs
 pub mod Cases
+pub mod contracts

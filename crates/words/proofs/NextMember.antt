@@ -12,7 +12,7 @@ use lib.Count.{trailingZeros}
 use lib.Dec.{eqb}
 use lib.ListN.{getD}
 use lib.Pow.{shr-lt, shr-le}
-use Rattle.words.specs.Row.{bit, has, seek, nextMember, First}
+use Rattle.words.specs.contracts.Row.{bit, has, seek, nextMember, First}
 use Rattle.words.proofs.Bit.{bit-shr, bit-high, bit-of-zero, trailing-zero, trailing-one, trailing-lt}
 use Rattle.words.proofs.Row.{has-lt}
 

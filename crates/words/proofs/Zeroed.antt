@@ -9,8 +9,8 @@ use native.Mathlib.Omega.{arith}
 use lib.ListN.{length, getD, replicate, length-replicate, getD-replicate}
 use lib.Pow.{pow-pos}
 use lib.Seq.{ext-getD}
-use Rattle.words.specs.Row.{bit, has, Words}
-use Rattle.words.specs.Change.{zeroed}
+use Rattle.words.specs.contracts.Row.{bit, has, Words}
+use Rattle.words.specs.contracts.Change.{zeroed}
 use Rattle.words.proofs.Bit.{bit-of-zero}
 use Rattle.words.proofs.Rewritten.{length-rewritten, rewritten-other, rewritten-word, words-rewritten}
 

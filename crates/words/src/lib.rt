@@ -4,9 +4,9 @@ ghost use mathlib.Core.Path.{_≡_};
 ghost use Prim.Native.Nat.{_+_, _-_, _*_, _/_, _^_, _≤_, _<_, min};
 ghost use lib.Dec.{eqb};
 ghost use lib.ListN.{length};
-ghost use Rattle.words.specs.Row.{has, members, nextMember};
-ghost use Rattle.words.specs.Change.{Joined, Inserted, Unioned, zeroed, without};
-ghost use Rattle.words.specs.Byte.{byteAt, byteSet};
+ghost use Rattle.words.specs.contracts.Row.{has, members, nextMember};
+ghost use Rattle.words.specs.contracts.Change.{Joined, Inserted, Unioned, zeroed, without};
+ghost use Rattle.words.specs.contracts.Byte.{byteAt, byteSet};
 
 pub fn contains(ws: &[u64], base: usize, i: usize) -> bool
     requires { ⌜ base + i / 64 < length (now ws) ⌝ }

@@ -4,8 +4,8 @@ use Prim.Native.Nat.{_+_}
 use mathlib.Core.Path.{_∙_}
 use native.Mathlib.Omega.{arith}
 use Rattle.flow.specs.Format.{flowOf}
-use Rattle.live.specs.Spread.{missing}
-use Rattle.live.specs.LiveNames.{AllWaiting}
+use Rattle.live.specs.contracts.Spread.{missing}
+use Rattle.live.specs.contracts.LiveNames.{AllWaiting}
 use Rattle.live.proofs.Finishing.{begun-here, begun-more, begun-ready, finished}
 use Rattle.live.proofs.live_names.Statement.{statement}
 use Rattle.live.proofs.live_names.Tie as tie

@@ -5,7 +5,7 @@ use native.Mathlib.Omega.{arith}
 use mathlib.Core.Path.{ap, _∙_}
 use Rattle.flow.specs.Format.{flowOf}
 use Rattle.theory.specs.Body.{successors}
-use Rattle.statements.specs.Layout.{rowAt}
+use Rattle.statements.specs.contracts.Layout.{rowAt}
 use Rattle.statements.proofs.Keeps.{ready-keeps, ready-most, ready-room}
 use Rattle.statements.proofs.WorkArea.{row-fits, member-word}
 use Rattle.live.proofs.Facts.{target-in}

@@ -38,7 +38,8 @@ use denote.Triple.Table.{entered, cited}
 use denote.Triple.Walked.{says, needs, Stays, stay-none, walkOf, goes-none, Walks, ends-at, walked, walk-meets}
 use denote.Exit.{yes}
 use denote.Triple.Clauses.{ensured, lasts}
-use Rattle.flow.specs.Fields.{FitRecord, recordPart}
+use Rattle.flow.specs.contracts.Answers.{FitRecord}
+use Rattle.records.specs.contracts.Fields.{recordPart}
 use Rattle.flow.specs.declared.reader.Reader.{Reader}
 use Rattle.flow.proofs.reader.Reader as T
 use Rattle.flow.proofs.reader.Reader.Laws as T′

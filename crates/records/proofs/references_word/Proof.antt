@@ -4,7 +4,7 @@ use borrow.Author.Needs.{needs}
 use denote.Ref.{now}
 use lib.ListN.{length}
 use native.Mathlib.Numerals.{add-one}
-use Rattle.flow.specs.Fields.{setWord}
+use Rattle.records.specs.contracts.Fields.{setWord}
 use Rattle.flow.specs.Format.{referenceAt, referenceCount, referencesPlace}
 use Prim.Native.Nat.{_+_, _-_, _≤_}
 use mathlib.Core.Path.{_≡_, refl, ap, _∙_}

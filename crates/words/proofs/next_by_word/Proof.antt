@@ -8,7 +8,7 @@ use borrow.Author.Needs.{needs}
 use denote.Ref.{now}
 use lib.Count.{trailing-le}
 use lib.Dec.{lit<}
-use Rattle.words.specs.Row.{nextMember}
+use Rattle.words.specs.contracts.Row.{nextMember}
 use Rattle.words.proofs.NextMember.{next-past, next-zero-word, next-whole-bit}
 use Rattle.words.proofs.next_by_word.Statement.{statement}
 use Rattle.words.proofs.next_by_word.Tie as tie

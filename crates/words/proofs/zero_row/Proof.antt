@@ -8,7 +8,7 @@ use native.Mathlib.Omega.{arith}
 use borrow.Author.Needs.{needs}
 use denote.Ref.{now}
 use lib.ListN.{length, set, length-set}
-use Rattle.words.specs.Change.{rewritten, zeroed}
+use Rattle.words.specs.contracts.Change.{rewritten, zeroed}
 use Rattle.words.proofs.zero_row.Statement.{statement}
 use Rattle.words.proofs.zero_row.Tie as tie
 

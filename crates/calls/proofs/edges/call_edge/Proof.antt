@@ -13,7 +13,7 @@ use Rattle.flow.specs.Flow.{size, enters}
 use Rattle.flow.specs.Format.{flowOf}
 use Rattle.theory.specs.Body.{kind, callLines}
 use Rattle.statements.proofs.Keeps.{ready-most, ready-size, ready-formed, ready-below}
-use Rattle.calls.specs.Slots.{otherSlots, callSlots, edgeFrom, copyOf}
+use Rattle.calls.specs.contracts.Slots.{otherSlots, callSlots, edgeFrom, copyOf}
 use Rattle.calls.specs.declared.Edge as E
 use Rattle.calls.proofs.Checked.{lines-few, enters-at, enters-nothing}
 use Rattle.calls.proofs.Found.{line-here, line-skip, back-here, then-others, base-most, to-copy, same-number}

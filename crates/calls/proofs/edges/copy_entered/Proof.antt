@@ -7,12 +7,12 @@ use native.Mathlib.Omega.{arith}
 use borrow.Author.Needs.{needs}
 use denote.Ref.{now}
 use lib.ListN.{length}
-use Rattle.words.specs.Row.{has}
-use Rattle.words.specs.Change.{zeroed, unioned}
+use Rattle.words.specs.contracts.Row.{has}
+use Rattle.words.specs.contracts.Change.{zeroed, unioned}
 use Rattle.words.proofs.Zeroed.{length-zeroed, zeroed-has}
 use Rattle.words.proofs.Unioned.{unioned-has}
-use Rattle.statements.specs.Layout.{rowAt, rowWords, enteredRowAt}
-use Rattle.statements.specs.Ready.{Keeps}
+use Rattle.statements.specs.contracts.Layout.{rowAt, rowWords, enteredRowAt}
+use Rattle.statements.specs.contracts.Ready.{Keeps}
 use Rattle.statements.proofs.WorkArea.{member-word, row-holds, row-fits, row-words-le}
 use Rattle.statements.proofs.Keeps.{keeps-trans, keeps-has, keeps-zeroed, keeps-unioned}
 use Rattle.calls.proofs.edges.copy_entered.Statement.{statement}

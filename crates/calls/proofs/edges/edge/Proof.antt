@@ -8,8 +8,8 @@ use lib.ListN.{drop}
 use Rattle.flow.specs.Format.{flowOf}
 use Rattle.theory.specs.Doubled.{Base, Node, at, node, offset}
 use Rattle.statements.proofs.Keeps.{ready-size}
-use Rattle.calls.specs.Held.{EnteredRow}
-use Rattle.calls.specs.Slots.{slots, edgeFrom, copyOf}
+use Rattle.calls.specs.contracts.Held.{EnteredRow}
+use Rattle.calls.specs.contracts.Slots.{slots, edgeFrom, copyOf}
 use Rattle.calls.proofs.Found.{node-low, node-high, copy-n}
 use Rattle.calls.proofs.edges.edge.Statement.{statement}
 use Rattle.calls.proofs.edges.edge.Tie as tie

@@ -10,13 +10,13 @@ use borrow.Author.Needs.{needs}
 use borrow.Author.Tests.{eq-eqb}
 use denote.Ref.{now}
 use lib.ListN.{getD, drop}
-use Rattle.words.specs.Row.{nextMember}
+use Rattle.words.specs.contracts.Row.{nextMember}
 use Rattle.flow.specs.Format.{flowOf}
 use Rattle.theory.specs.Body.{kind, continuationOf, opaqueCall}
 use Rattle.theory.specs.Doubled.{Base, Edge}
-use Rattle.statements.specs.Layout.{rowAt}
+use Rattle.statements.specs.contracts.Layout.{rowAt}
 use Rattle.statements.proofs.Keeps.{ready-most, ready-size}
-use Rattle.calls.specs.Slots.{returnSlots, edgeFrom, copyOf, memberEdge}
+use Rattle.calls.specs.contracts.Slots.{returnSlots, edgeFrom, copyOf, memberEdge}
 use Rattle.calls.proofs.Checked.{row-room, continues-to, continues-nowhere}
 use Rattle.calls.proofs.Found.{slots-return, slots-call, slots-listed, return-edge, return-end, call-opaque, call-transparent}
 use Rattle.calls.proofs.edges.edge_of.Statement.{statement}

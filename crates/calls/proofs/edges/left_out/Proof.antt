@@ -8,8 +8,8 @@ use borrow.Author.Needs.{needs}
 use borrow.Author.Tests.{eq-eqb, ne-eqb}
 use denote.Ref.{now}
 use lib.Dec.{eqb}
-use Rattle.words.specs.Row.{has}
-use Rattle.statements.specs.Layout.{enteredRowAt}
+use Rattle.words.specs.contracts.Row.{has}
+use Rattle.statements.specs.contracts.Layout.{enteredRowAt}
 use Rattle.statements.proofs.WorkArea.{member-word, row-words-le}
 use Rattle.calls.proofs.edges.left_out.Statement.{statement}
 use Rattle.calls.proofs.edges.left_out.Tie as tie

@@ -9,7 +9,7 @@ use denote.Ref.{now}
 use Rattle.flow.specs.Format.{flowOf}
 use Rattle.theory.specs.Doubled.{at}
 use Rattle.statements.proofs.Keeps.{ready-most, ready-size}
-use Rattle.calls.specs.Slots.{copyOf}
+use Rattle.calls.specs.contracts.Slots.{copyOf}
 use Rattle.calls.proofs.Checked.{successor-below}
 use Rattle.calls.proofs.Found.{listed-here, listed-end, base-most, to-copy, to}
 use Rattle.calls.proofs.edges.listed_edge.Statement.{statement}

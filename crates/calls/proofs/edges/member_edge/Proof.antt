@@ -5,7 +5,7 @@ use mathlib.Core.Bool.{Bool, false, cond}
 use mathlib.Core.Path.{sym, ap, _∙_}
 use borrow.Author.Needs.{needs}
 use borrow.Author.Tests.{lt-ltb, le-ltb}
-use Rattle.calls.specs.Slots.{memberEdge}
+use Rattle.calls.specs.contracts.Slots.{memberEdge}
 use Rattle.calls.specs.declared.Edge as E
 use Rattle.calls.proofs.edges.member_edge.Statement.{statement}
 use Rattle.calls.proofs.edges.member_edge.Tie as tie

@@ -9,11 +9,11 @@ use borrow.Author.Needs.{needs}
 use denote.Ref.{now}
 use Rattle.flow.specs.Format.{flowOf}
 use Rattle.theory.specs.Body.{entered}
-use Rattle.statements.specs.Layout.{rowAt, rowWords, enteredRowAt, waitingAt}
-use Rattle.statements.specs.Ready.{Keeps}
+use Rattle.statements.specs.contracts.Layout.{rowAt, rowWords, enteredRowAt, waitingAt}
+use Rattle.statements.specs.contracts.Ready.{Keeps}
 use Rattle.statements.proofs.WorkArea.{row-fits, row-words-le}
 use Rattle.statements.proofs.Keeps.{keeps-unioned, ready-most, ready-room}
-use Rattle.calls.specs.Held.{transparent, opaque}
+use Rattle.calls.specs.contracts.Held.{transparent, opaque}
 use Rattle.calls.proofs.Checked.{entered-room}
 use Rattle.calls.proofs.Joined.{union-at, adds-union, adds-all}
 use Rattle.calls.proofs.edges.note_entered.Statement.{statement}

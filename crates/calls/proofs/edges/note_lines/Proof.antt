@@ -11,7 +11,7 @@ use Rattle.theory.specs.Lists.{concatMap}
 use Rattle.theory.specs.Body.{kind, callLines}
 use Rattle.statements.proofs.WorkArea.{row-from}
 use Rattle.statements.proofs.Keeps.{ready-keeps}
-use Rattle.calls.specs.Joins.{Adds}
+use Rattle.calls.specs.contracts.Joins.{Adds}
 use Rattle.calls.proofs.Joined.{adds-none}
 use Rattle.calls.proofs.Lines.{enteredBy, adds-line, adds-lines}
 use Rattle.calls.proofs.edges.note_lines.Statement.{statement}

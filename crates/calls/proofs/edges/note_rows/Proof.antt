@@ -6,7 +6,7 @@ use native.Mathlib.Omega.{arith}
 use denote.Ref.{now}
 use Rattle.flow.specs.Format.{flowOf}
 use Rattle.statements.proofs.Keeps.{ready-keeps}
-use Rattle.calls.specs.Joins.{Notes}
+use Rattle.calls.specs.contracts.Joins.{Notes}
 use Rattle.calls.proofs.CallRows.{notes-none, notes-then}
 use Rattle.calls.proofs.edges.note_rows.Statement.{statement}
 use Rattle.calls.proofs.edges.note_rows.Tie as tie

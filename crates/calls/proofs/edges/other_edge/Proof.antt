@@ -14,7 +14,7 @@ use Rattle.theory.specs.Lists.{elem}
 use Rattle.theory.specs.Body.{successors, entered}
 use Rattle.theory.specs.Doubled.{at}
 use Rattle.statements.proofs.Keeps.{ready-most, ready-size}
-use Rattle.calls.specs.Slots.{otherSlots, edgeFrom, copyOf}
+use Rattle.calls.specs.contracts.Slots.{otherSlots, edgeFrom, copyOf}
 use Rattle.calls.proofs.Checked.{successors-few, successor-below, entered-room}
 use Rattle.calls.proofs.Found.{other-here, other-skip, other-end, left-out-is, base-most, to-copy, to}
 use Rattle.calls.proofs.edges.other_edge.Statement.{statement}

@@ -7,11 +7,11 @@ use native.Mathlib.Omega.{arith}
 use borrow.Author.Needs.{needs}
 use denote.Ref.{now}
 use lib.ListN.{length}
-use Rattle.words.specs.Row.{has}
-use Rattle.words.specs.Change.{zeroed}
+use Rattle.words.specs.contracts.Row.{has}
+use Rattle.words.specs.contracts.Change.{zeroed}
 use Rattle.words.proofs.Zeroed.{zeroed-has}
-use Rattle.statements.specs.Layout.{rowWords, enteredRowAt, waitingAt}
-use Rattle.statements.specs.Ready.{Keeps}
+use Rattle.statements.specs.contracts.Layout.{rowWords, enteredRowAt, waitingAt}
+use Rattle.statements.specs.contracts.Ready.{Keeps}
 use Rattle.statements.proofs.WorkArea.{area-fits, row-holds, row-words-le}
 use Rattle.statements.proofs.Keeps.{keeps-zeroed}
 use Rattle.calls.proofs.edges.zero_entered.Statement.{statement}

@@ -10,7 +10,7 @@ use Rattle.flow.specs.Flow.{enters}
 use Rattle.flow.specs.Format.{flowOf}
 use Rattle.theory.specs.Body.{kind, callLines}
 use Rattle.statements.proofs.Keeps.{ready-formed, ready-below}
-use Rattle.calls.specs.Joins.{Adds, walks}
+use Rattle.calls.specs.contracts.Joins.{Adds, walks}
 use Rattle.calls.proofs.Checked.{enters-at}
 use Rattle.calls.proofs.Lines.{entered-line, adds-entered, adds-nothing}
 use Rattle.calls.proofs.Gathered.{walks-none, walks-one}

@@ -10,7 +10,7 @@ use Rattle.theory.specs.Lists.{concatMap}
 use Rattle.theory.specs.Body.{kind, callLines}
 use Rattle.statements.proofs.WorkArea.{row-from}
 use Rattle.statements.proofs.Keeps.{ready-keeps, ready-formed, ready-size}
-use Rattle.calls.specs.Joins.{Adds, walks}
+use Rattle.calls.specs.contracts.Joins.{Adds, walks}
 use Rattle.calls.proofs.Joined.{adds-none}
 use Rattle.calls.proofs.Lines.{enteredBy, adds-line, adds-lines}
 use Rattle.calls.proofs.Gathered.{rows-stay, walks-append}

@@ -4,10 +4,10 @@ use Prim.Native.Nat.{ℕ, _+_, _-_}
 use mathlib.Core.Path.{sym, ap, _∙_, subst}
 use native.Mathlib.Omega.{arith}
 use denote.Ref.{now}
-use Rattle.words.specs.Row.{nextMember}
+use Rattle.words.specs.contracts.Row.{nextMember}
 use Rattle.words.proofs.NextMember.{first}
 use Rattle.flow.specs.Format.{flowOf}
-use Rattle.statements.specs.Ready.{Ready}
+use Rattle.statements.specs.contracts.Ready.{Ready}
 use Rattle.statements.proofs.Keeps.{ready-keeps, ready-most}
 use Rattle.calls.proofs.Checked.{members-room}
 use Rattle.calls.proofs.Gathered.{Noting, noting-start, noting-on, noting-done}

@@ -5,7 +5,7 @@ use mathlib.Core.Path.{sym, _∙_, subst}
 use native.Mathlib.Omega.{arith}
 use borrow.Author.Needs.{needs}
 use denote.Ref.{now}
-use Rattle.words.specs.Change.{Inserted}
+use Rattle.words.specs.contracts.Change.{Inserted}
 use Rattle.statements.proofs.Keeps.{ready-most}
 use Rattle.calls.proofs.Checked.{row-word, matrix-room}
 use Rattle.calls.proofs.Joined.{joins-insert, joins-skip}

@@ -7,9 +7,9 @@ use denote.Ref.{now}
 use Rattle.flow.specs.Format.{flowOf}
 use Rattle.theory.specs.Lists.{any, upTo}
 use Rattle.theory.specs.Doubled.{returnsTo}
-use Rattle.statements.specs.Layout.{waitingAt}
+use Rattle.statements.specs.contracts.Layout.{waitingAt}
 use Rattle.statements.proofs.Keeps.{keeps-trans, ready-keeps, ready-formed, ready-size}
-use Rattle.calls.specs.Joins.{Joins}
+use Rattle.calls.specs.contracts.Joins.{Joins}
 use Rattle.calls.proofs.Gathered.{Calling, calling-start, calling-on, summary-kept, linked}
 use Rattle.calls.proofs.returns.note_returns.Statement.{statement}
 use Rattle.calls.proofs.returns.note_returns.Tie as tie

@@ -15,12 +15,12 @@ use Rattle.flow.specs.Format.{flowOf}
 use Rattle.flow.specs.Limits.{workWords}
 use Rattle.theory.specs.Lists as lists
 use Rattle.theory.specs.Body.{kind, callLines, continuationOf, callees, Walks}
-use Rattle.statements.specs.Layout.{callsAt, bodiesAt, matrixAt, enteredRowAt}
-use Rattle.statements.specs.Ready.{Ready, Keeps}
+use Rattle.statements.specs.contracts.Layout.{callsAt, bodiesAt, matrixAt, enteredRowAt}
+use Rattle.statements.specs.contracts.Ready.{Ready, Keeps}
 use Rattle.statements.proofs.Keeps.{ready-keeps, keeps-set, ready-most, ready-size, ready-formed}
 use Rattle.statements.proofs.WorkArea.{row-from}
-use Rattle.calls.specs.Held.{unentered, opened, transparent, EmptyRow, Walked}
-use Rattle.calls.specs.Summing.{body, call, summaryState, Summing, OnwardBut, Onward, Leads, BodySummed, CallSummed}
+use Rattle.calls.specs.contracts.Held.{unentered, opened, transparent, EmptyRow, Walked}
+use Rattle.calls.specs.contracts.Summing.{body, call, summaryState, Summing, OnwardBut, Onward, Leads, BodySummed, CallSummed}
 use Rattle.calls.proofs.Checked.{row-room, continues-to, continues-nowhere, enters-at, enters-nothing}
 use Rattle.calls.proofs.Summing.{onward-refl, onward-trans, onward-but, body-open, onward-open, summing-open, rows-set, callee-low}
 use Rattle.calls.proofs.BodySummary.{BodyLoop, PassedBelow, body-next, passed-none, body-turn, body-done, body-leads, return-done, referred-summing, referred-onward, next-low, unentered-row}

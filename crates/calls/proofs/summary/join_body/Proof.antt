@@ -7,8 +7,8 @@ use mathlib.Core.Path.{ap, ap₂, _∙_}
 use denote.Ref.{now}
 use lib.Dec.{eqb}
 use lib.ListN.{getD}
-use Rattle.words.specs.Change.{joined}
-use Rattle.calls.specs.Held.{transparent}
+use Rattle.words.specs.contracts.Change.{joined}
+use Rattle.calls.specs.contracts.Held.{transparent}
 use Rattle.calls.proofs.summary.join_body.Statement.{statement}
 use Rattle.calls.proofs.summary.join_body.Tie as tie
 

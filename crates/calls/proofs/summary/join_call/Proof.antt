@@ -6,8 +6,8 @@ use mathlib.Core.Path.{ap, ap₂, _∙_}
 use denote.Ref.{now}
 use lib.Dec.{eqb}
 use lib.ListN.{getD}
-use Rattle.words.specs.Change.{joined}
-use Rattle.calls.specs.Held.{opaque}
+use Rattle.words.specs.contracts.Change.{joined}
+use Rattle.calls.specs.contracts.Held.{opaque}
 use Rattle.calls.proofs.summary.join_call.Statement.{statement}
 use Rattle.calls.proofs.summary.join_call.Tie as tie
 

@@ -4,7 +4,7 @@ use borrow.Author.Needs.{needs}
 use Prim.Native.Nat.{ℕ, _+_}
 use mathlib.Core.Path.{ap, _∙_}
 use denote.Ref.{now}
-use Rattle.words.specs.Change.{joined}
+use Rattle.words.specs.contracts.Change.{joined}
 use Rattle.statements.proofs.Keeps.{ready-most}
 use Rattle.calls.proofs.summary.join_references.Statement.{statement}
 use Rattle.calls.proofs.summary.join_references.Tie as tie

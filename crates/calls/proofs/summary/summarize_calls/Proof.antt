@@ -3,7 +3,7 @@
 use Prim.Native.Nat.{_-_}
 use native.Mathlib.Omega.{arith}
 use denote.Ref.{now}
-use Rattle.words.specs.Row.{Words}
+use Rattle.words.specs.contracts.Row.{Words}
 use Rattle.flow.specs.Format.{flowOf}
 use Rattle.statements.proofs.Keeps.{ready-keeps, ready-most, ready-size, ready-formed}
 use Rattle.calls.proofs.Summaries.{SummedBelow, below-first, below-next, summarized, fresh-summing, fresh-shut}

@@ -8,10 +8,10 @@ use native.Mathlib.Omega.{arith}
 use borrow.Author.Needs.{needs}
 use denote.Ref.{now}
 use lib.ListN.{length-set}
-use Rattle.words.specs.Row.{has}
-use Rattle.statements.specs.Layout.{queueAt}
+use Rattle.words.specs.contracts.Row.{has}
+use Rattle.statements.specs.contracts.Layout.{queueAt}
 use Rattle.statements.proofs.WorkArea.{row-below}
-use Rattle.words.specs.Change.{Inserted}
+use Rattle.words.specs.contracts.Change.{Inserted}
 use Rattle.calls.proofs.Walking.{in-row, insert-room, insert-new, insert-old}
 use Rattle.calls.proofs.walk.meet.Statement.{statement}
 use Rattle.calls.proofs.walk.meet.Tie as tie

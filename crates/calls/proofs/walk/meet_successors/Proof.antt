@@ -8,7 +8,7 @@ use lib.ListN.{length, getD, take}
 use lib.Seq.{take-all}
 use Rattle.flow.specs.Format.{flowOf}
 use Rattle.theory.specs.Body.{successors}
-use Rattle.calls.specs.Walking.{Met}
+use Rattle.calls.specs.contracts.Walking.{Met}
 use Rattle.calls.proofs.Checked.{successor-below}
 use Rattle.calls.proofs.Walking.{met-none, met-more, met-stack, met-ready}
 use Rattle.calls.proofs.walk.meet_successors.Statement.{statement}

@@ -6,10 +6,10 @@ use native.Mathlib.Omega.{arith}
 use denote.Ref.{now}
 use lib.ListN.{getD}
 use Rattle.flow.specs.Format.{flowOf}
-use Rattle.statements.specs.Layout.{queueAt}
-use Rattle.statements.specs.Ready.{Ready}
+use Rattle.statements.specs.contracts.Layout.{queueAt}
+use Rattle.statements.specs.contracts.Ready.{Ready}
 use Rattle.statements.proofs.Keeps.{ready-keeps, ready-most}
-use Rattle.calls.specs.Walking.{Stack}
+use Rattle.calls.specs.contracts.Walking.{Stack}
 use Rattle.calls.proofs.Checked.{ready-next}
 use Rattle.calls.proofs.Walking.{Walking, left, only-keeps, only-trans, walking-first, walking-next, left-falls, walking-end, stack-fits, stack-less}
 use Rattle.calls.proofs.walk.walk.Statement.{statement}

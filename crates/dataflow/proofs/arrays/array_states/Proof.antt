@@ -11,8 +11,8 @@ use Rattle.flow.specs.Limits.{maxArrays}
 use Rattle.records.proofs.Files.{limited}
 use Rattle.theory.specs.Doubled.{doubled}
 use Rattle.theory.specs.Queue.{visitBound}
-use Rattle.statements.specs.Layout.{queueAt, areaEnd}
-use Rattle.statements.specs.Ready.{Keeps}
+use Rattle.statements.specs.contracts.Layout.{queueAt, areaEnd}
+use Rattle.statements.specs.contracts.Ready.{Keeps}
 use Rattle.statements.proofs.Keeps.{ready-most, ready-room, keeps-trans, ready-size}
 use Rattle.statements.proofs.WellFormed.{well-formed, arrays-is, entry-is}
 use Rattle.dataflow.proofs.Kept.{ready-stays, linked-stays}

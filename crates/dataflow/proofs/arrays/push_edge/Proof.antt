@@ -6,8 +6,8 @@ use mathlib.Core.Path.{sym, subst}
 use native.Mathlib.Omega.{arith}
 use borrow.Author.Needs.{needs}
 use denote.Ref.{now}
-use Rattle.solve.specs.Pushed.{Pushed}
-use Rattle.dataflow.specs.Sent.{edgeRow}
+use Rattle.solve.specs.contracts.Pushed.{Pushed}
+use Rattle.dataflow.specs.contracts.Sent.{edgeRow}
 use Rattle.dataflow.proofs.arrays.push_edge.Statement.{statement}
 use Rattle.dataflow.proofs.arrays.push_edge.Tie as tie
 

@@ -11,7 +11,7 @@ use Rattle.flow.specs.Format.{flowOf}
 use Rattle.theory.specs.Doubled.{node}
 use Rattle.statements.proofs.Keeps.{ready-most, ready-room, ready-size}
 use Rattle.statements.proofs.WellFormed.{well-formed}
-use Rattle.calls.specs.Slots.{slots}
+use Rattle.calls.specs.contracts.Slots.{slots}
 use Rattle.calls.proofs.Cursor.{NextEdge, edge-to, edge-end}
 use Rattle.dataflow.proofs.Kept.{ready-stays, linked-stays, entered-stays}
 use Rattle.dataflow.proofs.Sending.{Sending, sending-none, sending-more, sending-all, target-below}

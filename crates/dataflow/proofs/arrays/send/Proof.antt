@@ -15,11 +15,11 @@ use Rattle.records.proofs.Files.{limited}
 use Rattle.theory.specs.Body.{kind, continuationOf, opaqueCall, callTouches}
 use Rattle.theory.specs.Doubled.{node}
 use Rattle.theory.proofs.Lists.{clash}
-use Rattle.statements.specs.Layout.{callsAt, callTouchedAt}
-use Rattle.statements.specs.Ready.{Ready, MembersWord}
+use Rattle.statements.specs.contracts.Layout.{callsAt, callTouchedAt}
+use Rattle.statements.specs.contracts.Ready.{Ready, MembersWord}
 use Rattle.statements.proofs.Keeps.{ready-most, ready-room, keeps-refl, keeps-trans, ready-size}
 use Rattle.statements.proofs.WellFormed.{arrays-is}
-use Rattle.calls.specs.Held.{Linked, EnteredRow, EmptyEntered, transparent}
+use Rattle.calls.specs.contracts.Held.{Linked, EnteredRow, EmptyEntered, transparent}
 use Rattle.calls.proofs.Found.{call-opaque}
 use Rattle.dataflow.proofs.Kept.{queue-above, ready-stays, linked-stays, empty-stays}
 use Rattle.dataflow.proofs.Aside.{Aside, aside-refl, aside-trans, aside-row, aside-entered, aside-waits}

@@ -9,7 +9,7 @@ use borrow.Author.Tests.{eq-eqb, ne-eqb}
 use denote.Ref.{now}
 use lib.Dec.{eqb}
 use lib.ListN.{getD}
-use Rattle.statements.specs.Layout.{visitedAt, grownAt}
+use Rattle.statements.specs.contracts.Layout.{visitedAt, grownAt}
 use Rattle.dataflow.proofs.arrays.unchanged.Statement.{statement}
 use Rattle.dataflow.proofs.arrays.unchanged.Tie as tie
 

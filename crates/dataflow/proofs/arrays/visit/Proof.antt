@@ -12,14 +12,14 @@ use lib.ListN.{length, getD, set, length-set}
 use Rattle.flow.specs.Format.{flowOf}
 use Rattle.flow.specs.Limits.{maxArrays}
 use Rattle.records.proofs.Files.{limited}
-use Rattle.statements.specs.Layout.{queueAt, visitedAt, areaEnd}
-use Rattle.statements.specs.Ready.{Keeps}
+use Rattle.statements.specs.contracts.Layout.{queueAt, visitedAt, areaEnd}
+use Rattle.statements.specs.contracts.Ready.{Keeps}
 use Rattle.statements.proofs.Keeps.{ready-most, ready-room, keeps-trans, keeps-widen, ready-size}
 use Rattle.statements.proofs.WellFormed.{well-formed, arrays-is}
-use Rattle.solve.specs.Waiting.{Waits, Taken, restOf}
+use Rattle.solve.specs.contracts.Waiting.{Waits, Taken, restOf}
 use Rattle.solve.proofs.Waiting.{rest-keeps}
-use Rattle.dataflow.specs.Sent.{Sends}
-use Rattle.dataflow.specs.Solving.{Underway, VisitsFront}
+use Rattle.dataflow.specs.contracts.Sent.{Sends}
+use Rattle.dataflow.specs.contracts.Solving.{Underway, VisitsFront}
 use Rattle.dataflow.proofs.Kept.{ready-stays, linked-stays}
 use Rattle.dataflow.proofs.Visiting.{underway-front, is-front, front-in, rest-waits, took-entered, unchanged-at, visits-unchanged, visits-sent, note-keeps, noted-waits, noted-entered}
 use Rattle.dataflow.proofs.arrays.visit.Statement.{statement}

@@ -4,7 +4,7 @@ use borrow.Author.Needs.{needs}
 use native.Mathlib.Omega.{arith}
 use Prim.Native.Nat.{_*_}
 use mathlib.Core.Path.{ap, _∙_}
-use Rattle.words.specs.Change.{zeroed}
+use Rattle.words.specs.contracts.Change.{zeroed}
 use Rattle.statements.proofs.Keeps.{ready-most, ready-room}
 use Rattle.dataflow.proofs.Phases.{linked}
 use Rattle.dataflow.proofs.door.link.Statement.{statement}

@@ -6,7 +6,7 @@ use mathlib.Core.Path.{sym, subst}
 use Rattle.flow.specs.declared.Header.{Header}
 use Rattle.flow.specs.Limits.{maxArrays}
 use Rattle.records.proofs.Files.{limited}
-use Rattle.statements.specs.Layout.{areaEnd}
+use Rattle.statements.specs.contracts.Layout.{areaEnd}
 use Rattle.statements.proofs.Keeps.{ready-most, ready-room}
 use Rattle.dataflow.proofs.Phases.{masked}
 use Rattle.dataflow.proofs.door.solve_arrays.Statement.{statement}

@@ -5,10 +5,10 @@ use native.Mathlib.Omega.{arith}
 use denote.Ref.{now}
 use Prim.Native.Nat.{_-_}
 use mathlib.Core.Path.{ap₂, sym, subst, _∙_}
-use Rattle.words.specs.Change.{zeroed}
+use Rattle.words.specs.contracts.Change.{zeroed}
 use Rattle.statements.proofs.Keeps.{ready-most, ready-room}
 use Rattle.statements.proofs.WorkArea.{row-fits}
-use Rattle.live.specs.LiveNames.{LiveStart}
+use Rattle.live.specs.contracts.LiveNames.{LiveStart}
 use Rattle.live.proofs.Start.{blank}
 use Rattle.dataflow.proofs.door.solve_names.Statement.{statement}
 use Rattle.dataflow.proofs.door.solve_names.Tie as tie

@@ -12,8 +12,8 @@ use lib.ListN.{length, getD, replicate}
 use Rattle.flow.specs.declared.Header.{Header}
 use Rattle.flow.specs.Limits.{workWords, maxStatements, maxArrays}
 use Rattle.flow.specs.Format.{verdict, areaChecks, statementsOf, arraysOf}
-use Rattle.flow.specs.Fields.{FitFile, isFit}
-use Rattle.flow.specs.Answers.{headerOf}
+use Rattle.flow.specs.contracts.Answers.{FitFile, isFit}
+use Rattle.flow.specs.contracts.Answers.{headerOf}
 use Rattle.records.proofs.Files.{limited}
 use Rattle.dataflow.proofs.Judging as judging
 use Rattle.dataflow.proofs.door.states.Statement.{statement}

@@ -16,7 +16,7 @@ use Rattle.theory.specs.Lists.{any}
 use Rattle.theory.specs.Body.{kind}
 use Rattle.theory.specs.Doubled.{dims}
 use Rattle.theory.proofs.Lists.{getD-In}
-use Rattle.statements.specs.Ready.{noItem}
+use Rattle.statements.specs.contracts.Ready.{noItem}
 use Rattle.statements.proofs.Keeps.{ready-keeps}
 use Rattle.statements.proofs.WellFormed.{statement-in}
 use Rattle.dataflow.proofs.Stepping.{Stepping, stepping-none, stepping-more, stepping-all}

@@ -6,7 +6,7 @@ use Prim.Native.Nat.{ℕ, _+_}
 use mathlib.Core.Path.{ap₂}
 use lib.Bits.{bitOr}
 use lib.ListN.{getD}
-use Rattle.dataflow.specs.Bytes.{joinedWord}
+use Rattle.dataflow.specs.contracts.Bytes.{joinedWord}
 use Rattle.dataflow.proofs.write.joined_word.Statement.{statement}
 use Rattle.dataflow.proofs.write.joined_word.Tie as tie
 

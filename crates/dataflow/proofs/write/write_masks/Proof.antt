@@ -8,8 +8,8 @@ use Prim.Native.Nat.{ℕ, suc, _+_, _-_, _*_, _≤_, _<_}
 use mathlib.Core.List.{List}
 use mathlib.Core.Path.{_≡_, refl, ap, ap₂, sym, _∙_}
 use lib.ListN.{length}
-use Rattle.flow.specs.Fields.{noted}
-use Rattle.dataflow.specs.Bytes.{bothCopies, notedRows}
+use Rattle.words.specs.contracts.Change.{noted}
+use Rattle.dataflow.specs.contracts.Bytes.{bothCopies, notedRows}
 use Rattle.dataflow.proofs.NotedRows.{length-rows}
 use Rattle.dataflow.proofs.write.write_masks.Statement.{statement}
 use Rattle.dataflow.proofs.write.write_masks.Tie as tie

@@ -7,9 +7,9 @@ use Prim.Native.Nat.{ℕ, _+_, _-_, _*_, _/_, _%_, _≤_}
 use mathlib.Core.List.{List}
 use mathlib.Core.Path.{_≡_, refl, ap, ap₂, _∙_}
 use lib.ListN.{length}
-use Rattle.words.specs.Byte.{byteOf}
-use Rattle.flow.specs.Fields.{noted}
-use Rattle.dataflow.specs.Bytes.{bothCopies}
+use Rattle.words.specs.contracts.Byte.{byteOf}
+use Rattle.words.specs.contracts.Change.{noted}
+use Rattle.dataflow.specs.contracts.Bytes.{bothCopies}
 use Rattle.dataflow.proofs.NotedRows.{word-on}
 use Rattle.dataflow.proofs.write.write_row.Statement.{statement}
 use Rattle.dataflow.proofs.write.write_row.Tie as tie

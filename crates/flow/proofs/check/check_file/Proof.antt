@@ -11,7 +11,7 @@ use Rattle.flow.specs.declared.Refusal.{Refusal}
 use Rattle.flow.specs.declared.Header.{Header}
 use Rattle.flow.specs.declared.Checked.the-variants.{Fit, Unfit}
 use Rattle.flow.specs.Format.{verdict, fit, unfit, headerChecks, statementChecks, lineCount, linesPlace, endPlace, endChecks, fileChecks}
-use Rattle.flow.specs.Answers.{checkedOf, headerOf}
+use Rattle.flow.specs.contracts.Answers.{checkedOf, headerOf}
 use Rattle.flow.proofs.Answers.{Through, verdict-passed, verdict-refused}
 use Rattle.flow.proofs.FileVerdict.{lines, header-within, statements-due, lines-due, end-due, in-header, in-statements, in-lines, after-lines}
 use Rattle.flow.proofs.check.check_file.Statement.{statement}

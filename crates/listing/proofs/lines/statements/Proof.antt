@@ -9,7 +9,7 @@ use mathlib.Core.Path.{_≡_, refl, subst⁻¹}
 use denote.Ref.{now}
 use lib.ListN.{length}
 use Rattle.flow.specs.Format.{recordPlace, statementsOf, arraysOf}
-use Rattle.flow.specs.Fields.{FitRecord}
+use Rattle.flow.specs.contracts.Answers.{FitRecord}
 use Rattle.records.proofs.Files.{record-fit}
 use borrow.Author.Needs.{needs}
 use Rattle.listing.proofs.lines.statements.Statement.{statement}

@@ -8,9 +8,9 @@ use borrow.Author.Needs.{needs}
 use denote.Ref.{now}
 use lib.ListN.{set, length-set}
 use Rattle.words.proofs.Unioned.{length-unioned}
-use Rattle.statements.specs.Layout.{grownAt, areaEnd}
-use Rattle.statements.specs.Ready.{Keeps}
-use Rattle.solve.specs.Pushed.{Grown}
+use Rattle.statements.specs.contracts.Layout.{grownAt, areaEnd}
+use Rattle.statements.specs.contracts.Ready.{Keeps}
+use Rattle.solve.specs.contracts.Pushed.{Grown}
 use Rattle.solve.proofs.Growing.{grown-not, grown-more, union-at}
 use Rattle.solve.proofs.push.grow.Statement.{statement}
 use Rattle.solve.proofs.push.grow.Tie as tie

@@ -8,8 +8,8 @@ use mathlib.Core.Path.{_∙_, ap, subst, sym}
 use denote.Ref.{now}
 use lib.Dec.{eqb}
 use Rattle.masks.specs.Step.{stepOf}
-use Rattle.words.specs.Byte.{byteAt}
-use Rattle.solve.specs.Rows.{RowIs, stepWhere}
+use Rattle.words.specs.contracts.Byte.{byteAt}
+use Rattle.solve.specs.contracts.Rows.{RowIs, stepWhere}
 use Rattle.solve.proofs.RowChanges.{byte-step}
 use Rattle.solve.proofs.rows.step_at.Statement.{statement}
 use Rattle.solve.proofs.rows.step_at.Tie as tie

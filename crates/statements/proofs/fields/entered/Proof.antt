@@ -6,7 +6,7 @@ use mathlib.Core.Path.{ap, sym, _∙_}
 use Rattle.flow.specs.declared.Header.{Header}
 use Rattle.flow.specs.Flow.{enters}
 use Rattle.flow.specs.Format.{flowOf}
-use Rattle.flow.specs.Fields.{lineEntryOf}
+use Rattle.records.specs.contracts.Fields.{lineEntryOf}
 use Rattle.statements.proofs.fields.entered.Statement.{statement}
 use Rattle.statements.proofs.fields.entered.Tie as tie
 

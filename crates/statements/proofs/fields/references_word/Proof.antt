@@ -4,10 +4,10 @@ use borrow.Author.Needs.{needs}
 use denote.Ref.{now}
 use mathlib.Core.Path.{sym, subst}
 use Rattle.flow.specs.Format.{flowOf, referenceCount, referenceAt}
-use Rattle.flow.specs.Fields.{setWord}
+use Rattle.records.specs.contracts.Fields.{setWord}
 use Rattle.theory.specs.Body.{references}
 use Rattle.theory.specs.Lists.{elem}
-use Rattle.statements.specs.Ready.{MembersWord}
+use Rattle.statements.specs.contracts.Ready.{MembersWord}
 use Rattle.statements.proofs.MembersWord.{members-word}
 use Rattle.statements.proofs.fields.references_word.Statement.{statement}
 use Rattle.statements.proofs.fields.references_word.Tie as tie

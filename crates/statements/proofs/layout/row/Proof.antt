@@ -4,7 +4,7 @@ use borrow.Author.Needs.{needs}
 use mathlib.Core.Path.{_≡_, ap}
 use Prim.Native.Nat.{_*_}
 use native.Mathlib.Omega.{arith}
-use Rattle.statements.specs.Layout.{rowWords, rowAt}
+use Rattle.statements.specs.contracts.Layout.{rowWords, rowAt}
 use Rattle.statements.proofs.WorkArea.{row-below}
 use Rattle.statements.proofs.layout.row.Statement.{statement}
 use Rattle.statements.proofs.layout.row.Tie as tie
