@@ -78,9 +78,10 @@ entryOf s = u16At s 6
 abbrev pub present : List ℕ → ℕ → ℕ → Check
 present s p e = check (leb e (length s)) (Record p)
 
--- `F` and the letter x stand at p, within the file
-abbrev pub marked : List ℕ → ℕ → ℕ → Bool
-marked s p x = leb (p + 2) (length s) && (eqb (u8At s p) 70 && eqb (u8At s (p + 1)) x)
+-- the letters of the marks: FH, FN, FL, FE
+
+abbrev pub letterF : ℕ
+letterF = 70
 
 abbrev pub letterH : ℕ
 letterH = 72
@@ -93,6 +94,10 @@ letterL = 76
 
 abbrev pub letterE : ℕ
 letterE = 69
+
+-- `F` and the letter x stand at p, within the file
+abbrev pub marked : List ℕ → ℕ → ℕ → Bool
+marked s p x = leb (p + 2) (length s) && (eqb (u8At s p) letterF && eqb (u8At s (p + 1)) x)
 
 unfoldable pub headerChecks : List ℕ → List Check
 headerChecks s =
@@ -116,6 +121,26 @@ lineAt s p = u16At s (p + 2)
 
 abbrev pub kindAt : List ℕ → ℕ → ℕ
 kindAt s p = u8At s (p + 4)
+
+-- the kinds by their numbers; 0 is any other statement
+
+abbrev pub kindReturn : ℕ
+kindReturn = 1
+
+abbrev pub kindClr : ℕ
+kindClr = 2
+
+abbrev pub kindRun : ℕ
+kindRun = 3
+
+abbrev pub kindDim : ℕ
+kindDim = 4
+
+abbrev pub kindGosub : ℕ
+kindGosub = 5
+
+abbrev pub kindOnGosub : ℕ
+kindOnGosub = 6
 
 abbrev pub successorCount : List ℕ → ℕ → ℕ
 successorCount s p = u8At s (p + 5)
@@ -161,7 +186,7 @@ elementsEnd s p = elementPlace s p (dataCount s p)
 
 -- what a kind's number has: d for DIM, g for GOSUB, o for ON GOSUB, x for the others
 abbrev pub byData : {A : Type 0} → ℕ → A → A → A → A → A
-byData k d g o x = cond (eqb k 4) d (cond (eqb k 5) g (cond (eqb k 6) o x))
+byData k d g o x = cond (eqb k kindDim) d (cond (eqb k kindGosub) g (cond (eqb k kindOnGosub) o x))
 
 -- the place after the record
 unfoldable pub recordEnd : List ℕ → ℕ → ℕ
@@ -200,7 +225,7 @@ successorChecks s p k =
 unfoldable pub referenceCountChecks : List ℕ → ℕ → List Check
 referenceCountChecks s p =
     present s p (referencesPlace s p + 1)
-    ∷ check (not (eqb (kindAt s p) 1) || eqb (referenceCount s p) 0) (ReturnReference p)
+    ∷ check (not (eqb (kindAt s p) kindReturn) || eqb (referenceCount s p) 0) (ReturnReference p)
     ∷ []
 
 -- range before rising order
@@ -320,9 +345,9 @@ continuationAt s at = continuationFrom (u16At s at) (eqb (u16At s at) noContinua
 abbrev pub itemAt : List ℕ → ℕ → ℕ → Item
 itemAt s p k = record { array = u8At s (elementPlace s p k); flag = u8At s (elementPlace s p k + 1) }
 
--- 0 other, 1 RETURN, 2 CLR, 3 RUN
+-- a kind that has no data
 abbrev pub plainKind : ℕ → F.Kind
-plainKind k = cond (eqb k 1) F.Kind.return (cond (eqb k 2) F.Kind.clr (cond (eqb k 3) F.Kind.run F.Kind.other))
+plainKind k = cond (eqb k kindReturn) F.Kind.return (cond (eqb k kindClr) F.Kind.clr (cond (eqb k kindRun) F.Kind.run F.Kind.other))
 
 unfoldable pub kindOf : List ℕ → ℕ → F.Kind
 kindOf s p =

@@ -12,6 +12,19 @@ pub const MAX_NAMES: usize = 64;
 
 pub const MAX_KIND: usize = 6;
 
+// The kinds of statements by their numbers; 0 is any other statement.
+pub const KIND_RETURN: usize = 1;
+
+pub const KIND_CLR: usize = 2;
+
+pub const KIND_RUN: usize = 3;
+
+pub const KIND_DIM: usize = 4;
+
+pub const KIND_GOSUB: usize = 5;
+
+pub const KIND_ON_GOSUB: usize = 6;
+
 // A continuation with this value means none.
 pub const NO_CONTINUATION: usize = 65535;
 

@@ -6,12 +6,14 @@ ghost use Rattle.flow.specs.contracts.Answers.{FitRecord};
 ghost use Rattle.records.specs.contracts.Fields.{recordPart, itemCount, callLineCount, callLineAt, continuationIn, continuationTo, bitIn, setWord};
 use flow::Continuation;
 use flow::Item;
+use flow::KIND_DIM;
+use flow::KIND_GOSUB;
+use flow::KIND_ON_GOSUB;
 use flow::NO_CONTINUATION;
 use flow::StmtId;
 use flow::bytes::u8_at;
 use flow::bytes::u16_at;
 use flow::bytes::u64_at;
-use flow::reader::Reader;
 
 pub fn line(file: &[u8], p: usize) -> usize
     requires { ⌜ FitRecord (now file) p ⌝ }
@@ -122,7 +124,7 @@ pub fn item_count(file: &[u8], p: usize) -> usize
     requires { ⌜ FitRecord (now file) p ⌝ }
     ensures { λ r. ⌜ r ≡ itemCount (now (file .entry)) p ⌝ }
 {
-    if kind(file, p) == 4 {
+    if kind(file, p) == KIND_DIM {
         u8_at(file, data_place(file, p))
     } else {
         0
@@ -146,8 +148,8 @@ pub fn line_count(file: &[u8], p: usize) -> usize
     ensures { λ r. ⌜ r ≡ callLineCount (now (file .entry)) p ⌝ }
 {
     match kind(file, p) {
-        5 => 1,
-        6 => u8_at(file, data_place(file, p)),
+        KIND_GOSUB => 1,
+        KIND_ON_GOSUB => u8_at(file, data_place(file, p)),
         _ => 0,
     }
 }
@@ -157,7 +159,7 @@ pub fn call_line(file: &[u8], p: usize, k: usize) -> usize
     ensures { λ r. ⌜ r ≡ callLineAt (now (file .entry)) p k ⌝ }
 {
     let at = data_place(file, p);
-    if kind(file, p) == 5 {
+    if kind(file, p) == KIND_GOSUB {
         u16_at(file, at + 2 * k)
     } else {
         u16_at(file, at + 1 + 2 * k)
@@ -171,19 +173,19 @@ pub fn record_end(file: &[u8], p: usize) -> usize
 {
     let at = data_place(file, p);
     match kind(file, p) {
-        4 => at + 1 + 2 * u8_at(file, at),
-        5 => at + 4,
-        6 => at + 3 + 2 * u8_at(file, at),
+        KIND_DIM => at + 1 + 2 * u8_at(file, at),
+        KIND_GOSUB => at + 4,
+        KIND_ON_GOSUB => at + 3 + 2 * u8_at(file, at),
         _ => at,
     }
 }
 
-// A call's continuation ends its record.
+// A call's continuation ends its record. The calls are the two kinds of the highest numbers.
 pub fn continuation(file: &[u8], p: usize) -> Continuation
     requires { ⌜ FitRecord (now file) p ⌝ }
     ensures { λ r. ⌜ r ≡ continuationTo (continuationIn (now (file .entry)) p) ⌝ }
 {
-    if kind(file, p) < 5 {
+    if kind(file, p) < KIND_GOSUB {
         return Continuation::None;
     }
     let t = u16_at(file, record_end(file, p) - 2);
@@ -201,14 +203,6 @@ pub fn record(file: &[u8], p: usize) -> &[u8]
 {
     let e = record_end(file, p);
     &file[p..e]
-}
-
-// The record that a reader stands at, given out as that part of the file.
-pub fn record_of<'a>(r: Reader<'a>) -> &'a [u8]
-    requires { ⌜ FitRecord (now (r .file)) (r .at) ⌝ }
-    ensures { λ s. ⌜ now s ≡ recordPart (now (r .entry .file)) (r .entry .at) ⌝ }
-{
-    record(r.file, r.at)
 }
 
 pub mod lines;

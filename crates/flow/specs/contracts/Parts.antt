@@ -2,13 +2,13 @@
 -- Of each part, where it begins and ends, its checks, and what a reader that has come to it answers and where it stands then.
 use Prim.Native.Nat.{ℕ, _+_, _≤_}
 use mathlib.Core.Path.{_≡_}
-use mathlib.Core.List.{List}
+use mathlib.Core.List.{List, [], _++_}
 use lib.ListN.{length}
 use Rattle.flow.specs.declared.Part.{Part}
 use Rattle.flow.specs.declared.Part.the-variants.{Header, Statements, Lines, End}
 use Rattle.flow.specs.declared.Passed.{Passed}
 use Rattle.flow.specs.declared.Passed.the-variants.{To, Unfit}
-use Rattle.flow.specs.Format.{Check, verdict, each, headerChecks, statementChecks, lineCount, lineRecordChecks, endChecks, linesPlace, endPlace}
+use Rattle.flow.specs.Format.{Check, fit, verdict, each, headerChecks, statementChecks, lineCount, lineRecordChecks, endChecks, fileChecks, linesPlace, endPlace}
 use Rattle.flow.specs.contracts.Answers.{passedOf}
 
 -- the length of the header
@@ -33,6 +33,13 @@ partChecks s Statements = statementChecks s
 partChecks s Lines = each (lineCount s) (lineRecordChecks s)
 partChecks s End = endChecks s
 
+-- the checks of all parts before a part
+abbrev pub checksBefore : List ℕ → Part → List Check
+checksBefore s Header = []
+checksBefore s Statements = partChecks s Header
+checksBefore s Lines = partChecks s Header ++ partChecks s Statements
+checksBefore s End = (partChecks s Header ++ partChecks s Statements) ++ partChecks s Lines
+
 -- how much of the header a part takes for granted
 abbrev pub headerRead : Part → ℕ
 headerRead Header = 0
@@ -49,7 +56,22 @@ pub record Due (s : List ℕ) (part : Part) (at : ℕ) : Type 0 where
 abbrev pub partAnswer : List ℕ → Part → Passed
 partAnswer s part = passedOf (verdict (partChecks s part)) (partEnd s part)
 
+-- the answer for a part and all before it
+abbrev pub answerThrough : List ℕ → Part → Passed
+answerThrough s part = passedOf (verdict (checksBefore s part ++ partChecks s part)) (partEnd s part)
+
 -- a reader moves past a part that is fit, and stays where it is at one that is not
 abbrev pub placeAfter : Passed → ℕ → ℕ
 placeAfter (To q) at = q
 placeAfter (Unfit r) at = at
+
+-- the parts before a part were judged with the answer `before`, and the reader stands where that led it
+pub record Judged (s : List ℕ) (part : Part) (before : Passed) (at : ℕ) : Type 0 where
+  pub told : before ≡ passedOf (verdict (checksBefore s part)) (partStart s part)
+  pub stands : at ≡ placeAfter before at
+
+-- all parts were judged with the answer `last`; in a file that is fit, the reader stood at `linesAt` before the lines and at `endAt` before the end
+pub record Ended (s : List ℕ) (linesAt endAt : ℕ) (last : Passed) : Type 0 where
+  pub told : last ≡ passedOf (verdict (fileChecks s)) (partEnd s End)
+  pub lines : verdict (fileChecks s) ≡ fit → linesAt ≡ linesPlace s
+  pub ends : verdict (fileChecks s) ≡ fit → endAt ≡ endPlace s

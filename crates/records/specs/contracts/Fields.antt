@@ -12,7 +12,7 @@ use Rattle.flow.specs.declared.Continuation.{Continuation}
 use Rattle.flow.specs.declared.Continuation as C
 use Rattle.flow.specs.declared.LineEntry.{LineEntry}
 use Rattle.flow.specs.declared.LineEntry as E
-use Rattle.flow.specs.Format.{Verdict, fit, unfit, verdict, fileChecks, recordChecks, kindAt, dataPlace, dataCount, elementsEnd, continuationAt, recordEnd, lineCount, lineNumber, u16At}
+use Rattle.flow.specs.Format.{Verdict, fit, unfit, verdict, fileChecks, recordChecks, kindAt, kindDim, kindGosub, kindOnGosub, dataPlace, dataCount, elementsEnd, continuationAt, recordEnd, lineCount, lineNumber, u16At}
 
 -- the record at p, as that part of the file
 abbrev pub recordPart : List ℕ → ℕ → List ℕ
@@ -20,20 +20,20 @@ recordPart s p = take (recordEnd s p - p) (drop p s)
 
 -- the items of a DIM
 unfoldable pub itemCount : List ℕ → ℕ → ℕ
-itemCount s p = cond (eqb (kindAt s p) 4) (dataCount s p) 0
+itemCount s p = cond (eqb (kindAt s p) kindDim) (dataCount s p) 0
 
 -- the lines of a call, of which GOSUB has one, and where it goes on
 
 unfoldable pub callLineCount : List ℕ → ℕ → ℕ
-callLineCount s p = cond (eqb (kindAt s p) 5) 1 (cond (eqb (kindAt s p) 6) (dataCount s p) 0)
+callLineCount s p = cond (eqb (kindAt s p) kindGosub) 1 (cond (eqb (kindAt s p) kindOnGosub) (dataCount s p) 0)
 
 unfoldable pub callLineAt : List ℕ → ℕ → ℕ → ℕ
-callLineAt s p k = u16At s (cond (eqb (kindAt s p) 5) (dataPlace s p) (dataPlace s p + 1) + 2 * k)
+callLineAt s p k = u16At s (cond (eqb (kindAt s p) kindGosub) (dataPlace s p) (dataPlace s p + 1) + 2 * k)
 
 unfoldable pub continuationIn : List ℕ → ℕ → Option ℕ
 continuationIn s p =
-    cond (eqb (kindAt s p) 5) (continuationAt s (dataPlace s p + 2))
-    (cond (eqb (kindAt s p) 6) (continuationAt s (elementsEnd s p)) none)
+    cond (eqb (kindAt s p) kindGosub) (continuationAt s (dataPlace s p + 2))
+    (cond (eqb (kindAt s p) kindOnGosub) (continuationAt s (elementsEnd s p)) none)
 
 abbrev pub continuationTo : Option ℕ → Continuation
 continuationTo none = C.the-variants.None
