@@ -12,7 +12,7 @@ use Rattle.words.specs.contracts.Row.{has}
 use Rattle.flow.specs.Flow.{Flow}
 use Rattle.theory.specs.Lists as lists
 use Rattle.theory.specs.Body.{entered}
-use Rattle.statements.specs.contracts.Layout.{callsAt, rowAt, rowWords, enteredRowAt, waitingAt}
+use Rattle.statements.specs.contracts.Layout.{callsAt, rowAt, rowWords, enteredRowAt, solverAt}
 use Rattle.statements.specs.contracts.Ready.{Keeps}
 use Rattle.statements.proofs.WorkArea.{member-word, row-from, row-fits, rows-apart}
 use Rattle.statements.proofs.Keeps.{keeps-refl, keeps-trans, keeps-widen, keeps-has}
@@ -47,7 +47,7 @@ notes-then {f} {ws} {vs} {us} {n} {lo} {m} {hi} low high top x y = record {
 
 -- the row of entered statements is zeroed, gains those of the transparent call i, and becomes its row
 pub notes-row : {f : Flow} {ws us vs ts : List ℕ} {n i : ℕ} → i < n → getD ws (callsAt n + i) 0 ≡ transparent
-    → EmptyEntered us n → Keeps (enteredRowAt n) (waitingAt n) ws us → Adds us vs n (entered f i)
+    → EmptyEntered us n → Keeps (enteredRowAt n) (solverAt n) ws us → Adds us vs n (entered f i)
     → ((j : ℕ) → j < n → has ts (rowAt n i) j ≡ has vs (enteredRowAt n) j) → Keeps (rowAt n i) (rowAt n i + rowWords n) vs ts → Notes f ws ts n i (i + 1)
 notes-row {f} {ws} {us} {vs} {ts} {n} {i} l is empty zeroed adds copied k = record {
   kept = keeps-trans (keeps-widen (omega (arith, row-from n n)) (omega arith) before) (keeps-widen (row-from n i) (omega (arith, row-fits n l)) k);
@@ -55,7 +55,7 @@ notes-row {f} {ws} {us} {vs} {ts} {n} {i} l is empty zeroed adds copied k = reco
   others = λ e j le lj h. apart e j lj (λ same. h (omega arith) (omega arith) (subst (λ (x : ℕ). getD ws (callsAt n + x) 0 ≡ transparent) (sym same) is)) ∙ row-stays before le lj;
 }
   where
-    before : Keeps (enteredRowAt n) (waitingAt n) ws vs
+    before : Keeps (enteredRowAt n) (solverAt n) ws vs
     before = keeps-trans zeroed (adds .kept)
 
     apart : (e j : ℕ) → j < n → e ≢ i → has ts (rowAt n e) j ≡ has vs (rowAt n e) j

@@ -23,7 +23,7 @@ use Rattle.theory.specs.Body.{kind, callLines, successors, walkNext}
 use Rattle.theory.proofs.Body.{walkNext-below}
 use Rattle.theory.proofs.Lists.{getD-In}
 use Rattle.statements.specs.contracts.Layout as layout
-use Rattle.statements.specs.contracts.Layout.{rowAt, rowWords, queueAt, waitingAt}
+use Rattle.statements.specs.contracts.Layout.{rowAt, rowWords, queueAt, solverAt}
 use Rattle.statements.specs.contracts.Ready.{Ready}
 use Rattle.statements.proofs.Keeps.{ready-formed, ready-below, ready-room}
 use Rattle.statements.proofs.WorkArea.{member-word, row-words-le, row-fits}
@@ -64,7 +64,7 @@ module _ {s ws : List ℕ} {n : ℕ} (r : Ready s ws n) where
     pub matrix-room : queueAt n ≤ length ws
     matrix-room = omega (arith, ready-room r (omega arith))
 
-    pub entered-room : waitingAt n ≤ length ws
+    pub entered-room : solverAt n ≤ length ws
     entered-room = omega (arith, ready-room r (omega arith))
 
     -- the row of entered statements

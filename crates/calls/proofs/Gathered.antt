@@ -22,7 +22,7 @@ use Rattle.theory.specs.contracts.WellFormed.{WellFormed}
 use Rattle.theory.specs.Doubled.{returnsTo, isSome}
 use Rattle.theory.proofs.Lists.{same-test, not-so, eqb-sym, says-one, any-append, In-elem, elem-In, elem-not, elem-append, concatMap-append}
 use Rattle.theory.proofs.Body.{entered-below, walked-sound, walked-complete}
-use Rattle.statements.specs.contracts.Layout.{callsAt, callTouchedAt, matrixAt, rowAt, queueAt, enteredRowAt, waitingAt}
+use Rattle.statements.specs.contracts.Layout.{callsAt, callTouchedAt, matrixAt, rowAt, queueAt, enteredRowAt, solverAt}
 use Rattle.statements.specs.contracts.Ready.{Keeps, MembersWord}
 use Rattle.statements.proofs.Keeps.{keeps-has}
 use Rattle.statements.proofs.Members.{first-as, members-none, members-next}
@@ -105,7 +105,7 @@ rows-kept c w z js rs b m other =
     let l = subst (λ x. b < x) z (entered-below w c b m) in
     walk-kept (walk-low w z l) (λ i li. js .others b i l li other) (rs b m other)
 
-pub rows-stay : {f : Flow} {ws vs : List ℕ} {n : ℕ} (c : ℕ) → WellFormed f → size f ≡ n → Keeps (enteredRowAt n) (waitingAt n) ws vs
+pub rows-stay : {f : Flow} {ws vs : List ℕ} {n : ℕ} (c : ℕ) → WellFormed f → size f ≡ n → Keeps (enteredRowAt n) (solverAt n) ws vs
     → BodyRows f ws n c → BodyRows f vs n c
 rows-stay c w z k rs b m other =
     let l = subst (λ x. b < x) z (entered-below w c b m) in
@@ -169,13 +169,13 @@ module _ {f : Flow} {ws : List ℕ} {n hi : ℕ} (c : ℕ) where
 -- the RETURNs go where the calls below c make them go
 pub record Calling (f : Flow) (ws₀ ws : List ℕ) (n c : ℕ) : Type 0 where
   pub below : c ≤ n
-  pub joins : Joins f ws₀ ws n (waitingAt n) (λ r k. any (returnsTo f r k) (upTo c))
+  pub joins : Joins f ws₀ ws n (solverAt n) (λ r k. any (returnsTo f r k) (upTo c))
 
 pub calling-start : (f : Flow) (ws : List ℕ) (n : ℕ) → Calling f ws ws n 0
 unfolding any upTo
 calling-start f ws n = record { below = omega arith; joins = joins-none }
 
-pub calling-on : {f : Flow} {ws₀ ws vs : List ℕ} {n c : ℕ} → Calling f ws₀ ws n c → c < n → Joins f ws vs n (waitingAt n) (λ r k. returnsTo f r k c) → Calling f ws₀ vs n (c + 1)
+pub calling-on : {f : Flow} {ws₀ ws vs : List ℕ} {n c : ℕ} → Calling f ws₀ ws n c → c < n → Joins f ws vs n (solverAt n) (λ r k. returnsTo f r k c) → Calling f ws₀ vs n (c + 1)
 unfolding any upTo
 calling-on {f} {c = c} inv l js = record {
   below = omega arith;

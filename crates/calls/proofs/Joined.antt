@@ -17,7 +17,7 @@ use Rattle.flow.specs.Flow.{Flow}
 use Rattle.theory.specs.Lists as lists
 use Rattle.theory.specs.Body.{kind, isReturn}
 use Rattle.theory.proofs.Lists.{clash, not-so, elem-append}
-use Rattle.statements.specs.contracts.Layout.{rowAt, rowWords, queueAt, enteredRowAt, waitingAt}
+use Rattle.statements.specs.contracts.Layout.{rowAt, rowWords, queueAt, enteredRowAt, solverAt}
 use Rattle.statements.specs.contracts.Ready.{Keeps}
 use Rattle.statements.proofs.WorkArea.{member-word, row-holds, row-words-le, row-from, row-fits, insert-row}
 use Rattle.statements.proofs.Keeps.{keeps-refl, keeps-trans, keeps-widen, keeps-has, keeps-inserted, keeps-unioned}
@@ -39,7 +39,7 @@ inserted-bit ws base i l j = go (eqb j i) refl
     go false e = insert-other ws base i j l (eqb-false j i e) ∙ omega arith
 
 -- a change of the row of entered statements leaves the rows of the matrix
-pub row-stays : {ws vs : List ℕ} {n e i : ℕ} → Keeps (enteredRowAt n) (waitingAt n) ws vs → e < n → i < n → has vs (rowAt n e) i ≡ has ws (rowAt n e) i
+pub row-stays : {ws vs : List ℕ} {n e i : ℕ} → Keeps (enteredRowAt n) (solverAt n) ws vs → e < n → i < n → has vs (rowAt n e) i ≡ has ws (rowAt n e) i
 row-stays {n = n} {e = e} {i = i} a l m = keeps-has a (rowAt n e) i (λ x y. omega (arith, row-fits n l, member-word m))
 
 pub joins-none : {f : Flow} {ws : List ℕ} {n hi : ℕ} → Joins f ws ws n hi (λ r k. false)
@@ -85,8 +85,8 @@ joins-skip {f} r k other = joins-same joins-none (λ s j ls lj is. sym (ap (λ (
     apart s is = not-so (eqb s r) (λ e. clash (isReturn (kind f r)) (subst (λ (x : ℕ). isReturn (kind f x) ≡ true) (eqb-true s r e) is) other)
 
 -- a change of the row of entered statements may come before
-pub joins-after : {f : Flow} {ws vs us : List ℕ} {n : ℕ} {q : ℕ → ℕ → Bool} → Keeps (enteredRowAt n) (waitingAt n) ws vs → Joins f vs us n (queueAt n) q
-    → Joins f ws us n (waitingAt n) q
+pub joins-after : {f : Flow} {ws vs us : List ℕ} {n : ℕ} {q : ℕ → ℕ → Bool} → Keeps (enteredRowAt n) (solverAt n) ws vs → Joins f vs us n (queueAt n) q
+    → Joins f ws us n (solverAt n) q
 joins-after {ws = ws} {vs = vs} {n = n} {q = q} a js = record {
   kept = keeps-trans (keeps-widen (omega (arith, row-from n n)) (omega arith) a) (keeps-widen (omega arith) (omega arith) (js .kept));
   others = λ e i l m h. js .others e i l m h ∙ row-stays a l m;
@@ -108,7 +108,7 @@ adds-then {ws} {n = n} {xs = xs} {ys = ys} a b = record {
       ∙ ap (λ (t : Bool). max (has ws (enteredRowAt n) j) (cond t 1 0)) (sym (elem-append j xs ys));
 }
 
-pub adds-insert : {ws vs : List ℕ} {n b : ℕ} {t : Bool} → Inserted ws vs (enteredRowAt n) b t → b < n → waitingAt n ≤ length ws → Adds ws vs n (b ∷ [])
+pub adds-insert : {ws vs : List ℕ} {n b : ℕ} {t : Bool} → Inserted ws vs (enteredRowAt n) b t → b < n → solverAt n ≤ length ws → Adds ws vs n (b ∷ [])
 unfolding lists.elem
 adds-insert {ws} {vs} {n} {b} i l room = subst (λ (us : List ℕ). Adds ws us n (b ∷ [])) (sym (i .slice)) (record {
   kept = keeps-inserted ws (enteredRowAt n) b (omega arith) (omega (arith, member-word l, row-words-le n));
@@ -123,7 +123,7 @@ union-at {ws} {vs} {to} {to′} {from} {from′} {width} {width′} {t} a b c u 
     subst (λ (w : ℕ). Unioned ws vs to′ from′ w t) c (subst (λ (x : ℕ). Unioned ws vs to′ x width t) b (subst (λ (x : ℕ). Unioned ws vs x from width t) a u))
 
 -- the row e of the matrix joins it
-pub adds-union : {ws vs : List ℕ} {n e : ℕ} {t : Bool} (xs : List ℕ) → Unioned ws vs (enteredRowAt n) (rowAt n e) (rowWords n) t → e < n → waitingAt n ≤ length ws
+pub adds-union : {ws vs : List ℕ} {n e : ℕ} {t : Bool} (xs : List ℕ) → Unioned ws vs (enteredRowAt n) (rowAt n e) (rowWords n) t → e < n → solverAt n ≤ length ws
     → ((j : ℕ) → j < n → has ws (rowAt n e) j ≡ cond (lists.elem j xs) 1 0) → Adds ws vs n xs
 adds-union {ws} {vs} {n} {e} xs u l room holds = subst (λ (us : List ℕ). Adds ws us n xs) (sym (u .slice)) (record {
   kept = keeps-unioned ws (enteredRowAt n) (rowAt n e) (rowWords n) (omega arith) (omega (arith, row-words-le n));

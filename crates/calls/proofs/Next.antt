@@ -7,12 +7,14 @@ use mathlib.Core.Option.{Option, none, some}
 use mathlib.Core.Path.{_≡_, refl, sym, _∙_, ap, subst}
 use native.Mathlib.Omega.{arith}
 use lib.ListN.{getD, drop}
+use Rattle.flow.specs.declared.Base.{Base}
+use Rattle.flow.specs.declared.Base.the-variants.{Zero, N}
 use Rattle.flow.specs.declared.NodeId.{NodeId}
 use Rattle.flow.specs.Flow.{Flow, size}
 use Rattle.theory.specs.Lists.{In, any, concatMap, optionList, select, upTo}
 use Rattle.theory.specs.Body.{kind, successors, continuationOf, isReturn, opaqueCall}
 use Rattle.theory.specs.contracts.WellFormed.{WellFormed}
-use Rattle.theory.specs.Doubled.{Base, Node, Edge, at, plain, offset, number, returnsTo, returnEdges, listedEdges, edgesOf, edges}
+use Rattle.theory.specs.Doubled.{Node, Edge, at, plain, offset, number, returnsTo, returnEdges, listedEdges, edgesOf, edges}
 use Rattle.theory.proofs.Lists.{clash, In-map}
 use Rattle.theory.proofs.Edges.{edge-below}
 use Rattle.statements.specs.contracts.Layout.{callsAt}
@@ -40,8 +42,8 @@ module _ {f : Flow} (v : Node) {cursor : ℕ} {t : NodeId} {c : Bool} {next : �
   next-below w = let h = x .target in omega (arith, edge-below f w v next-edge, offset-most f (x .edge .to .base))
     where
       offset-most : (f : Flow) (b : Base) → offset f b ≤ size f
-      offset-most f Base.zero = omega arith
-      offset-most f Base.n = omega arith
+      offset-most f Zero = omega arith
+      offset-most f N = omega arith
 
 -- a statement that is no call, and an opaque call, have no edge that carries the touched step
 
@@ -53,8 +55,8 @@ unfolding edgesOf returnEdges listedEdges
 none-continue f b i {x} none h m = go (isReturn (kind f i)) b m
   where
     go : (r : Bool) (b : Base) → In x (cond r (returnEdges f b i) (listedEdges f b i)) → x .continues ≡ false
-    go true Base.zero m = plain-only (at Base.zero) (select (λ k. any (returnsTo f i k) (upTo (size f))) (upTo (size f))) m
-    go true Base.n m = absurd (List·Memᴰ·not-nil m)
+    go true Zero m = plain-only (at Zero) (select (λ k. any (returnsTo f i k) (upTo (size f))) (upTo (size f))) m
+    go true N m = absurd (List·Memᴰ·not-nil m)
     go false b m = plain-only (at b) (successors f i) m
 none-continue f b i {x} (some k) h m = plain-only (at b) (successors f i) (rw (h k refl) at m)
 

@@ -7,10 +7,11 @@ use native.Mathlib.Omega.{arith}
 use lib.ListN.{length, getD}
 use Rattle.words.proofs.Bytes.{byte-cong}
 use Rattle.flow.specs.Limits.{maxArrays}
-use Rattle.statements.specs.contracts.Layout.{maskWords, queueAt, enteredRowAt, waitingAt, visitedAt, grownAt, maskRowAt, outRow, areaEnd}
+use Rattle.statements.specs.contracts.Layout.{queueAt, enteredRowAt, areaEnd}
 use Rattle.statements.specs.contracts.Ready.{Keeps}
 use Rattle.statements.proofs.Keeps.{keeps-refl, keeps-trans, keeps-widen}
 use Rattle.solve.specs.declared.Queue.{Queue}
+use Rattle.solve.specs.contracts.Layout.{maskWords, waitingAt, visitedAt, grownAt, maskRowAt, outRow}
 use Rattle.solve.specs.contracts.Waiting.{Waits}
 use Rattle.solve.specs.contracts.Pushed.{masksAt}
 use Rattle.solve.proofs.Waiting.{waits-kept}

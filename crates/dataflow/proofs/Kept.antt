@@ -7,22 +7,24 @@ use native.Mathlib.Omega.{arith}
 use lib.ListN.{length, getD}
 use Rattle.words.specs.contracts.Row.{has}
 use Rattle.words.proofs.Row.{has-cong}
+use Rattle.flow.specs.declared.Header.{Header}
 use Rattle.flow.specs.Flow.{Flow}
-use Rattle.statements.specs.contracts.Layout.{callsAt, rowAt, rowWords, queueAt, enteredRowAt, waitingAt, areaEnd}
-use Rattle.statements.specs.contracts.Ready.{Ready, Keeps}
+use Rattle.statements.specs.contracts.Layout.{callsAt, rowAt, rowWords, queueAt, enteredRowAt, areaEnd}
+use Rattle.statements.specs.contracts.Ready.{Indexed, Keeps}
 use Rattle.statements.proofs.WorkArea.{row-from, row-fits, row-words-le, member-word}
-use Rattle.statements.proofs.Keeps.{keeps-has, ready-keeps}
+use Rattle.statements.proofs.Keeps.{keeps-has, indexed-keeps}
 use Rattle.calls.specs.contracts.Held.{Linked, EnteredRow, EmptyEntered}
 use Rattle.calls.proofs.Gathered.{summaries-kept}
+use Rattle.solve.specs.contracts.Layout.{waitingAt}
 
 -- the words from the queue on are the solver's
 pub queue-above : (n : ℕ) → n + n + n + n + n ≤ queueAt n
 queue-above n = let h = row-from n n in omega arith
 
-module _ {ws vs : List ℕ} {n hi : ℕ} (k : Keeps (queueAt n) hi ws vs) where
-  pub ready-stays : {s : List ℕ} → Ready s ws n → Ready s vs n
-  ready-stays r = let h = queue-above n in ready-keeps r k (omega arith)
+pub indexed-stays : {s ws vs : List ℕ} {h : Header} {hi : ℕ} → Keeps (queueAt (h .statements)) hi ws vs → Indexed s h ws → Indexed s h vs
+indexed-stays {h = h} k x = let above = queue-above (h .statements) in indexed-keeps x k (omega arith)
 
+module _ {ws vs : List ℕ} {n hi : ℕ} (k : Keeps (queueAt n) hi ws vs) where
   pub linked-stays : {f : Flow} → Linked f ws n → Linked f vs n
   linked-stays {f} x =
       let h = queue-above n in

@@ -12,7 +12,7 @@ use Rattle.words.specs.contracts.Byte.{byteOf, byteAt}
 use Rattle.words.proofs.Bytes.{byteOf-or}
 use Rattle.words.specs.contracts.Change.{noted}
 use Rattle.records.proofs.Noting.{length-noted, noted-at, noted-other}
-use Rattle.statements.specs.contracts.Layout.{maskRowAt}
+use Rattle.solve.specs.contracts.Layout.{maskRowAt}
 use Rattle.dataflow.specs.contracts.Bytes.{bothCopies, joinedWord, notedRows}
 
 -- m elements noted behind k are k + m elements noted

@@ -22,11 +22,10 @@ use Rattle.records.proofs.Noting.{length-noted, noted-at, noted-other}
 use Rattle.records.proofs.Statements.{size-is}
 use Rattle.theory.specs.Masks.{nodeMask, maskOf, visitsOf}
 use Rattle.theory.specs.Live.{liveInWord, liveOutWord}
-use Rattle.statements.specs.contracts.Layout.{callsAt, callTouchedAt, matrixAt, rowAt, queueAt, enteredRowAt, waitingAt, maskRowAt, areaEnd}
-use Rattle.theory.specs.Body.{callTouches}
-use Rattle.statements.specs.contracts.Ready.{Ready, Keeps, MembersWord}
-use Rattle.statements.proofs.Keeps.{keeps-word, keeps-has, keeps-zeroed, ready-keeps, ready-most, ready-room}
-use Rattle.statements.proofs.WorkArea.{row-from, row-fits, member-word}
+use Rattle.statements.specs.contracts.Layout.{callsAt, matrixAt, queueAt, enteredRowAt, solverAt, areaEnd}
+use Rattle.statements.specs.contracts.Ready.{Ready, Indexed, Keeps}
+use Rattle.statements.proofs.Keeps.{keeps-zeroed, ready-keeps, ready-room, indexed-keeps}
+use Rattle.statements.proofs.WorkArea.{row-from}
 use Rattle.statements.proofs.WellFormed.{arrays-is}
 use Rattle.calls.specs.contracts.Held as held
 use Rattle.calls.specs.contracts.Held.{Summarized, Linked}
@@ -35,7 +34,7 @@ use Rattle.dataflow.specs.contracts.Phases.{FitFlow, SummariesMade, Solv
 use Rattle.dataflow.specs.contracts.Solving as solver
 use Rattle.solve.specs.contracts.Pushed.{masksAt}
 use Rattle.dataflow.specs.contracts.Bytes.{bothCopies, notedRows}
-use Rattle.dataflow.proofs.Kept.{linked-stays}
+use Rattle.dataflow.proofs.Kept.{indexed-stays, linked-stays}
 use Rattle.dataflow.proofs.NotedRows.{length-rows, rows-past, rows-at}
 
 module _ {s : List ℕ} {h : Header} where
@@ -47,7 +46,7 @@ module _ {s : List ℕ} {h : Header} where
     pub room-fits : 0 + h .statements ≤ length ws
     room-fits = omega (arith, fresh .work-room)
 
-    pub noted-ready : {vs : List ℕ} → vs ≡ noted ws 0 (h .statements) (recordPlace s) → Ready s vs (h .statements)
+    noted-ready : {vs : List ℕ} → vs ≡ noted ws 0 (h .statements) (recordPlace s) → Ready s vs (h .statements)
     noted-ready {vs} e = record {
       fit = fresh .fit;
       count = ap (λ (x : Header). x .statements) (fresh .header);
@@ -56,43 +55,45 @@ module _ {s : List ℕ} {h : Header} where
       offsets = λ i l. ap (λ v. getD v (0 + i) 0) e ∙ noted-at ws 0 (recordPlace s) (h .statements) i 0 l room-fits;
     }
 
+    pub noted-indexed : {vs : List ℕ} → vs ≡ noted ws 0 (h .statements) (recordPlace s) → Indexed s h vs
+    noted-indexed e = record { ready = noted-ready e; header = fresh .header }
+
     pub noted-fresh : {vs : List ℕ} → vs ≡ noted ws 0 (h .statements) (recordPlace s) → held.NoSummaries vs (h .statements)
     noted-fresh e = record { words = λ x l m. ap (λ v. getD v x 0) e ∙ past x l }
 
     pub summed : {vs us : List ℕ} → vs ≡ noted ws 0 (h .statements) (recordPlace s) → Summarized (flowOf s) us (h .statements)
         → Keeps (callsAt (h .statements)) (enteredRowAt (h .statements)) vs us → SummariesMade s h us
     summed e m k = record {
-      ready = ready-keeps (noted-ready e) k (omega arith);
+      indexed = indexed-keeps (noted-indexed e) k (omega arith);
       summarized = m;
       zero = λ x l b. k .above x l ∙ ap (λ v. getD v x 0) e ∙ past x (omega (arith, row-from (h .statements) (h .statements)));
     }
 
 -- with the words of the queue and of the row of entered statements zeroed, the forward solver can begin
-pub linked : {s : List ℕ} {h : Header} {ws vs us : List ℕ} → SummariesMade s h ws → h ≡ headerOf s → 0 < h .statements
-    → Linked (flowOf s) vs (h .statements) → Keeps (matrixAt (h .statements)) (waitingAt (h .statements)) ws vs
-    → us ≡ zeroed vs (queueAt (h .statements)) (3 * h .statements) → SolverStart s h us
-linked {s} {h} {ws} {vs} {us} begun e some l k c =
+pub linked : {s : List ℕ} {h : Header} {ws vs us : List ℕ} → SummariesMade s h ws → 0 < h .statements
+    → Linked (flowOf s) vs (h .statements) → Keeps (matrixAt (h .statements)) (solverAt (h .statements)) ws vs
+    → us ≡ zeroed vs (queueAt (h .statements)) (solverAt (h .statements) - queueAt (h .statements)) → SolverStart s h us
+linked {s} {h} {ws} {vs} {us} begun some l k c =
     subst (SolverStart s h) (sym c)
     (record {
-      ready = ready-keeps ready′ resets (omega (arith, row-from (h .statements) (h .statements)));
-      header = e;
+      indexed = indexed-stays resets indexed′;
       linked = linked-stays resets l;
       some = some;
-      zero = λ x a b. zeros x a b (decLt x (waitingAt (h .statements)));
+      zero = λ x a b. zeros x a b (decLt x (solverAt (h .statements)));
     })
   where
-    ready′ : Ready s vs (h .statements)
-    ready′ = ready-keeps (begun .ready) k (omega arith)
+    indexed′ : Indexed s h vs
+    indexed′ = indexed-keeps (begun .indexed) k (omega arith)
 
-    resets : Keeps (queueAt (h .statements)) (waitingAt (h .statements)) vs (zeroed vs (queueAt (h .statements)) (3 * h .statements))
-    resets = keeps-zeroed vs (queueAt (h .statements)) (3 * h .statements) (omega arith) (omega arith)
+    resets : Keeps (queueAt (h .statements)) (solverAt (h .statements)) vs (zeroed vs (queueAt (h .statements)) (solverAt (h .statements) - queueAt (h .statements)))
+    resets = keeps-zeroed vs (queueAt (h .statements)) (solverAt (h .statements) - queueAt (h .statements)) (omega arith) (omega arith)
 
-    zeros : (x : ℕ) → queueAt (h .statements) ≤ x → x < areaEnd (h .statements) → Dec (x < waitingAt (h .statements)) → getD (zeroed vs (queueAt (h .statements)) (3 * h .statements)) x 0 ≡ 0
+    zeros : (x : ℕ) → queueAt (h .statements) ≤ x → x < areaEnd (h .statements) → Dec (x < solverAt (h .statements)) → getD (zeroed vs (queueAt (h .statements)) (solverAt (h .statements) - queueAt (h .statements))) x 0 ≡ 0
     zeros x a b (yes m) =
-        subst (λ y. getD (zeroed vs (queueAt (h .statements)) (3 * h .statements)) y 0 ≡ 0) (omega arith)
-        (zeroed-word vs (queueAt (h .statements)) (3 * h .statements) (omega (arith, ready-room ready′ some)) (x - queueAt (h .statements)) (omega arith))
+        subst (λ y. getD (zeroed vs (queueAt (h .statements)) (solverAt (h .statements) - queueAt (h .statements))) y 0 ≡ 0) (omega arith)
+        (zeroed-word vs (queueAt (h .statements)) (solverAt (h .statements) - queueAt (h .statements)) (omega (arith, ready-room (indexed′ .ready) some)) (x - queueAt (h .statements)) (omega arith))
     zeros x a b (no m) =
-        zeroed-other vs (queueAt (h .statements)) (3 * h .statements) x (λ j y z. m (omega arith)) ∙ k .above x (omega (arith, m)) ∙ begun .zero x (omega (arith, m)) b
+        zeroed-other vs (queueAt (h .statements)) (solverAt (h .statements) - queueAt (h .statements)) x (λ j y z. m (omega arith)) ∙ k .above x (omega (arith, m)) ∙ begun .zero x (omega (arith, m)) b
 
 -- the rows of the two copies are the masks of the statement
 pub masked : {s : List ℕ} {h : Header} {ws vs masks masks′ : List ℕ} {visits : ℕ} → SolverStart s h ws
@@ -102,7 +103,7 @@ pub masked : {s : List ℕ} {h : Header} {ws vs masks masks′ : List ℕ} {visi
     → Masked s h masks masks′ vs visits
 unfolding bothCopies maskOf
 masked {s} {h} {ws} {vs} {masks} {masks′} {visits} blank room solved e = record {
-  ready = ready-keeps (blank .ready) (solved .keeps) (omega (arith, row-from (h .statements) (h .statements)));
+  ready = ready-keeps (blank .indexed .ready) (solved .keeps) (omega (arith, row-from (h .statements) (h .statements)));
   visited = solved .count;
   bytes = λ i a l m.
       ap (λ v. getD v (i * h .arrays + a) 0) e
@@ -113,10 +114,10 @@ masked {s} {h} {ws} {vs} {masks} {masks′} {visits} blank room solved e = recor
 }
   where
     sizes : size (flowOf s) ≡ h .statements
-    sizes = size-is s ∙ ap (λ (x : Header). x .statements) (sym (blank .header))
+    sizes = size-is s ∙ ap (λ (x : Header). x .statements) (sym (blank .indexed .header))
 
     arrays′ : h .arrays ≡ flowOf s .arrays
-    arrays′ = ap (λ (x : Header). x .arrays) (blank .header) ∙ sym (arrays-is s)
+    arrays′ = ap (λ (x : Header). x .arrays) (blank .indexed .header) ∙ sym (arrays-is s)
 
     joined : (i a : ℕ) → i < h .statements → a < h .arrays → bothCopies vs (h .statements) i a ≡ maskOf (flowOf s) i a
     joined i a l m =

@@ -26,13 +26,14 @@ use Rattle.theory.proofs.Terms.{doubled-well-formed}
 use Rattle.theory.proofs.Ends.{RuleState, rule-starts, rule-visits, rule-keeps, rule-bound, rule-ends, potential}
 use Rattle.theory.proofs.Exact.{pulled-held}
 use Rattle.theory.proofs.Push.{pulled-first}
-use Rattle.statements.specs.contracts.Layout.{maskWords, queueAt, enteredRowAt, waitingAt, visitedAt, grownAt, maskRowAt, areaEnd}
+use Rattle.statements.specs.contracts.Layout.{queueAt, enteredRowAt, areaEnd}
 use Rattle.statements.specs.contracts.Ready.{Keeps}
 use Rattle.statements.proofs.WorkArea.{member-word, row-words-le}
 use Rattle.statements.proofs.Keeps.{keeps-refl, keeps-trans, keeps-widen}
 use Rattle.statements.proofs.Members.{zero-has}
 use Rattle.calls.specs.contracts.Held.{EmptyEntered}
 use Rattle.solve.specs.declared.Queue.{Queue}
+use Rattle.solve.specs.contracts.Layout.{maskWords, waitingAt, visitedAt, grownAt, maskRowAt}
 use Rattle.solve.specs.contracts.Rows.{RowIs, stepWhere}
 use Rattle.solve.specs.contracts.Waiting.{Waits, Enqueued}
 use Rattle.solve.specs.contracts.Pushed.{masksAt}

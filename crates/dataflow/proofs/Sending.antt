@@ -13,6 +13,7 @@ use lib.Bits.{bitOr, or-self, or-zero-l, or-zero-r}
 use lib.Dec.{eqb}
 use lib.ListN.{length, getD, drop}
 use Rattle.words.specs.contracts.Byte.{byteAt}
+use Rattle.words.proofs.Bytes.{byte-cong}
 use Rattle.flow.specs.declared.NodeId.{NodeId}
 use Rattle.flow.specs.Flow.{Flow, size}
 use Rattle.flow.specs.Limits.{maxArrays}
@@ -21,7 +22,7 @@ use Rattle.theory.specs.Queue.{Arc, join, enqueue, brings}
 use Rattle.theory.specs.Doubled.{Node, Edge, node, number, doubled}
 use Rattle.theory.specs.contracts.WellFormed.{WellFormed}
 use Rattle.theory.proofs.Push.{differ, differ-chain}
-use Rattle.statements.specs.contracts.Layout.{queueAt, enteredRowAt, waitingAt, visitedAt, grownAt, areaEnd}
+use Rattle.statements.specs.contracts.Layout.{queueAt, enteredRowAt, areaEnd}
 use Rattle.statements.specs.contracts.Ready.{Keeps}
 use Rattle.statements.proofs.Keeps.{keeps-refl, keeps-trans}
 use Rattle.calls.specs.contracts.Slots.{slots, present, toArc}
@@ -29,6 +30,7 @@ use Rattle.calls.proofs.Cursor.{NextEdge}
 use Rattle.calls.proofs.Slots.{enqueue-slots, or-assoc}
 use Rattle.calls.proofs.Next.{next-below}
 use Rattle.solve.specs.declared.Queue.{Queue}
+use Rattle.solve.specs.contracts.Layout.{waitingAt, visitedAt, grownAt, outRow}
 use Rattle.solve.specs.contracts.Waiting.{Waits}
 use Rattle.solve.specs.contracts.Pushed.{masksAt, Pushed}
 use Rattle.solve.proofs.Growing.{differ-as}
@@ -51,7 +53,7 @@ pub record Sending (f : Flow) (ws₀ : List ℕ) (n : ℕ) (queue₀ : Queue) (d
   pub masks : (t a : ℕ) → t < 2 * n → a < maxArrays
       → bitOr (masksAt ws n t a) (carried f ws₀ n (edgesFrom f d cursor) t a) ≡ bitOr (masksAt ws₀ n t a) (carried f ws₀ n (edgesFrom f d 0) t a)
   pub grows : (t a : ℕ) → t < 2 * n → a < maxArrays → bitOr (masksAt ws₀ n t a) (masksAt ws n t a) ≡ masksAt ws n t a
-  pub rows : (c : Bool) (a : ℕ) → a < maxArrays → masksAt ws n (edgeRow n c) a ≡ masksAt ws₀ n (edgeRow n c) a
+  pub rows : (x : ℕ) → outRow n ≤ x → getD ws x 0 ≡ getD ws₀ x 0
   pub grown : GrownWords n ws₀ ws
   pub visited : SameVisited n ws₀ ws
   pub entered-row : (x : ℕ) → enteredRowAt n ≤ x → x < waitingAt n → getD ws x 0 ≡ getD ws₀ x 0
@@ -62,7 +64,7 @@ sending-none f ws n queue d = record {
   waits = λ w h. (w, h, refl);
   masks = λ t a l m. refl;
   grows = λ t a l m. or-self (masksAt ws n t a);
-  rows = λ c a l. refl;
+  rows = λ x l. refl;
   grown = λ t l. sym (ap (λ (b : Bool). cond b 1 (getD ws (grownAt n + t) 0)) (differ-self maxArrays (masksAt ws n t)));
   visited = λ x l h. refl;
   entered-row = λ x l h. refl;
@@ -73,11 +75,11 @@ module _ {f : Flow} {ws₀ : List ℕ} {n : ℕ} {queue₀ : Queue} {d : ℕ} {w
     (s : Sending f ws₀ n queue₀ d ws queue cursor) (x : NextEdge f (slots f (node f d)) cursor t c next) (below : t .0 < 2 * n) (p : Pushed ws vs n queue (edgeRow n c) (t .0) r) where
   -- what this edge brings to u
   abbrev one : ℕ → ℕ → ℕ
-  one u a = cond (eqb (number f (x .edge .to)) u) (masksAt ws₀ n (edgeRow n (x .edge .continues)) a) 0
+  one u a = cond (eqb (number f (x .edge .to)) u) (byteAt ws₀ (edgeRow n (x .edge .continues)) a) 0
 
-  apart : (b : Bool) → edgeRow n b ≢ t .0
-  apart true e = omega arith
-  apart false e = omega arith
+  same-row : (b : Bool) (a : ℕ) → byteAt ws (edgeRow n b) a ≡ byteAt ws₀ (edgeRow n b) a
+  same-row true a = byte-cong ws ws₀ (edgeRow n true) a (s .rows _ (omega arith))
+  same-row false a = byte-cong ws ws₀ (edgeRow n false) a (s .rows _ (omega arith))
 
   joined-mask : (u a : ℕ) → a < maxArrays → masksAt vs n u a ≡ bitOr (masksAt ws n u a) (one u a)
   joined-mask u a l = at (ℕ-discrete u (t .0))
@@ -86,11 +88,11 @@ module _ {f : Flow} {ws₀ : List ℕ} {n : ℕ} {queue₀ : Queue} {d : ℕ} {w
       at (yes e) =
           ap (λ (y : ℕ). masksAt vs n y a) e ∙ p .grown .masks a l
           ∙ ap₂ bitOr (ap (λ (y : ℕ). masksAt ws n y a) (sym e))
-          (ap (λ (b : Bool). masksAt ws n (edgeRow n b) a) (x .step) ∙ s .rows (x .edge .continues) a l
-          ∙ sym (ap (λ (b : Bool). cond b (masksAt ws₀ n (edgeRow n (x .edge .continues)) a) 0) (eq-eqb (number f (x .edge .to)) u (sym (x .target) ∙ sym e))))
+          (ap (λ (b : Bool). byteAt ws (edgeRow n b) a) (x .step) ∙ same-row (x .edge .continues) a
+          ∙ sym (ap (λ (b : Bool). cond b (byteAt ws₀ (edgeRow n (x .edge .continues)) a) 0) (eq-eqb (number f (x .edge .to)) u (sym (x .target) ∙ sym e))))
       at (no ne) =
           p .grown .others u a ne l ∙ sym (or-zero-r (masksAt ws n u a))
-          ∙ sym (ap (λ (b : Bool). bitOr (masksAt ws n u a) (cond b (masksAt ws₀ n (edgeRow n (x .edge .continues)) a) 0)) (ne-eqb (number f (x .edge .to)) u (λ e. ne (sym e ∙ sym (x .target)))))
+          ∙ sym (ap (λ (b : Bool). bitOr (masksAt ws n u a) (cond b (byteAt ws₀ (edgeRow n (x .edge .continues)) a) 0)) (ne-eqb (number f (x .edge .to)) u (λ e. ne (sym e ∙ sym (x .target)))))
 
   carried-first : (u a : ℕ) → carried f ws₀ n (edgesFrom f d cursor) u a ≡ bitOr (one u a) (carried f ws₀ n (edgesFrom f d next) u a)
   unfolding carried
@@ -147,7 +149,7 @@ module _ {f : Flow} {ws₀ : List ℕ} {n : ℕ} {queue₀ : Queue} {d : ℕ} {w
     waits = waits-more;
     masks = masks-more;
     grows = grows-more;
-    rows = λ b a l. p .grown .others (edgeRow n b) a (apart b) l ∙ s .rows b a l;
+    rows = λ y l. p .grown .edge-rows y l ∙ s .rows y l;
     grown = grown-more;
     visited = λ y l h. p .visited y l h ∙ s .visited y l h;
     entered-row = λ y l h. p .entered-row y l h ∙ s .entered-row y l h;

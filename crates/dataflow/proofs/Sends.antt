@@ -17,7 +17,7 @@ use Rattle.theory.specs.Body.{kind, continuationOf, opaqueCall, callTouches}
 use Rattle.theory.specs.Doubled.{Edge, node, edges, statementEffects, edgeEffects, doubled}
 use Rattle.theory.specs.Queue.{stepAll, brings}
 use Rattle.theory.proofs.Push.{differ}
-use Rattle.statements.specs.contracts.Layout.{enteredRowAt, waitingAt, visitedAt, grownAt, callTouchedAt, maskRowAt, outRow, backRow, areaEnd}
+use Rattle.statements.specs.contracts.Layout.{enteredRowAt, callTouchedAt, areaEnd}
 use Rattle.statements.specs.contracts.Ready.{Keeps, MembersWord}
 use Rattle.statements.proofs.Keeps.{keeps-trans}
 use Rattle.words.specs.contracts.Byte.{byteAt}
@@ -27,6 +27,7 @@ use Rattle.calls.specs.contracts.Slots.{slots, present}
 use Rattle.calls.proofs.Slots.{slot-edge, brings-slots}
 use Rattle.calls.proofs.Next.{plain-edge}
 use Rattle.solve.specs.declared.Queue.{Queue}
+use Rattle.solve.specs.contracts.Layout.{waitingAt, visitedAt, grownAt, maskRowAt, outRow, backRow}
 use Rattle.solve.specs.contracts.Rows.{RowIs, stepWhere, memberBelow}
 use Rattle.solve.specs.contracts.Pushed.{masksAt}
 use Rattle.solve.proofs.Growing.{differ-as}
@@ -39,12 +40,12 @@ use Rattle.dataflow.proofs.EdgeRows.{act-row, back-row, carried-brings}
 pub record Prepared (f : Flow) (ws us : List ℕ) (n d : ℕ) : Type 0 where
   pub aside : Aside n ws us
   pub rows : (m : ℕ → ℕ) → ((a : ℕ) → a < maxArrays → masksAt ws n d a ≡ masksBelow (f .arrays) m a) → (x : Edge) → In x (edges f (node f d)) → (a : ℕ) → a < maxArrays
-      → masksAt us n (edgeRow n (x .continues)) a ≡ masksBelow (f .arrays) (λ b. stepAll (edgeEffects f (node f d .stmt) x b) (m b)) a
+      → byteAt us (edgeRow n (x .continues)) a ≡ masksBelow (f .arrays) (λ b. stepAll (edgeEffects f (node f d .stmt) x b) (m b)) a
 
 module _ (f : Flow) (ws us : List ℕ) (n d i count : ℕ) (stmt : i ≡ node f d .stmt) (all : count ≡ f .arrays)
     (act : RowIs ws us (outRow n) (acted count (statementEffects f i) (byteAt ws (maskRowAt n d)))) where
   -- the act of the statement, said of the flow
-  acts : (a : ℕ) → a < maxArrays → masksAt us n (2 * n) a ≡ acted (f .arrays) (statementEffects f (node f d .stmt)) (masksAt ws n d) a
+  acts : (a : ℕ) → a < maxArrays → byteAt us (outRow n) a ≡ acted (f .arrays) (statementEffects f (node f d .stmt)) (masksAt ws n d) a
   acts a l = act .bytes a l ∙ ap₂ (λ (k j : ℕ). acted k (statementEffects f j) (masksAt ws n d) a) all stmt
 
   pub act-aside : Aside n ws us
@@ -56,21 +57,22 @@ module _ (f : Flow) (ws us : List ℕ) (n d i count : ℕ) (stmt : i ≡ node f 
     aside = act-aside;
     rows = λ m h x e a l.
         let none : x .continues ≡ false = plain-edge f (node f d) op e in
-        ap (λ (c : Bool). masksAt us n (edgeRow n c) a) none ∙ acts a l ∙ act-row f (node f d .stmt) (f .arrays) m (masksAt ws n d) x a (h a l) none;
+        ap (λ (c : Bool). byteAt us (edgeRow n c) a) none ∙ acts a l ∙ act-row f (node f d .stmt) (f .arrays) m (masksAt ws n d) x a (h a l) none;
   }
 
   -- a call that is not opaque
   module _ (vs os : List ℕ) (touched : MembersWord (getD us (callTouchedAt n + i) 0) (callTouches f i))
       (back : RowIs us vs (backRow n) (stepWhere (memberBelow us (callTouchedAt n + i) count) Touched (byteAt us (outRow n)))) (noted : Keeps (enteredRowAt n) (waitingAt n) vs os) where
     -- the rows for edges lie above the row of entered statements
-    row-noted : (c : Bool) (a : ℕ) → masksAt os n (edgeRow n c) a ≡ masksAt vs n (edgeRow n c) a
-    row-noted c a = byte-cong os vs (maskRowAt n (edgeRow n c)) a (noted .above _ (omega arith))
+    row-noted : (c : Bool) (a : ℕ) → byteAt os (edgeRow n c) a ≡ byteAt vs (edgeRow n c) a
+    row-noted true a = byte-cong os vs (backRow n) a (noted .above _ (omega arith))
+    row-noted false a = byte-cong os vs (outRow n) a (noted .above _ (omega arith))
 
-    out : (a : ℕ) → a < maxArrays → masksAt os n (edgeRow n false) a ≡ acted (f .arrays) (statementEffects f (node f d .stmt)) (masksAt ws n d) a
-    out a l = row-noted false a ∙ byte-cong vs us (maskRowAt n (2 * n)) a (back .keeps .below _ (omega arith)) ∙ acts a l
+    out : (a : ℕ) → a < maxArrays → byteAt os (edgeRow n false) a ≡ acted (f .arrays) (statementEffects f (node f d .stmt)) (masksAt ws n d) a
+    out a l = row-noted false a ∙ byte-cong vs us (outRow n) a (back .keeps .below _ (omega arith)) ∙ acts a l
 
     in-back : (a : ℕ) → a < maxArrays
-        → masksAt os n (edgeRow n true) a
+        → byteAt os (edgeRow n true) a
         ≡ stepWhere (memberBelow us (callTouchedAt n + i) (f .arrays)) Touched (acted (f .arrays) (statementEffects f (node f d .stmt)) (masksAt ws n d)) a
     unfolding stepWhere
     in-back a l =
@@ -84,7 +86,7 @@ module _ (f : Flow) (ws us : List ℕ) (n d i count : ℕ) (stmt : i ≡ node f 
     }
       where
         at : (m : ℕ → ℕ) → ((a : ℕ) → a < maxArrays → masksAt ws n d a ≡ masksBelow (f .arrays) m a) → (x : Edge) (a : ℕ) → a < maxArrays → (c : Bool) → x .continues ≡ c
-            → masksAt os n (edgeRow n c) a ≡ masksBelow (f .arrays) (λ b. stepAll (edgeEffects f (node f d .stmt) x b) (m b)) a
+            → byteAt os (edgeRow n c) a ≡ masksBelow (f .arrays) (λ b. stepAll (edgeEffects f (node f d .stmt) x b) (m b)) a
         at m h x a l true e =
             in-back a l
             ∙ back-row f us (node f d .stmt) (f .arrays) (callTouchedAt n + i) m (masksAt ws n d) x a l (h a l) e

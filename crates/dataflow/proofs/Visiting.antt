@@ -23,11 +23,12 @@ use Rattle.theory.proofs.Terms.{doubled-well-formed}
 use Rattle.theory.proofs.Invariant.{WellFormedGraph, Invariant, grew, queue, front-below, visited-at, visited-other, waiting-next, was-visited}
 use Rattle.theory.proofs.Ends.{RuleState, rule-keeps}
 use Rattle.theory.proofs.Push.{differ, alike, no-differ, pulled-next, pulled-same, changed-front, changed-other}
-use Rattle.statements.specs.contracts.Layout.{queueAt, enteredRowAt, waitingAt, visitedAt, grownAt, maskRowAt, areaEnd}
+use Rattle.statements.specs.contracts.Layout.{queueAt, enteredRowAt, areaEnd}
 use Rattle.statements.specs.contracts.Ready.{Keeps}
 use Rattle.statements.proofs.Keeps.{keeps-set, keeps-trans, keeps-widen}
 use Rattle.calls.specs.contracts.Held.{EmptyEntered}
 use Rattle.solve.specs.declared.Queue.{Queue}
+use Rattle.solve.specs.contracts.Layout.{waitingAt, visitedAt, grownAt, maskRowAt}
 use Rattle.solve.specs.contracts.Waiting.{Waits, Taken, KeepsRest, restOf}
 use Rattle.solve.specs.contracts.Pushed.{masksAt}
 use Rattle.solve.proofs.Waiting.{rest-keeps, waits-kept}

@@ -5,7 +5,6 @@ ghost use mathlib.Core.Path.{_≡_};
 ghost use lib.ListN.{length};
 ghost use Rattle.words.specs.contracts.Change.{zeroed};
 ghost use Rattle.flow.specs.Format.{flowOf};
-ghost use Rattle.flow.specs.contracts.Answers.{headerOf};
 ghost use Rattle.theory.specs.Live.{liveInWord, liveOutWord};
 ghost use Rattle.statements.specs.contracts.Ready.{Ready};
 ghost use Rattle.dataflow.specs.Promise.{Promise, Door, Written};
@@ -27,12 +26,13 @@ fn summarize(file: &[u8], h: flow::Header, work: &mut [u64])
 
 // The edges of the RETURNs. The queue's words served as a stack, and the row after them was used: both are zeroed for the solver.
 fn link(file: &[u8], h: flow::Header, work: &mut [u64])
-    requires { ⌜ SummariesMade (now file) h (now work) × (h ≡ headerOf (now file)) × (0 < h .statements) ⌝ }
+    requires { ⌜ SummariesMade (now file) h (now work) × (0 < h .statements) ⌝ }
     ensures { λ _. ⌜ SolverStart (now (file .entry)) h (now (work .exit)) ⌝ }
 {
     let n = h.statements;
-    calls::returns::note_returns(file, h, work);
-    words::zero_row(work, layout::queue(n), 3 * n);
+    calls::returns::note_edges(file, h, work);
+    let queue = layout::queue(n);
+    words::zero_row(work, queue, layout::solver(n) - queue);
 }
 
 fn solve_arrays(file: &[u8], h: flow::Header, masks: &mut [u8], work: &mut [u64]) -> u64
@@ -51,8 +51,8 @@ fn solve_names(file: &[u8], n: usize, live_in: &mut [u64], live_out: &mut [u64],
     requires { ⌜ Ready (now file) (now work) n × (0 < n) × (n ≤ length (now «live_in»)) × (n ≤ length (now «live_out»)) ⌝ }
     ensures { λ _. ⌜ Written n (liveInWord (flowOf (now (file .entry)))) (now («live_in» .entry)) (now («live_in» .exit)) × Written n (liveOutWord (flowOf (now (file .entry)))) (now («live_out» .entry)) (now («live_out» .exit)) ⌝ }
 {
-    let matrix = layout::row(n, 0);
-    words::zero_row(work, matrix, layout::visited(n) - matrix);
+    let matrix = layout::matrix(n);
+    words::zero_row(work, matrix, solve::layout::visited(n) - matrix);
     live::live_names(file, work, live_in, live_out, n);
 }
 

@@ -25,6 +25,7 @@ use crate::NO_CONTINUATION;
 use crate::Part;
 use crate::Passed;
 use crate::Refusal;
+use crate::StmtId;
 use crate::bytes::u8_at;
 use crate::bytes::u16_at;
 use crate::bytes::u64_at;
@@ -295,6 +296,7 @@ fn check_statements(file: &[u8]) -> Passed
     let n = u16_at(file, 2);
     let mut p = 8;
     let mut i = 0;
+    // Given out only where the loop is left early, and then set before.
     let mut refusal = Refusal::Record(8);
     'records: while i < n {
         let successors = match check_start(file, p) {
@@ -416,7 +418,7 @@ fn checked(file: &[u8], lines_at: usize, end_at: usize, end: Passed) -> Checked
             statements: u16_at(file, 2),
             arrays: u8_at(file, 4),
             names: u8_at(file, 5),
-            entry: u16_at(file, 6),
+            entry: StmtId(u16_at(file, 6)),
             lines_at,
             lines: (end_at - lines_at) / 6,
         }),

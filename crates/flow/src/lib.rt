@@ -37,6 +37,12 @@ pub struct StmtId(pub usize);
 // A doubled number, from 0 to 2 n - 1: a node of the doubled graph.
 pub struct NodeId(pub usize);
 
+// The two copies of a statement: base 0 and base n.
+pub enum Base {
+    Zero,
+    N,
+}
+
 // Why a flow is refused. A record's place is the offset of its mark, or where that mark should begin.
 pub enum Refusal {
     // The file is over the limit.
@@ -66,7 +72,7 @@ pub struct Header {
     pub statements: usize,
     pub arrays: usize,
     pub names: usize,
-    pub entry: usize,
+    pub entry: StmtId,
     // The place of the first FL record, and how many there are.
     pub lines_at: usize,
     pub lines: usize,

@@ -18,11 +18,12 @@ use Rattle.theory.specs.Body.{successors}
 use Rattle.theory.specs.Queue.{join}
 use Rattle.theory.specs.Live.{bitOf}
 use Rattle.theory.proofs.Enqueue.{join-keeps, join-adds, join-cases}
-use Rattle.statements.specs.contracts.Layout.{rowAt, matrixAt, visitedAt}
+use Rattle.statements.specs.contracts.Layout.{rowAt, matrixAt}
 use Rattle.statements.specs.contracts.Ready.{Keeps}
 use Rattle.statements.proofs.WorkArea.{row-from, row-fits, member-word}
 use Rattle.statements.proofs.Keeps.{keeps-refl, keeps-trans, keeps-widen, keeps-set}
 use Rattle.statements.proofs.Members.{zero-has}
+use Rattle.solve.specs.contracts.Layout.{visitedAt}
 use Rattle.solve.specs.declared.Queue.{Queue}
 use Rattle.solve.specs.contracts.Waiting.{Waits, Enqueued}
 use Rattle.solve.proofs.Waiting.{waits-none, waits-kept, rest-keeps}

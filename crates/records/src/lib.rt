@@ -65,7 +65,7 @@ pub fn reference(file: &[u8], p: usize, k: usize) -> usize
     u8_at(file, references_place(file, p) + 1 + k)
 }
 
-// Array a as a bit of word w: none where it belongs to another word.
+// Array a as a bit of word w: none where it belongs to another word, as it may once sets have more words than one.
 fn bit_in(w: usize, a: usize) -> u64
     ensures { λ r. ⌜ r ≡ bitIn w a ⌝ }
 {

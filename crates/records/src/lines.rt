@@ -42,6 +42,7 @@ pub fn line_entry(file: &[u8], at: usize, n: usize, line: usize) -> LineEntry
     requires { ⌜ FitFile (now file) × ((at ≡ linesPlace (now file)) × (n ≡ lineCount (now file))) ⌝ }
     ensures { λ r. ⌜ r ≡ lineEntryOf (enters (flowOf (now (file .entry))) line) ⌝ }
 {
+    // No file has such a line, but a caller may ask for any; the search is for numbers of 16 bits.
     if 65535 < line {
         return LineEntry::Nothing;
     }

@@ -20,10 +20,10 @@ use Rattle.masks.specs.declared.Effect.{Effect}
 use Rattle.masks.specs.Step.{stepOf}
 use Rattle.masks.proofs.Laws.{step-idem}
 use Rattle.flow.specs.Limits.{maxArrays}
-use Rattle.statements.specs.contracts.Layout.{maskWords}
 use Rattle.statements.specs.contracts.Ready.{Keeps}
 use Rattle.statements.proofs.Keeps.{keeps-refl, keeps-trans, keeps-has, keeps-byte, keeps-rewritten}
 use Rattle.statements.proofs.Members.{first-as, members-none, members-next}
+use Rattle.solve.specs.contracts.Layout.{maskWords}
 use Rattle.solve.specs.contracts.Rows.{RowIs, stepWhere, memberBelow}
 
 pub row-same : (ws : List ℕ) (row : ℕ) → RowIs ws ws row (byteAt ws row)

@@ -15,9 +15,10 @@ use Rattle.theory.specs.Lists.{In, elem, Distinct}
 use Rattle.theory.specs.Queue.{join}
 use Rattle.theory.proofs.Lists.{not-so, elem-In, elem-last, elem-before}
 use Rattle.theory.proofs.Enqueue.{join-distinct, join-cases, distinct-length}
-use Rattle.statements.specs.contracts.Layout.{queueAt, enteredRowAt, waitingAt, visitedAt}
+use Rattle.statements.specs.contracts.Layout.{queueAt, enteredRowAt}
 use Rattle.statements.specs.contracts.Ready.{Keeps}
 use Rattle.solve.specs.declared.Queue.{Queue}
+use Rattle.solve.specs.contracts.Layout.{waitingAt, visitedAt}
 use Rattle.solve.specs.contracts.Waiting.{wrapped, Waits, KeepsRest, Enqueued, restOf, Taken}
 use Rattle.solve.proofs.Wrapped.{wrapped-in, wrapped-lt, wrapped-next, wrapped-apart}
 

@@ -5,9 +5,9 @@ ghost use lib.Dec.{eqb, ltb};
 ghost use lib.ListN.{length};
 ghost use Rattle.words.specs.contracts.Byte.{byteAt};
 ghost use Rattle.flow.specs.Limits.{maxArrays};
-ghost use Rattle.statements.specs.contracts.Layout.{maskWords};
+ghost use Rattle.solve.specs.contracts.Layout.{maskWords};
 ghost use Rattle.solve.specs.contracts.Rows.{RowIs, stepWhere, memberBelow};
-use statements::layout;
+use crate::layout;
 
 pub fn step_at(work: &mut [u64], row: usize, a: usize, effect: masks::Effect)
     requires { ⌜ (row + maskWords ≤ length (now work)) × (a < maxArrays) ⌝ }

@@ -12,6 +12,7 @@ use Rattle.words.specs.contracts.Change.{joined, inserted, rewritten, unioned, 
 use Rattle.words.specs.contracts.Byte.{byteSet}
 use Rattle.words.proofs.Row.{has-cong}
 use Rattle.words.proofs.Rewritten.{length-rewritten, rewritten-other}
+use Rattle.flow.specs.declared.Header.{Header}
 use Rattle.flow.specs.Limits.{maxStatements}
 use Rattle.flow.specs.Flow.{size}
 use Rattle.flow.specs.Format.{flowOf}
@@ -19,7 +20,7 @@ use Rattle.records.proofs.Files.{limited}
 use Rattle.records.proofs.Statements.{size-is}
 use Rattle.theory.specs.contracts.WellFormed.{WellFormed}
 use Rattle.statements.specs.contracts.Layout.{areaEnd}
-use Rattle.statements.specs.contracts.Ready.{Ready, Keeps}
+use Rattle.statements.specs.contracts.Ready.{Ready, Indexed, Keeps}
 use Rattle.statements.proofs.WorkArea.{area-fits}
 use Rattle.statements.proofs.WellFormed.{well-formed}
 
@@ -98,6 +99,9 @@ ready-keeps r k l = record {
   room = let room = r .room in let size = k .size in omega arith;
   offsets = λ i m. k .below _ (omega arith) ∙ r .offsets i m;
 }
+
+pub indexed-keeps : {s ws vs : List ℕ} {h : Header} {lo hi : ℕ} → Indexed s h ws → Keeps lo hi ws vs → h .statements ≤ lo → Indexed s h vs
+indexed-keeps r k l = record { ready = ready-keeps (r .ready) k l; header = r .header }
 
 -- a fit file has few enough statements for the layout, and their parts lie within the area
 

@@ -4,3 +4,4 @@ pub mod ByNumber
 pub mod MembersWord
 pub mod WellFormed
 pub mod Members
+pub mod Copies

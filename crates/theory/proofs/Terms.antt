@@ -9,10 +9,12 @@ use native.Mathlib.Omega.{arith}
 use lib.Bits.{bitOr, or-lt}
 use lib.Dec.{lit<}
 use Rattle.masks.specs.State.{State, holds}
+use Rattle.flow.specs.declared.Base.{Base}
+use Rattle.flow.specs.declared.Base.the-variants.{Zero, N}
 use Rattle.flow.specs.Flow.{Flow, size}
 use Rattle.theory.specs.contracts.WellFormed.{WellFormed}
 use Rattle.theory.specs.Queue.{Arc, Solver, solved, initial, visitBound}
-use Rattle.theory.specs.Doubled.{Base, Edge, at, number, node, edges, edgeEffects, boundary, arcsOf, doubled}
+use Rattle.theory.specs.Doubled.{Edge, at, number, node, edges, edgeEffects, boundary, arcsOf, doubled}
 use Rattle.theory.specs.Masks.{nodeMask, maskOf, visitsOf, BringsTo, copy}
 use Rattle.theory.specs.Runs.{Config, Run, Listed}
 use Rattle.theory.proofs.Lists.{In-map}
@@ -26,7 +28,7 @@ use Rattle.theory.proofs.Term3.{number-below, run-brings}
 pub doubled-well-formed : (f : Flow) → WellFormed f → WellFormedGraph (doubled f)
 unfolding doubled arcsOf boundary
 doubled-well-formed f wf = record {
-  entry = λ h. number-below f (at Base.zero (f .entry)) (wf .entry (omega arith));
+  entry = λ h. number-below f (at Zero (f .entry)) (wf .entry (omega arith));
   target = λ d e m.
       let r = In-map (λ (x : Edge). record { to = number f (x .to); effects = edgeEffects f (node f d .stmt) x }) (edges f (node f d)) m in
       subst (λ (t : ℕ). t < size f + size f) (sym (ap (λ (x : Arc). x .to) (r .2))) (number-below f (r .0 .to) (edge-below f wf (node f d) (r .1)));
@@ -58,7 +60,7 @@ module _ (f : Flow) (wf : WellFormed f) where
   -- every state of a statement's mask is brought by a walk
   pub term-2-sound : {a i : ℕ} {s : State} → holds (maskOf f i a) s ≡ true → BringsTo f a i s
   unfolding maskOf nodeMask
-  term-2-sound {a} {i} {s} h = ⊎-elim (of Base.zero) (of Base.n) (or-held (nodeMask f (number f (at Base.zero i)) a) (nodeMask f (number f (at Base.n i)) a) s h)
+  term-2-sound {a} {i} {s} h = ⊎-elim (of Zero) (of N) (or-held (nodeMask f (number f (at Zero i)) a) (nodeMask f (number f (at N i)) a) s h)
     where
       of : (b : Base) → holds (nodeMask f (number f (at b i)) a) s ≡ true → BringsTo f a i s
       of b k = copy b (solved-brought (doubled f) (doubled-well-formed f wf) (number f (at b i)) a s k)
@@ -69,14 +71,14 @@ module _ (f : Flow) (wf : WellFormed f) where
   term-2-complete {a} {i} {s} h l (copy b w) = join b (solved-holds (doubled f) (doubled-well-formed f wf) (nodes-exist h) l w)
     where
       join : (b : Base) → holds (nodeMask f (number f (at b i)) a) s ≡ true → holds (maskOf f i a) s ≡ true
-      join Base.zero k = or-holds-left (nodeMask f (number f (at Base.zero i)) a) (nodeMask f (number f (at Base.n i)) a) s k
-      join Base.n k = or-holds-right (nodeMask f (number f (at Base.zero i)) a) (nodeMask f (number f (at Base.n i)) a) s k
+      join Zero k = or-holds-left (nodeMask f (number f (at Zero i)) a) (nodeMask f (number f (at N i)) a) s k
+      join N k = or-holds-right (nodeMask f (number f (at Zero i)) a) (nodeMask f (number f (at N i)) a) s k
 
   -- a mask is a union of states, 0 to 7
   pub term-2-below : (i a : ℕ) → maskOf f i a < 8
   unfolding maskOf nodeMask
   term-2-below i a =
-      or-lt 3 (nodeMask f (number f (at Base.zero i)) a) (nodeMask f (number f (at Base.n i)) a) (below Base.zero) (below Base.n)
+      or-lt 3 (nodeMask f (number f (at Zero i)) a) (nodeMask f (number f (at N i)) a) (below Zero) (below N)
     where
       below : (b : Base) → nodeMask f (number f (at b i)) a < 8
       below b = solved-below (doubled f) (doubled-well-formed f wf) (number f (at b i)) a
@@ -84,7 +86,7 @@ module _ (f : Flow) (wf : WellFormed f) where
   -- unreached: 0
   pub term-2-unreached : (i a : ℕ) → ((s : State) → BringsTo f a i s → ⊥) → maskOf f i a ≡ 0
   unfolding maskOf nodeMask
-  term-2-unreached i a h = ap₂ bitOr (none Base.zero) (none Base.n)
+  term-2-unreached i a h = ap₂ bitOr (none Zero) (none N)
     where
       none : (b : Base) → nodeMask f (number f (at b i)) a ≡ 0
       none b = solved-unreached (doubled f) (doubled-well-formed f wf) (number f (at b i)) a (λ s w. h s (copy b w))

@@ -3,16 +3,18 @@
 use Prim.Native.Nat.{ℕ}
 use lib.Bits.{bitOr}
 use Rattle.masks.specs.State.{State}
+use Rattle.flow.specs.declared.Base.{Base}
+use Rattle.flow.specs.declared.Base.the-variants.{Zero, N}
 use Rattle.flow.specs.Flow.{Flow}
 use Rattle.theory.specs.Queue.{solved}
 use Rattle.theory.specs.Walks.{Brings}
-use Rattle.theory.specs.Doubled.{doubled, number, at, Base}
+use Rattle.theory.specs.Doubled.{doubled, number, at}
 
 unfoldable pub nodeMask : Flow → ℕ → ℕ → ℕ
 nodeMask f d a = solved (doubled f) .masks d a
 
 unfoldable pub maskOf : Flow → ℕ → ℕ → ℕ
-maskOf f i a = bitOr (nodeMask f (number f (at Base.zero i)) a) (nodeMask f (number f (at Base.n i)) a)
+maskOf f i a = bitOr (nodeMask f (number f (at Zero i)) a) (nodeMask f (number f (at N i)) a)
 
 unfoldable pub visitsOf : Flow → ℕ
 visitsOf f = solved (doubled f) .visits

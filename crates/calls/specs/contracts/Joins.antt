@@ -13,7 +13,7 @@ use Rattle.flow.specs.Flow.{Flow}
 use Rattle.theory.specs.Lists as lists
 use Rattle.theory.specs.Lists.{In, any, concatMap}
 use Rattle.theory.specs.Body.{kind, continuationOf, isReturn, entered, walked, opaqueCall}
-use Rattle.statements.specs.contracts.Layout.{callsAt, matrixAt, rowAt, enteredRowAt, waitingAt}
+use Rattle.statements.specs.contracts.Layout.{callsAt, matrixAt, rowAt, enteredRowAt, solverAt}
 use Rattle.statements.specs.contracts.Ready.{Keeps}
 use Rattle.calls.specs.contracts.Held.{WalkRow, transparent, opaque}
 
@@ -52,11 +52,11 @@ pub record Summary (f : Flow) (ws : List ℕ) (n c : ℕ) : Type 0 where
 
 -- vs is ws with bs joined to the row of entered statements
 pub record Adds (ws vs : List ℕ) (n : ℕ) (bs : List ℕ) : Type 0 where
-  pub kept : Keeps (enteredRowAt n) (waitingAt n) ws vs
+  pub kept : Keeps (enteredRowAt n) (solverAt n) ws vs
   pub joined : (j : ℕ) → j < n → has vs (enteredRowAt n) j ≡ max (has ws (enteredRowAt n) j) (cond (lists.elem j bs) 1 0)
 
 -- vs is ws with the statements that it enters in the row of each transparent call from lo to below hi; every other row stays
 pub record Notes (f : Flow) (ws vs : List ℕ) (n lo hi : ℕ) : Type 0 where
-  pub kept : Keeps (matrixAt n) (waitingAt n) ws vs
+  pub kept : Keeps (matrixAt n) (solverAt n) ws vs
   pub noted : (c j : ℕ) → lo ≤ c → c < hi → j < n → getD ws (callsAt n + c) 0 ≡ transparent → has vs (rowAt n c) j ≡ cond (lists.elem j (entered f c)) 1 0
   pub others : (e j : ℕ) → e < n → j < n → (lo ≤ e → e < hi → getD ws (callsAt n + e) 0 ≡ transparent → ⊥) → has vs (rowAt n e) j ≡ has ws (rowAt n e) j

@@ -5,10 +5,12 @@ use mathlib.Core.Bool.{false, cond, not, _||_}
 use mathlib.Core.List.{List, [], _∷_, _++_, map}
 use mathlib.Core.Option.{Option, none, some}
 use lib.Dec.{eqb, ltb}
+use Rattle.flow.specs.declared.Base.{Base}
+use Rattle.flow.specs.declared.Base.the-variants.{Zero, N}
 use Rattle.flow.specs.Flow.{Flow, size, enters}
 use Rattle.theory.specs.Lists.{any, elem, concatMap, optionList, upTo}
 use Rattle.theory.specs.Body.{kind, successors, callLines, continuationOf, entered, isReturn, opaqueCall}
-use Rattle.theory.specs.Doubled.{Base, Node, Edge, at, plain, number, sameNode, returnsTo, edgeEffects}
+use Rattle.theory.specs.Doubled.{Node, Edge, at, plain, number, sameNode, returnsTo, edgeEffects}
 use Rattle.theory.specs.Queue.{Arc}
 use Rattle.calls.specs.declared.Edge as E
 
@@ -17,7 +19,7 @@ edgeTo back v = record { to = v; continues = sameNode v back }
 
 abbrev pub ifEntered : Node → Option ℕ → Option Edge
 ifEntered back none = none
-ifEntered back (some e) = some (edgeTo back (at Base.n e))
+ifEntered back (some e) = some (edgeTo back (at N e))
 
 -- the successors of a call with the continuation k, less those that are entered and the continuation
 unfoldable pub otherSlots : Flow → Base → ℕ → ℕ → List (Option Edge)
@@ -30,8 +32,8 @@ callSlots f b i k =
     ++ (some (edgeTo (at b k) (at b k)) ∷ otherSlots f b i k)
 
 unfoldable pub returnSlots : Flow → Base → ℕ → List (Option Edge)
-returnSlots f Base.zero r = map (λ k. cond (any (returnsTo f r k) (upTo (size f))) (some (plain (at Base.zero k))) none) (upTo (size f))
-returnSlots f Base.n r = []
+returnSlots f Zero r = map (λ k. cond (any (returnsTo f r k) (upTo (size f))) (some (plain (at Zero k))) none) (upTo (size f))
+returnSlots f N r = []
 
 unfoldable pub listedSlots : Flow → Base → ℕ → List (Option Edge)
 listedSlots f b i = map (λ j. some (plain (at b j))) (successors f i)
@@ -56,10 +58,6 @@ edgeFrom f (some x ∷ xs) c = E.the-variants.To (record { 0 = number f (x .to) 
 -- the arc of the doubled graph that an edge of statement i is
 abbrev pub toArc : Flow → ℕ → Edge → Arc
 toArc f i x = record { to = number f (x .to); effects = edgeEffects f i x }
-
--- the copy whose numbers begin at base: 0 or n
-abbrev pub copyOf : ℕ → Base
-copyOf base = cond (eqb base 0) Base.zero Base.n
 
 -- the edge of a RETURN to k, the next member of its row of n numbers
 abbrev pub memberEdge : ℕ → ℕ → E.Edge

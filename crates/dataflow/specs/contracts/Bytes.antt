@@ -6,7 +6,7 @@ use lib.Bits.{bitOr}
 use lib.ListN.{getD}
 use Rattle.words.specs.contracts.Byte.{byteAt}
 use Rattle.words.specs.contracts.Change.{noted}
-use Rattle.statements.specs.contracts.Layout.{maskRowAt}
+use Rattle.solve.specs.contracts.Layout.{maskRowAt}
 
 -- the mask of array a at statement i: the union over its two rows
 unfoldable pub bothCopies : List ℕ → ℕ → ℕ → ℕ → ℕ

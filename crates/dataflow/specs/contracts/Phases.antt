@@ -12,7 +12,7 @@ use Rattle.flow.specs.contracts.Answers.{headerOf}
 use Rattle.theory.specs.Masks.{maskOf, visitsOf}
 use Rattle.theory.specs.Live.{liveInWord, liveOutWord}
 use Rattle.statements.specs.contracts.Layout.{queueAt, enteredRowAt, areaEnd}
-use Rattle.statements.specs.contracts.Ready.{Ready}
+use Rattle.statements.specs.contracts.Ready.{Ready, Indexed}
 use Rattle.flow.specs.Format.{flowOf}
 use Rattle.calls.specs.contracts.Held.{Summarized, Linked}
 use Rattle.dataflow.specs.Promise.{Written}
@@ -42,14 +42,13 @@ pub record Findings (f : Flow) (masks masks′ liveIn liveIn′ liveOut liveOut�
 
 -- the calls have their summaries, and the solver's words are still zero
 pub record SummariesMade (s : List ℕ) (h : Header) (ws : List ℕ) : Type 0 where
-  pub ready : Ready s ws (h .statements)
+  pub indexed : Indexed s h ws
   pub summarized : Summarized (flowOf s) ws (h .statements)
   pub zero : (x : ℕ) → enteredRowAt (h .statements) ≤ x → x < areaEnd (h .statements) → getD ws x 0 ≡ 0
 
 -- what the forward solver starts from: the edges are known, and its words are zero
 pub record SolverStart (s : List ℕ) (h : Header) (ws : List ℕ) : Type 0 where
-  pub ready : Ready s ws (h .statements)
-  pub header : h ≡ headerOf s
+  pub indexed : Indexed s h ws
   pub linked : Linked (flowOf s) ws (h .statements)
   pub some : 0 < h .statements
   pub zero : (x : ℕ) → queueAt (h .statements) ≤ x → x < areaEnd (h .statements) → getD ws x 0 ≡ 0

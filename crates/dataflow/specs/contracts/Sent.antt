@@ -7,27 +7,29 @@ use mathlib.Core.Path.{_≡_}
 use lib.Bits.{bitOr}
 use lib.Dec.{eqb, ltb}
 use lib.ListN.{getD}
+use Rattle.words.specs.contracts.Byte.{byteAt}
 use Rattle.flow.specs.Flow.{Flow}
 use Rattle.flow.specs.Limits.{maxArrays}
 use Rattle.theory.specs.Doubled.{Edge, node, number, doubled}
 use Rattle.theory.specs.Queue.{enqueue, brings}
 use Rattle.theory.proofs.Push.{differ}
-use Rattle.statements.specs.contracts.Layout.{queueAt, enteredRowAt, waitingAt, visitedAt, grownAt, areaEnd}
+use Rattle.statements.specs.contracts.Layout.{queueAt, enteredRowAt, areaEnd}
 use Rattle.statements.specs.contracts.Ready.{Keeps}
 use Rattle.calls.specs.contracts.Held.{EmptyEntered}
 use Rattle.calls.specs.contracts.Slots.{slots, present}
 use Rattle.solve.specs.declared.Queue.{Queue}
+use Rattle.solve.specs.contracts.Layout.{waitingAt, visitedAt, grownAt, outRow, backRow}
 use Rattle.solve.specs.contracts.Waiting.{Waits}
 use Rattle.solve.specs.contracts.Pushed.{masksAt}
 
--- the row of an edge: that of the statement's act, or the one with the touched step as well
+-- where the row of an edge stands: that of the statement's act, or the one with the touched step as well
 abbrev pub edgeRow : ℕ → Bool → ℕ
-edgeRow n continues = cond continues (2 * n + 1) (2 * n)
+edgeRow n continues = cond continues (backRow n) (outRow n)
 
 -- what the rows of the edges bring to t
 unfoldable pub carried : Flow → List ℕ → ℕ → List Edge → ℕ → ℕ → ℕ
 carried f ws n [] t a = 0
-carried f ws n (x ∷ xs) t a = bitOr (cond (eqb (number f (x .to)) t) (masksAt ws n (edgeRow n (x .continues)) a) 0) (carried f ws n xs t a)
+carried f ws n (x ∷ xs) t a = bitOr (cond (eqb (number f (x .to)) t) (byteAt ws (edgeRow n (x .continues)) a) 0) (carried f ws n xs t a)
 
 -- a number's word says 1 where its masks grew, and else what it said
 abbrev pub GrownWords : ℕ → List ℕ → List ℕ → Type 0

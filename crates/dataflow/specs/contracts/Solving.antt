@@ -11,10 +11,11 @@ use Rattle.theory.specs.Doubled.{doubled}
 use Rattle.theory.specs.Queue.{Solver, pulled, changed, visit}
 use Rattle.theory.specs.Masks.{nodeMask, visitsOf}
 use Rattle.theory.proofs.Ends.{RuleState}
-use Rattle.statements.specs.contracts.Layout.{queueAt, visitedAt, grownAt, areaEnd}
+use Rattle.statements.specs.contracts.Layout.{queueAt, areaEnd}
 use Rattle.statements.specs.contracts.Ready.{Keeps}
 use Rattle.calls.specs.contracts.Held.{EmptyEntered}
 use Rattle.solve.specs.declared.Queue.{Queue}
+use Rattle.solve.specs.contracts.Layout.{visitedAt, grownAt}
 use Rattle.solve.specs.contracts.Waiting.{Waits}
 use Rattle.solve.specs.contracts.Pushed.{masksAt}
 use Rattle.dataflow.specs.contracts.Sent.{masksBelow}

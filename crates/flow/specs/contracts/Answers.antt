@@ -18,7 +18,7 @@ headerOf s = record {
   statements = statementsOf s;
   arrays = arraysOf s;
   names = namesOf s;
-  entry = entryOf s;
+  entry = record { 0 = entryOf s };
   «lines_at» = linesPlace s;
   lines = lineCount s;
 }

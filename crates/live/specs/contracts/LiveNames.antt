@@ -6,9 +6,10 @@ use mathlib.Core.Path.{_≡_}
 use lib.ListN.{length, getD}
 use Rattle.flow.specs.Flow.{Flow}
 use Rattle.theory.specs.Live.{liveInWord, liveOutWord}
-use Rattle.statements.specs.contracts.Layout.{matrixAt, visitedAt}
+use Rattle.statements.specs.contracts.Layout.{matrixAt}
 use Rattle.statements.specs.contracts.Ready.{Ready, Keeps}
 use Rattle.solve.specs.declared.Queue.{Queue}
+use Rattle.solve.specs.contracts.Layout.{visitedAt}
 use Rattle.live.specs.contracts.Predecessors.{Predecessors}
 use Rattle.live.specs.contracts.Solving.{Held}
 

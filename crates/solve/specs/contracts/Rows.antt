@@ -10,8 +10,8 @@ use Rattle.words.specs.contracts.Byte.{byteAt}
 use Rattle.masks.specs.declared.Effect.{Effect}
 use Rattle.masks.specs.Step.{stepOf}
 use Rattle.flow.specs.Limits.{maxArrays}
-use Rattle.statements.specs.contracts.Layout.{maskWords}
 use Rattle.statements.specs.contracts.Ready.{Keeps}
+use Rattle.solve.specs.contracts.Layout.{maskWords}
 
 -- vs is ws with the masks m in the row at `row`
 pub record RowIs (ws vs : List ℕ) (row : ℕ) (m : ℕ → ℕ) : Type 0 where

@@ -8,7 +8,8 @@ use lib.Dec.{ltb}
 use lib.ListN.{length, getD}
 use Rattle.theory.specs.Lists.{In, elem, Distinct}
 use Rattle.theory.specs.Queue.{join}
-use Rattle.statements.specs.contracts.Layout.{queueAt, enteredRowAt, waitingAt, visitedAt}
+use Rattle.statements.specs.contracts.Layout.{queueAt, enteredRowAt}
+use Rattle.solve.specs.contracts.Layout.{waitingAt, visitedAt}
 use Rattle.solve.specs.declared.Queue.{Queue}
 
 -- the place i of a ring, where i has gone past its end at most once

@@ -1,9 +1,7 @@
--- The work area of a flow of n statements: offsets, calls, bodies, the matrix of statement sets, the queue, and the solvers' words. The matrix has n rows of
--- `rowWords n` words; every part fits into 64 × n words. Each phase writes one run of words, so that what it keeps is an interval.
+-- The work area of a flow of n statements: offsets, calls, bodies, the matrix of statement sets, the queue, the row of entered statements, and the words of the
+-- solver, whose layout is crate solve's. The matrix has n rows of `rowWords n` words; all fits into 64 × n words. Each phase writes one run of words, so that
+-- what it keeps is an interval.
 use Prim.Native.Nat.{ℕ, _+_, _*_, _/_}
-
-abbrev pub maskWords : ℕ
-maskWords = 8
 
 abbrev pub offsetsAt : ℕ → ℕ
 offsetsAt n = 0
@@ -27,38 +25,28 @@ matrixAt n = 5 * n
 unfoldable pub rowWords : ℕ → ℕ
 rowWords n = (n + 63) / 64
 
--- row i of the matrix. Its laws are in proofs/WorkArea: a row lies in the matrix, and two rows are apart
-unfoldable pub rowAt : ℕ → ℕ → ℕ
-rowAt n i = matrixAt n + rowWords n * i
+-- where the first k rows of the matrix end. The laws of rows are in proofs/WorkArea: a row lies in the matrix, and two rows are apart
+unfoldable pub rowsEnd : ℕ → ℕ → ℕ
+rowsEnd n k = matrixAt n + rowWords n * k
+
+-- row i of the matrix stands behind the i rows before it, and the queue behind all of them
+
+abbrev pub rowAt : ℕ → ℕ → ℕ
+rowAt n i = rowsEnd n i
 
 abbrev pub queueAt : ℕ → ℕ
-queueAt n = rowAt n n
+queueAt n = rowsEnd n n
 
 abbrev pub enteredRowAt : ℕ → ℕ
 enteredRowAt n = queueAt n + 2 * n
 
-abbrev pub waitingAt : ℕ → ℕ
-waitingAt n = queueAt n + 3 * n
+-- where the solver's words begin, and how many there are
+abbrev pub solverAt : ℕ → ℕ
+solverAt n = queueAt n + 3 * n
 
-abbrev pub visitedAt : ℕ → ℕ
-visitedAt n = queueAt n + 5 * n
-
-abbrev pub grownAt : ℕ → ℕ
-grownAt n = queueAt n + 7 * n
-
--- the last row of masks: those of the doubled numbers, then the two for the edges of the statement at hand
-abbrev pub maskRows : ℕ → ℕ
-maskRows n = 2 * n + 1
-
-abbrev pub maskRowAt : ℕ → ℕ → ℕ
-maskRowAt n d = queueAt n + 9 * n + maskWords * d
-
-abbrev pub outRow : ℕ → ℕ
-outRow n = maskRowAt n (2 * n)
-
-abbrev pub backRow : ℕ → ℕ
-backRow n = maskRowAt n (2 * n + 1)
+abbrev pub solverWords : ℕ → ℕ
+solverWords n = 22 * n + 16
 
 -- the words that are used
 abbrev pub areaEnd : ℕ → ℕ
-areaEnd n = maskRowAt n (2 * n + 2)
+areaEnd n = solverAt n + solverWords n

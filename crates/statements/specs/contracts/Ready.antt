@@ -6,14 +6,16 @@ use mathlib.Core.Path.{_≡_}
 use mathlib.Core.Bool.{Bool, cond, _||_}
 use lib.Dec.{eqb}
 use lib.ListN.{length, getD}
+use Rattle.flow.specs.declared.Header.{Header}
+use Rattle.flow.specs.contracts.Answers.{headerOf}
 use Rattle.flow.specs.Flow.{Item, statement, items}
 use Rattle.words.specs.contracts.Row.{bit}
 use Rattle.flow.specs.Limits.{workWords}
-use Rattle.flow.specs.Format.{flowOf, tabulate, statementsOf, recordPlace, kindAt, successorCount, successorAt, referenceCount, referenceAt, writtenAt, readAt, itemAt}
+use Rattle.flow.specs.Format.{flowOf, tabulate, statementsOf, recordPlace, kindReturn, kindClr, kindRun, kindAt, successorCount, successorAt, referenceCount, referenceAt, writtenAt, readAt, itemAt}
 use Rattle.flow.specs.contracts.Answers.{FitFile, FitRecord}
 use Rattle.records.specs.contracts.Fields.{itemCount, callLineCount, callLineAt, continuationIn}
 use Rattle.theory.specs.Body.{kind, successors, references, callLines, continuationOf, isReturn}
-use Rattle.theory.specs.Runs.{empties}
+use Rattle.theory.specs.Doubled.{resets}
 use Rattle.statements.specs.contracts.Layout.{offsetsAt}
 
 pub record Ready (s ws : List ℕ) (n : ℕ) : Type 0 where
@@ -21,6 +23,11 @@ pub record Ready (s ws : List ℕ) (n : ℕ) : Type 0 where
   pub count : n ≡ statementsOf s
   pub room : workWords n ≤ length ws
   pub offsets : (i : ℕ) → i < n → getD ws (offsetsAt n + i) 0 ≡ recordPlace s i
+
+-- the file is fit, the places of its records are noted, and h is its header
+pub record Indexed (s : List ℕ) (h : Header) (ws : List ℕ) : Type 0 where
+  pub ready : Ready s ws (h .statements)
+  pub header : h ≡ headerOf s
 
 -- the elements of l are f 0, f 1, .. of n elements
 pub record Elements {A : Type 0} (l : List A) (n : ℕ) (f : ℕ → A) : Type 0 where
@@ -32,8 +39,8 @@ pub record Elements {A : Type 0} (l : List A) (n : ℕ) (f : ℕ → A) : Type 0
 pub record RecordOf (s : List ℕ) (i p : ℕ) : Type 0 where
   pub place : p ≡ recordPlace s i
   pub fit : FitRecord s p
-  pub return : eqb (kindAt s p) 1 ≡ isReturn (kind (flowOf s) i)
-  pub empties : (eqb (kindAt s p) 2 || eqb (kindAt s p) 3) ≡ empties (kind (flowOf s) i)
+  pub return : eqb (kindAt s p) kindReturn ≡ isReturn (kind (flowOf s) i)
+  pub resets : (eqb (kindAt s p) kindClr || eqb (kindAt s p) kindRun) ≡ resets (kind (flowOf s) i)
   pub successors : Elements (successors (flowOf s) i) (successorCount s p) (successorAt s p)
   pub references : Elements (references (flowOf s) i) (referenceCount s p) (referenceAt s p)
   pub written : statement (flowOf s) i .written ≡ writtenAt s p

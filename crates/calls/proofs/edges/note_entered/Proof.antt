@@ -9,7 +9,7 @@ use borrow.Author.Needs.{needs}
 use denote.Ref.{now}
 use Rattle.flow.specs.Format.{flowOf}
 use Rattle.theory.specs.Body.{entered}
-use Rattle.statements.specs.contracts.Layout.{rowAt, rowWords, enteredRowAt, waitingAt}
+use Rattle.statements.specs.contracts.Layout.{rowAt, rowWords, enteredRowAt, solverAt}
 use Rattle.statements.specs.contracts.Ready.{Keeps}
 use Rattle.statements.proofs.WorkArea.{row-fits, row-words-le}
 use Rattle.statements.proofs.Keeps.{keeps-unioned, ready-most, ready-room}
@@ -51,11 +51,11 @@ returns c =
     let joined = union-at (c .before .before .before .before .entered-row .ensures) (c .before .before .before .before .before .before .row .ensures) (c .before .before .before .row-words .ensures) (c .before .before .union .ensures) in (
       record {
         row = λ k e o. adds-all (p .3)
-            (adds-union (entered (flowOf (now (a .file))) (a .i)) joined (p .2) (entered-room (p .0) (p .2))
-            (λ j l. p .1 .bodies (a .i) j (p .2) l (p .1 .calls .call (a .i) k (p .2) e ∙ ap (λ (b : Bool). cond b opaque transparent) o)));
+            (adds-union (entered (flowOf (now (a .file))) (a .i .0)) joined (p .2) (entered-room (p .0) (p .2))
+            (λ j l. p .1 .bodies (a .i .0) j (p .2) l (p .1 .calls .call (a .i .0) k (p .2) e ∙ ap (λ (b : Bool). cond b opaque transparent) o)));
       },
-      subst (λ (us : List ℕ). Keeps (enteredRowAt n) (waitingAt n) ws us) (sym (joined .slice))
-          (keeps-unioned ws (enteredRowAt n) (rowAt n (a .i)) (rowWords n) (omega arith) (omega (arith, row-words-le n))),
+      subst (λ (us : List ℕ). Keeps (enteredRowAt n) (solverAt n) ws us) (sym (joined .slice))
+          (keeps-unioned ws (enteredRowAt n) (rowAt n (a .i .0)) (rowWords n) (omega arith) (omega (arith, row-words-le n))),
     )
 
 pub note-entered-spec : {M : Type 1} → statement M

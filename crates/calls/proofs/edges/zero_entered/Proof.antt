@@ -10,7 +10,7 @@ use lib.ListN.{length}
 use Rattle.words.specs.contracts.Row.{has}
 use Rattle.words.specs.contracts.Change.{zeroed}
 use Rattle.words.proofs.Zeroed.{zeroed-has}
-use Rattle.statements.specs.contracts.Layout.{rowWords, enteredRowAt, waitingAt}
+use Rattle.statements.specs.contracts.Layout.{rowWords, enteredRowAt, solverAt}
 use Rattle.statements.specs.contracts.Ready.{Keeps}
 use Rattle.statements.proofs.WorkArea.{area-fits, row-holds, row-words-le}
 use Rattle.statements.proofs.Keeps.{keeps-zeroed}
@@ -41,7 +41,7 @@ returns c =
     c .before .before .zero-row .ensures ∙ ap₂ (λ (b w : ℕ). zeroed ws b w) (c .before .before .before .before .entered-row .ensures) (c .before .before .before .row-words .ensures)
     in (
       λ j l. ap (λ (vs : List ℕ). has vs (enteredRowAt n) j) slice ∙ zeroed-has ws (enteredRowAt n) (rowWords n) (fits start) j (omega (arith, row-holds n)),
-      subst (λ (vs : List ℕ). Keeps (enteredRowAt n) (waitingAt n) ws vs) (sym slice) (keeps-zeroed ws (enteredRowAt n) (rowWords n) (omega arith) (omega (arith, row-words-le n))),
+      subst (λ (vs : List ℕ). Keeps (enteredRowAt n) (solverAt n) ws vs) (sym slice) (keeps-zeroed ws (enteredRowAt n) (rowWords n) (omega arith) (omega (arith, row-words-le n))),
     )
 
 pub zero-entered-spec : {M : Type 1} → statement M

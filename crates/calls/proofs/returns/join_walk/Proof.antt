@@ -56,9 +56,9 @@ returns c =
     let a = start .args in
     let ready = start .pre .0 in
     let f = flowOf (now (a .file)) in
-    let inside : a .e < size f = let z = ready-size ready in omega arith in
+    let inside : a .e .0 < size f = let z = ready-size ready in omega arith in
     adds-same
-    (adds-insert (subst (λ (at : ℕ). Inserted (now (a .work)) (c .before .before .insert .last .0) at (a .e) (c .before .before .insert .result)) (c .before .before .before .entered-row .ensures) (c .before .before .insert .ensures))
+    (adds-insert (subst (λ (at : ℕ). Inserted (now (a .work)) (c .before .before .insert .last .0) at (a .e .0) (c .before .before .insert .result)) (c .before .before .before .entered-row .ensures) (c .before .before .insert .ensures))
     (start .pre .1) (entered-room ready (start .pre .1)))
     (return-walk (ready-formed ready) inside (sym (c .before .before .before .before .before .before .is-return .ensures) ∙ c .before .before .before .before .before .if1 .taken))
 
@@ -71,7 +71,7 @@ returns-2 c =
     let a = start .args in
     let ready = start .pre .0 in
     let joined = union-at (c .before .before .before .before .before .entered-row2 .ensures) (c .before .before .before .before .row .ensures) (c .before .before .before .row-words .ensures) (c .before .before .union .ensures) in
-    adds-union (walked (flowOf (now (a .file))) (a .e)) joined (start .pre .1) (entered-room ready (start .pre .1))
+    adds-union (walked (flowOf (now (a .file))) (a .e .0)) joined (start .pre .1) (entered-room ready (start .pre .1))
     (row-walked (ready-formed ready) (ready-size ready) (start .pre .1) (start .pre .2 (sym (c .before .before .before .before .before .before .before .before .is-return .ensures) ∙ c .before .before .before .before .before .before .before .if1 .left)))
 
 pub join-walk-spec : {M : Type 1} → statement M

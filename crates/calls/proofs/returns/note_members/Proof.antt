@@ -15,7 +15,7 @@ use Rattle.calls.proofs.returns.note_members.Statement.{statement}
 use Rattle.calls.proofs.returns.note_members.Tie as tie
 
 abbrev Inv-loop : tie.InvT-loop
-Inv-loop file work₀ n k row r₀ work r = Noting (flowOf file) work₀ work n k r
+Inv-loop file work₀ n k row r₀ work r = Noting (flowOf file) work₀ work n (k .0) r
 
 abbrev μ-loop : tie.MeasureT-loop
 μ-loop file work₀ n k row r₀ work r = n - r
@@ -31,9 +31,9 @@ loop-holds c =
     let start = c .before .before .before .before .before in
     let a = start .args in
     let ws = now (a .work) in
-    subst (λ (x : ℕ). Noting (flowOf (now (a .file))) ws ws (a .n) (a .k) x)
+    subst (λ (x : ℕ). Noting (flowOf (now (a .file))) ws ws (a .n) (a .k .0) x)
     (sym (c .next .ensures ∙ ap (λ (b : ℕ). nextMember ws b 0 (a .n)) (c .before .before .entered-row .ensures)))
-    (noting-start (a .k))
+    (noting-start (a .k .0))
 
 -- the places stay noted in a turn
 ready : (c : tie.In-loop Inv-loop μ-loop) → let a = c .before .before .before .before .before .before .before .args in Ready (now (a .file)) (c .before .loop .work) (a .n)
@@ -63,9 +63,9 @@ loop-again c =
     let a = start .args in
     let vs = c .before .before .before .before .note-return .last .1 .0 in
     let r = c .before .before .before .before .before .before .before .loop .r in
-    subst (λ (x : ℕ). Noting (flowOf (now (a .file))) (now (a .work)) vs (a .n) (a .k) x)
+    subst (λ (x : ℕ). Noting (flowOf (now (a .file))) (now (a .work)) vs (a .n) (a .k .0) x)
     (sym (c .next2 .ensures ∙ ap (λ (b : ℕ). nextMember vs b (r + 1) (a .n)) (c .before .before .before .before .before .before .before .before .before .before .entered-row .ensures)))
-    (noting-on (a .k) (c .before .before .before .before .before .before .before .loop .inv) (c .before .before .before .before .before .before .loop-test .taken) (c .before .before .before .before .note-return .ensures))
+    (noting-on (a .k .0) (c .before .before .before .before .before .before .before .loop .inv) (c .before .before .before .before .before .before .loop-test .taken) (c .before .before .before .before .note-return .ensures))
 
 same-length : tie.Need-same-length Inv-loop μ-loop
 same-length c = c .before .loop .inv .joins .kept .size

@@ -35,7 +35,7 @@ module _ (c : tie.After-queue) where
   abbrev row : tie.After-row
   row = c .before .before .before .before .before
 
-  inserted : Inserted (now (start .args .work)) (c .before .before .before .before .insert .last .0) (row .row .result) (start .args .i) (c .before .before .before .before .insert .result)
+  inserted : Inserted (now (start .args .work)) (c .before .before .before .before .insert .last .0) (row .row .result) (start .args .i .0) (c .before .before .before .before .insert .result)
   inserted = c .before .before .before .before .insert .ensures
 
   is-new : c .before .before .before .before .insert .result ≡ true

@@ -16,12 +16,12 @@ use Rattle.calls.proofs.walk.walk.Statement.{statement}
 use Rattle.calls.proofs.walk.walk.Tie as tie
 
 abbrev Inv-loop : tie.InvT-loop
-Inv-loop file work₀ n e top₀ work top = Walking (flowOf file) work₀ work n e top
+Inv-loop file work₀ n e top₀ work top = Walking (flowOf file) work₀ work n (e .0) top
 
 abbrev μ-loop : tie.MeasureT-loop
-μ-loop file work₀ n e top₀ work top = left work n e top
+μ-loop file work₀ n e top₀ work top = left work n (e .0) top
 
-empty-stack : (c : tie.Start Inv-loop μ-loop) → Stack (now (c .args .work)) (c .args .n) (c .args .e) 0
+empty-stack : (c : tie.Start Inv-loop μ-loop) → Stack (now (c .args .work)) (c .args .n) (c .args .e .0) 0
 empty-stack c = record { area = record { few = ready-most (c .pre .0); room = c .pre .0 .room }; high = zero-le }
 
 meet-requires : tie.Need-meet-requires Inv-loop μ-loop

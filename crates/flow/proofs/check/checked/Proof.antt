@@ -58,8 +58,8 @@ u8-at-requires-2 c κs = omega (arith, within (c .before .before))
 u16-at-requires-2 : tie.Need-u16-at-requires-2
 u16-at-requires-2 c κs = omega (arith, within (c .before .before .before))
 
-sub-t11 : tie.Need-sub-t11
-sub-t11 c = omega (arith, from (c .before .before .before .before), to (c .before .before .before .before))
+sub-t12 : tie.Need-sub-t12
+sub-t12 c = omega (arith, from (c .before .before .before .before), to (c .before .before .before .before))
 
 returns : tie.Need-returns
 returns c =
@@ -75,7 +75,7 @@ returns-2 c =
       statements = c .before .before .before .u16-at .ensures i;
       arrays = c .before .before .u8-at .ensures i;
       names = c .before .u8-at2 .ensures i;
-      entry = c .u16-at2 .ensures i;
+      entry = record { 0 = c .u16-at2 .ensures i };
       «lines_at» = from told i;
       lines = counted i;
     } in
@@ -91,6 +91,6 @@ checked-spec =
     u8-at-requires
     u8-at-requires-2
     u16-at-requires-2
-    sub-t11
+    sub-t12
     returns
     returns-2)

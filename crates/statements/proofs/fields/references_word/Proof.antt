@@ -22,7 +22,7 @@ returns : tie.Need-returns
 returns c = let start = c .before .before .before .before in
     let s = now (start .args .file) in
     let p = c .before .offset .result in
-    subst (λ w. MembersWord w (λ a. elem a (references (flowOf s) (start .args .i)))) (sym (c .references-word .ensures))
+    subst (λ w. MembersWord w (λ a. elem a (references (flowOf s) (start .args .i .0)))) (sym (c .references-word .ensures))
     (subst (λ l. MembersWord (setWord (referenceCount s p) (referenceAt s p) 0) (λ a. elem a l)) (sym (c .before .offset .ensures .references .list))
     (members-word (referenceAt s p) (referenceCount s p)))
 

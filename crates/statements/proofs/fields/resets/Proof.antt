@@ -8,7 +8,7 @@ use borrow.Author.Tests.{ne-eqb}
 use lib.Dec.{eqb}
 use Rattle.flow.specs.Format.{flowOf}
 use Rattle.theory.specs.Body.{kind}
-use Rattle.theory.specs.Runs.{empties}
+use Rattle.theory.specs.Doubled.{resets}
 use Rattle.statements.proofs.fields.resets.Statement.{statement}
 use Rattle.statements.proofs.fields.resets.Tie as tie
 
@@ -20,8 +20,8 @@ kind-requires c κs = search needs
 
 number : (c : tie.After-kind)
     → (eqb (c .kind .result) 2 || eqb (c .kind .result) 3)
-    ≡ empties (kind (flowOf (now (c .before .before .before .before .args .file))) (c .before .before .before .before .args .i))
-number c = ap (λ x. eqb x 2 || eqb x 3) (c .kind .ensures) ∙ c .before .offset .ensures .empties
+    ≡ resets (kind (flowOf (now (c .before .before .before .before .args .file))) (c .before .before .before .before .args .i .0))
+number c = ap (λ x. eqb x 2 || eqb x 3) (c .kind .ensures) ∙ c .before .offset .ensures .resets
 
 returns : tie.Need-returns
 returns c = let first : eqb (c .before .kind .result) 2 ≡ (eqb (c .before .kind .result) 2 || eqb (c .before .kind .result) 3) = rw (c .if1 .taken) in

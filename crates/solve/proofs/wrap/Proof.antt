@@ -1,9 +1,9 @@
--- `solve::ring::wrap` meets its contract: the test picks the place.
+-- `solve::wrap` meets its contract: the test picks the place.
 -- Assumes nothing.
 use mathlib.Core.Path.{sym}
 use Rattle.solve.proofs.Wrapped.{wrapped-in, wrapped-past}
-use Rattle.solve.proofs.ring.wrap.Statement.{statement}
-use Rattle.solve.proofs.ring.wrap.Tie as tie
+use Rattle.solve.proofs.wrap.Statement.{statement}
+use Rattle.solve.proofs.wrap.Tie as tie
 
 returns : tie.Need-returns
 returns c = sym (wrapped-in (c .if1 .taken))

@@ -1,11 +1,11 @@
--- `solve::ring::rest` meets its contract: the next place, and one number less.
+-- `solve::rest` meets its contract: the next place, and one number less.
 -- Assumes nothing.
 use Prim.Native.Nat.{_-_}
 use mathlib.Core.Path.{ap}
 use borrow.Author.Needs.{needs}
 use Rattle.solve.specs.declared.Queue.{Queue}
-use Rattle.solve.proofs.ring.rest.Statement.{statement}
-use Rattle.solve.proofs.ring.rest.Tie as tie
+use Rattle.solve.proofs.rest.Statement.{statement}
+use Rattle.solve.proofs.rest.Tie as tie
 
 add-wrap : tie.Need-add-wrap
 add-wrap c = search needs

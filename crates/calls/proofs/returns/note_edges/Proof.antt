@@ -1,4 +1,4 @@
--- `note_returns` meets its contract. The invariant, `Calling`: the RETURNs go where the calls before c make them go.
+-- `note_edges` meets its contract. The invariant, `Calling`: the RETURNs go where the calls before c make them go.
 -- The measure is how many statements are left. Then the transparent calls' rows are noted, and no RETURN's row is one of them. Assumes nothing.
 use Prim.Native.Nat.{ℕ, _-_}
 use mathlib.Core.Path.{_≡_, _∙_, subst}
@@ -7,12 +7,12 @@ use denote.Ref.{now}
 use Rattle.flow.specs.Format.{flowOf}
 use Rattle.theory.specs.Lists.{any, upTo}
 use Rattle.theory.specs.Doubled.{returnsTo}
-use Rattle.statements.specs.contracts.Layout.{waitingAt}
-use Rattle.statements.proofs.Keeps.{keeps-trans, ready-keeps, ready-formed, ready-size}
+use Rattle.statements.specs.contracts.Layout.{solverAt}
+use Rattle.statements.proofs.Keeps.{keeps-trans, indexed-keeps, ready-formed, ready-size}
 use Rattle.calls.specs.contracts.Joins.{Joins}
 use Rattle.calls.proofs.Gathered.{Calling, calling-start, calling-on, summary-kept, linked}
-use Rattle.calls.proofs.returns.note_returns.Statement.{statement}
-use Rattle.calls.proofs.returns.note_returns.Tie as tie
+use Rattle.calls.proofs.returns.note_edges.Statement.{statement}
+use Rattle.calls.proofs.returns.note_edges.Tie as tie
 
 abbrev Inv-loop : tie.InvT-loop
 Inv-loop file h work₀ n c₀ work c = Calling (flowOf file) work₀ work n c
@@ -27,10 +27,9 @@ note-call-requires : tie.Need-note-call-requires Inv-loop μ-loop
 note-call-requires c κs =
     let p = c .before .before .before .before .before .pre in
     let joins = c .before .before .loop .inv .joins in (
-      ready-keeps (p .0) (joins .kept) (omega arith),
-      p .1,
+      indexed-keeps (p .0) (joins .kept) (omega arith),
       c .before .loop-test .taken,
-      summary-kept (ready-formed (p .0)) (ready-size (p .0)) (p .2) joins (c .before .loop-test .taken),
+      summary-kept (ready-formed (p .0 .ready)) (ready-size (p .0 .ready)) (p .1) joins (c .before .loop-test .taken),
     )
 
 add-c : tie.Need-add-c Inv-loop μ-loop
@@ -43,7 +42,7 @@ loop-again : tie.Need-loop-again Inv-loop μ-loop
 loop-again c = calling-on (c .before .before .before .before .before .loop .inv) (c .before .before .before .before .loop-test .taken) (c .before .before .note-call .ensures)
 
 note-rows-requires : tie.Need-note-rows-requires Inv-loop μ-loop
-note-rows-requires c κs = let p = c .before .before .before .before .before .pre in (ready-keeps (p .0) (c .before .before .loop .inv .joins .kept) (omega arith), p .1)
+note-rows-requires c κs = let p = c .before .before .before .before .before .pre in (indexed-keeps (p .0) (c .before .before .loop .inv .joins .kept) (omega arith))
 
 same-length : tie.Need-same-length Inv-loop μ-loop
 same-length c = c .before .before .note-rows .ensures .kept .size ∙ c .before .before .before .before .before .loop .inv .joins .kept .size
@@ -57,13 +56,13 @@ returns c =
     let rows = c .before .before .note-rows .ensures in
     let n = a .h .statements in
     let all : loop .c ≡ n = omega arith in (
-      linked (ready-size (start .pre .0)) (start .pre .2)
-          (subst (λ (m : ℕ). Joins f (now (a .work)) (loop .work) n (waitingAt n) (λ r k. any (returnsTo f r k) (upTo m))) all (loop .inv .joins)) rows,
+      linked (ready-size (start .pre .0 .ready)) (start .pre .1)
+          (subst (λ (m : ℕ). Joins f (now (a .work)) (loop .work) n (solverAt n) (λ r k. any (returnsTo f r k) (upTo m))) all (loop .inv .joins)) rows,
       keeps-trans (loop .inv .joins .kept) (rows .kept),
     )
 
-pub note-returns-spec : {M : Type 1} → statement M
-note-returns-spec =
+pub note-edges-spec : {M : Type 1} → statement M
+note-edges-spec =
     tie.close
     (tie.spec
     Inv-loop
