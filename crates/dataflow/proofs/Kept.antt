@@ -9,7 +9,7 @@ use Rattle.words.specs.contracts.Row.{has}
 use Rattle.words.proofs.Row.{has-cong}
 use Rattle.flow.specs.declared.Header.{Header}
 use Rattle.flow.specs.Flow.{Flow}
-use Rattle.statements.specs.contracts.Layout.{callsAt, rowAt, rowWords, queueAt, enteredRowAt, areaEnd}
+use Rattle.statements.specs.contracts.Layout.{callsAt, rowAt, queueAt, enteredRowAt}
 use Rattle.statements.specs.contracts.Ready.{Indexed, Keeps}
 use Rattle.statements.proofs.WorkArea.{row-from, row-fits, row-words-le, member-word}
 use Rattle.statements.proofs.Keeps.{keeps-has, indexed-keeps}

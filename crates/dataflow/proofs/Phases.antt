@@ -20,7 +20,7 @@ use Rattle.flow.specs.contracts.Answers.{headerOf}
 use Rattle.records.proofs.Files.{limited}
 use Rattle.records.proofs.Noting.{length-noted, noted-at, noted-other}
 use Rattle.records.proofs.Statements.{size-is}
-use Rattle.theory.specs.Masks.{nodeMask, maskOf, visitsOf}
+use Rattle.theory.specs.Masks.{maskIn}
 use Rattle.theory.specs.Live.{liveInWord, liveOutWord}
 use Rattle.statements.specs.contracts.Layout.{callsAt, matrixAt, queueAt, enteredRowAt, solverAt, areaEnd}
 use Rattle.statements.specs.contracts.Ready.{Ready, Indexed, Keeps}
@@ -101,10 +101,11 @@ pub masked : {s : List ℕ} {h : Header} {ws vs masks masks′ : List ℕ} {visi
     → solver.RuleResult (flowOf s) ws vs (h .statements) visits
     → masks′ ≡ notedRows masks (h .arrays) (bothCopies vs (h .statements)) (h .statements)
     → Masked s h masks masks′ vs visits
-unfolding bothCopies maskOf
+unfolding bothCopies maskIn
 masked {s} {h} {ws} {vs} {masks} {masks′} {visits} blank room solved e = record {
   ready = ready-keeps (blank .indexed .ready) (solved .keeps) (omega (arith, row-from (h .statements) (h .statements)));
-  visited = solved .count;
+  left = solved .left;
+  over = solved .over;
   bytes = λ i a l m.
       ap (λ v. getD v (i * h .arrays + a) 0) e
       ∙ rows-at masks (h .arrays) (bothCopies vs (h .statements)) (h .statements) i a l m room
@@ -119,12 +120,12 @@ masked {s} {h} {ws} {vs} {masks} {masks′} {visits} blank room solved e = recor
     arrays′ : h .arrays ≡ flowOf s .arrays
     arrays′ = ap (λ (x : Header). x .arrays) (blank .indexed .header) ∙ sym (arrays-is s)
 
-    joined : (i a : ℕ) → i < h .statements → a < h .arrays → bothCopies vs (h .statements) i a ≡ maskOf (flowOf s) i a
+    joined : (i a : ℕ) → i < h .statements → a < h .arrays → bothCopies vs (h .statements) i a ≡ maskIn (flowOf s) (solved .left) i a
     joined i a l m =
         let b : a < flowOf s .arrays = omega (arith, arrays′) in
         ap₂ bitOr
-        (solved .masks i a (omega arith) b ∙ ap (λ d. nodeMask (flowOf s) d a) (sym (zero-add i)))
-        (solved .masks (h .statements + i) a (omega arith) b ∙ ap (λ k. nodeMask (flowOf s) (k + i) a) (sym sizes))
+        (solved .masks i a (omega arith) b ∙ ap (λ d. solved .left .masks d a) (sym (zero-add i)))
+        (solved .masks (h .statements + i) a (omega arith) b ∙ ap (λ k. solved .left .masks (k + i) a) (sym sizes))
 
 pub wrote : {n : ℕ} {f : ℕ → ℕ} {ws vs : List ℕ} → ((i : ℕ) → i < n → getD vs i 0 ≡ f i) → Keeps 0 n ws vs → Written n f ws vs
 wrote w k = record { size = k .size; written = w; kept = k .above }
@@ -136,12 +137,13 @@ pub solved : {s : List ℕ} {h : Header} {masks masks′ liveIn liveIn′ liveOu
     → Written (h .statements) (liveOutWord (flowOf s)) liveOut liveOut′
     → Findings (flowOf s) masks masks′ liveIn liveIn′ liveOut liveOut′ visits
 solved {s} {h} {masks} {masks′} {liveIn} {liveIn′} {liveOut} {liveOut′} e m i o = record {
+  left = m .left;
+  over = m .over;
   mask-bytes = λ j a l b. ap (λ k. getD masks′ (j * k + a) 0) arrays′ ∙ m .bytes j a (omega (arith, sizes)) (omega (arith, arrays′));
   masks-size = m .masks-size;
   masks-kept = λ x l. m .masks-kept x (subst (λ k. k * h .arrays ≤ x) sizes (subst (λ k. size (flowOf s) * k ≤ x) arrays′ l));
   live-in = subst (λ k. Written k (liveInWord (flowOf s)) liveIn liveIn′) (sym sizes) i;
   live-out = subst (λ k. Written k (liveOutWord (flowOf s)) liveOut liveOut′) (sym sizes) o;
-  count = m .visited;
 }
   where
     sizes : size (flowOf s) ≡ h .statements

@@ -18,12 +18,11 @@ use Rattle.flow.specs.Flow.{Flow, size}
 use Rattle.flow.specs.Limits.{maxArrays}
 use Rattle.theory.specs.Lists.{elem}
 use Rattle.theory.specs.Doubled.{doubled, boundary}
-use Rattle.theory.specs.Queue.{Graph, Solver, join, pulled, initial, visit, visitBound, solved}
-use Rattle.theory.specs.Masks.{nodeMask, visitsOf}
+use Rattle.theory.specs.Queue.{Graph, begins, next-visit, Over, pulled, initial, visit, visitBound}
 use Rattle.theory.specs.contracts.WellFormed.{WellFormed}
 use Rattle.theory.proofs.Lists.{clash}
 use Rattle.theory.proofs.Terms.{doubled-well-formed}
-use Rattle.theory.proofs.Ends.{RuleState, rule-starts, rule-visits, rule-keeps, rule-bound, rule-ends, potential}
+use Rattle.theory.proofs.Ends.{course-keeps, course-bound, potential}
 use Rattle.theory.proofs.Exact.{pulled-held}
 use Rattle.theory.proofs.Push.{pulled-first}
 use Rattle.statements.specs.contracts.Layout.{queueAt, enteredRowAt, areaEnd}
@@ -33,7 +32,7 @@ use Rattle.statements.proofs.Keeps.{keeps-refl, keeps-trans, keeps-widen}
 use Rattle.statements.proofs.Members.{zero-has}
 use Rattle.calls.specs.contracts.Held.{EmptyEntered}
 use Rattle.solve.specs.declared.Queue.{Queue}
-use Rattle.solve.specs.contracts.Layout.{maskWords, waitingAt, visitedAt, grownAt, maskRowAt}
+use Rattle.solve.specs.contracts.Layout.{visitedAt, maskRowAt}
 use Rattle.solve.specs.contracts.Rows.{RowIs, stepWhere}
 use Rattle.solve.specs.contracts.Waiting.{Waits, Enqueued}
 use Rattle.solve.specs.contracts.Pushed.{masksAt}
@@ -45,7 +44,7 @@ use Rattle.dataflow.proofs.Visiting.{nodes-are, arrays-are, below-at}
 
 pub record Running (f : Flow) (n : ℕ) (ws₀ ws : List ℕ) (queue : Queue) (visits : ℕ) : Type 0 where
   pub underway : Underway f ws n queue
-  pub counted : visits ≡ underway .state .visits
+  pub counted : visits ≡ underway .count
   pub keeps : Keeps (queueAt n) (areaEnd n) ws₀ ws
 
 -- The start
@@ -126,8 +125,9 @@ module _ (f : Flow) (n : ℕ) (ws us : List ℕ) (entry count row : ℕ) (sized 
     unfolding initial
     starts = record {
       underway = record {
+        count = 0;
         state = initial g;
-        rule = rule-starts g;
+        course = begins;
         solving = record {
           waits = waits;
           visited = λ d l. zero-below (visitedAt n + d) (omega arith) (omega arith);
@@ -149,7 +149,12 @@ pub running-on : {f : Flow} {n : ℕ} {ws₀ ws vs : List ℕ} {queue r : Queue}
     → Keeps (queueAt n) (areaEnd n) ws vs → Running f n ws₀ vs r (visits + 1)
 unfolding visit
 running-on visits x y k = record {
-  underway = record { state = visit (doubled _) (x .underway .state) (y .front) (y .behind); rule = rule-visits (x .underway .rule) (y .waiting); solving = y .solving };
+  underway = record {
+    count = x .underway .count + 1;
+    state = visit (doubled _) (x .underway .state) (y .front) (y .behind);
+    course = next-visit (x .underway .course) (y .waiting);
+    solving = y .solving;
+  };
   counted = ap (λ (v : ℕ). v + 1) (x .counted);
   keeps = keeps-trans (x .keeps) k;
 }
@@ -159,19 +164,18 @@ module _ {f : Flow} (wf : WellFormed f) {n : ℕ} (sized : size f ≡ n) (some :
   pub running-bound : visits + queue .len ≤ visitBound (doubled f)
   unfolding potential
   running-bound =
-      let bound = rule-bound (doubled-well-formed f wf) (x .underway .rule) in
+      let bound = course-bound (doubled-well-formed f wf) (x .underway .course) in
       let count = x .underway .solving .waits .count in
       let counted = x .counted in
       omega arith
 
   pub running-ends : queue .len ≡ 0 → RuleResult f ws₀ ws n visits
-  unfolding visitsOf nodeMask
   running-ends e = record {
-    count = x .counted ∙ ap (λ (s : Solver). s .visits) last;
+    left = x .underway .state;
+    over = subst (λ (k : ℕ). Over (doubled f) k (x .underway .state)) (sym (x .counted)) (record { course = x .underway .course; nothing-waits = still });
     masks = λ d a l m.
         x .underway .solving .masks d a l (omega arith) ∙ below-at (f .arrays) (pulled (doubled f) (x .underway .state) d) m
-        ∙ pulled-held (doubled f) (x .underway .state) (rule-keeps (doubled-well-formed f wf) (x .underway .rule)) still nodes (doubled-well-formed f wf) d a (subst (λ (k : ℕ). a < k) (sym (arrays-are f)) m)
-        ∙ ap (λ (s : Solver). s .masks d a) last;
+        ∙ pulled-held (doubled f) (x .underway .state) (course-keeps (doubled-well-formed f wf) (x .underway .course)) still nodes (doubled-well-formed f wf) d a (subst (λ (k : ℕ). a < k) (sym (arrays-are f)) m);
     keeps = x .keeps;
   }
     where
@@ -181,9 +185,6 @@ module _ {f : Flow} (wf : WellFormed f) {n : ℕ} (sized : size f ≡ n) (some :
 
       still : x .underway .state .waiting ≡ []
       still = empty (x .underway .state .waiting) (sym e ∙ x .underway .solving .waits .count)
-
-      last : x .underway .state ≡ solved (doubled f)
-      last = rule-ends (doubled-well-formed f wf) (x .underway .rule) still
 
       nodes : 0 < doubled f .nodes
       nodes = omega (arith, nodes-are f)

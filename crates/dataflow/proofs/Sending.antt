@@ -3,7 +3,6 @@
 use Prim.Native.Nat.{ℕ, _+_, _*_, _/_, _≤_, _<_}
 use mathlib.Core.Bool.{Bool, true, false, cond, _||_}
 use mathlib.Core.List.{List, [], map, List·Memᴰ·tail, List·Memᴰ·not-nil}
-use mathlib.Core.Logic.{_≢_}
 use mathlib.Core.Option.{none, some}
 use mathlib.Core.Path.{_≡_, refl, sym, ap, ap₂, subst, _∙_}
 use native.Mathlib.Decide.{ℕ-discrete}
@@ -17,11 +16,11 @@ use Rattle.words.proofs.Bytes.{byte-cong}
 use Rattle.flow.specs.declared.NodeId.{NodeId}
 use Rattle.flow.specs.Flow.{Flow, size}
 use Rattle.flow.specs.Limits.{maxArrays}
-use Rattle.theory.specs.Lists.{elem}
+use Rattle.theory.specs.Lists.{elem, differ}
 use Rattle.theory.specs.Queue.{Arc, join, enqueue, brings}
 use Rattle.theory.specs.Doubled.{Node, Edge, node, number, doubled}
 use Rattle.theory.specs.contracts.WellFormed.{WellFormed}
-use Rattle.theory.proofs.Push.{differ, differ-chain}
+use Rattle.theory.proofs.Push.{differ-chain}
 use Rattle.statements.specs.contracts.Layout.{queueAt, enteredRowAt, areaEnd}
 use Rattle.statements.specs.contracts.Ready.{Keeps}
 use Rattle.statements.proofs.Keeps.{keeps-refl, keeps-trans}
@@ -30,7 +29,7 @@ use Rattle.calls.proofs.Cursor.{NextEdge}
 use Rattle.calls.proofs.Slots.{enqueue-slots, or-assoc}
 use Rattle.calls.proofs.Next.{next-below}
 use Rattle.solve.specs.declared.Queue.{Queue}
-use Rattle.solve.specs.contracts.Layout.{waitingAt, visitedAt, grownAt, outRow}
+use Rattle.solve.specs.contracts.Layout.{waitingAt, grownAt, outRow}
 use Rattle.solve.specs.contracts.Waiting.{Waits}
 use Rattle.solve.specs.contracts.Pushed.{masksAt, Pushed}
 use Rattle.solve.proofs.Growing.{differ-as}

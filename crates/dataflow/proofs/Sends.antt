@@ -12,11 +12,10 @@ use lib.ListN.{length, getD}
 use Rattle.masks.specs.declared.Effect.the-variants.{Touched}
 use Rattle.flow.specs.Flow.{Flow}
 use Rattle.flow.specs.Limits.{maxArrays}
-use Rattle.theory.specs.Lists.{In}
+use Rattle.theory.specs.Lists.{In, differ}
 use Rattle.theory.specs.Body.{kind, continuationOf, opaqueCall, callTouches}
 use Rattle.theory.specs.Doubled.{Edge, node, edges, statementEffects, edgeEffects, doubled}
 use Rattle.theory.specs.Queue.{stepAll, brings}
-use Rattle.theory.proofs.Push.{differ}
 use Rattle.statements.specs.contracts.Layout.{enteredRowAt, callTouchedAt, areaEnd}
 use Rattle.statements.specs.contracts.Ready.{Keeps, MembersWord}
 use Rattle.statements.proofs.Keeps.{keeps-trans}
@@ -27,7 +26,7 @@ use Rattle.calls.specs.contracts.Slots.{slots, present}
 use Rattle.calls.proofs.Slots.{slot-edge, brings-slots}
 use Rattle.calls.proofs.Next.{plain-edge}
 use Rattle.solve.specs.declared.Queue.{Queue}
-use Rattle.solve.specs.contracts.Layout.{waitingAt, visitedAt, grownAt, maskRowAt, outRow, backRow}
+use Rattle.solve.specs.contracts.Layout.{waitingAt, maskRowAt, outRow, backRow}
 use Rattle.solve.specs.contracts.Rows.{RowIs, stepWhere, memberBelow}
 use Rattle.solve.specs.contracts.Pushed.{masksAt}
 use Rattle.solve.proofs.Growing.{differ-as}

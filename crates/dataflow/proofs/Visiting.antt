@@ -15,20 +15,21 @@ use lib.Seq.{getD-set-same, getD-set-other}
 use Rattle.words.proofs.Bytes.{byte-cong}
 use Rattle.flow.specs.Flow.{Flow, size}
 use Rattle.flow.specs.Limits.{maxArrays}
+use Rattle.theory.specs.Lists.{differ}
 use Rattle.theory.specs.Doubled.{doubled}
 use Rattle.theory.specs.Queue.{Graph, Solver, pulled, changed, visit, enqueue, brings}
 use Rattle.theory.specs.contracts.WellFormed.{WellFormed}
 use Rattle.theory.proofs.Lists.{clash, or-second}
 use Rattle.theory.proofs.Terms.{doubled-well-formed}
 use Rattle.theory.proofs.Invariant.{WellFormedGraph, Invariant, grew, queue, front-below, visited-at, visited-other, waiting-next, was-visited}
-use Rattle.theory.proofs.Ends.{RuleState, rule-keeps}
-use Rattle.theory.proofs.Push.{differ, alike, no-differ, pulled-next, pulled-same, changed-front, changed-other}
+use Rattle.theory.proofs.Ends.{course-keeps}
+use Rattle.theory.proofs.Push.{alike, no-differ, pulled-next, pulled-same, changed-front, changed-other}
 use Rattle.statements.specs.contracts.Layout.{queueAt, enteredRowAt, areaEnd}
 use Rattle.statements.specs.contracts.Ready.{Keeps}
 use Rattle.statements.proofs.Keeps.{keeps-set, keeps-trans, keeps-widen}
 use Rattle.calls.specs.contracts.Held.{EmptyEntered}
 use Rattle.solve.specs.declared.Queue.{Queue}
-use Rattle.solve.specs.contracts.Layout.{waitingAt, visitedAt, grownAt, maskRowAt}
+use Rattle.solve.specs.contracts.Layout.{visitedAt, grownAt, maskRowAt}
 use Rattle.solve.specs.contracts.Waiting.{Waits, Taken, KeepsRest, restOf}
 use Rattle.solve.specs.contracts.Pushed.{masksAt}
 use Rattle.solve.proofs.Waiting.{rest-keeps, waits-kept}
@@ -105,7 +106,7 @@ module _ {f : Flow} (wf : WellFormed f) {n : ℕ} (sized : size f ≡ n) (few : 
   gwf = doubled-well-formed f wf
 
   inv : Invariant (doubled f) (u .state)
-  inv = rule-keeps gwf (u .rule)
+  inv = course-keeps gwf (u .course)
 
   -- the visit brings something new
   unfoldable pub news : Bool

@@ -3,22 +3,19 @@
 use Prim.Native.Nat.{ℕ}
 use native.Mathlib.Omega.{arith}
 use mathlib.Core.List.{List}
-use mathlib.Core.Path.{_≡_, refl, sym, ap, subst, _∙_}
+use mathlib.Core.Path.{_≡_}
 use lib.ListN.{length}
 use borrow.Author.Tests.{leb-true}
-use Rattle.flow.specs.Flow.{Flow, size}
-use Rattle.flow.specs.Format.{Verdict, fit, unfit, verdict, fileChecks, areaChecks, flowOf, statementsOf, arraysOf}
+use Rattle.flow.specs.Flow.{size}
+use Rattle.flow.specs.Format.{fit, fileChecks, areaChecks, flowOf, statementsOf, arraysOf}
 use Rattle.flow.proofs.Verdicts.{all-hold, fit-left, fit-right}
 use Rattle.records.proofs.Statements.{size-is}
 use Rattle.statements.proofs.WellFormed.{arrays-is}
 use Rattle.dataflow.specs.declared.Answer.{Answer}
 use Rattle.dataflow.specs.declared.Answer.the-variants.{Accepted}
-use Rattle.dataflow.specs.Promise.{Promise, answerBy, judged}
+use Rattle.dataflow.specs.Promise.{Promise, judged}
+use Rattle.dataflow.proofs.Told.{told-accepted}
 use Rattle.listing.specs.Room.{Room}
-
-accepted-fit : (f : Flow) (v : Verdict) {n : ℕ} → answerBy f v ≡ Accepted n → v ≡ fit
-accepted-fit f fit e = refl
-accepted-fit f (unfit r) e = absurd (let z : _≡_ {A = ℕ} 0 1 = cc in omega arith)
 
 -- a file and areas of these lengths that were judged fit
 judged-room : (s masks liveIn liveOut : List ℕ) (work : ℕ) → judged s (length masks) (length liveIn) (length liveOut) work ≡ fit
@@ -38,9 +35,9 @@ judged-room s masks liveIn liveOut work h =
 pub room : {s masks masks′ liveIn liveIn′ liveOut liveOut′ work work′ : List ℕ} {r : Answer} {visits : ℕ}
     → Promise s masks masks′ liveIn liveIn′ liveOut liveOut′ work work′ r → r ≡ Accepted visits → Room s masks′ liveIn′ liveOut′
 room {s} {masks} {masks′} {liveIn} {liveIn′} {liveOut} {liveOut′} {work} p e =
-    let done = p .accepted _ e in
-    let before = judged-room s masks liveIn liveOut (length work)
-    (accepted-fit (flowOf s) (judged s (length masks) (length liveIn) (length liveOut) (length work)) (sym (p .answer) ∙ e)) in
+    let told = told-accepted p e in
+    let done = told .1 in
+    let before = judged-room s masks liveIn liveOut (length work) (told .0) in
     record {
       fit = before .fit;
       masks-room = omega (arith, done .masks-size, before .masks-room);

@@ -20,10 +20,9 @@ use Rattle.words.proofs.Bytes.{byte-cong, byte-has, unioned-byte}
 use Rattle.words.proofs.Rewritten.{differs-cong, differs-self, differs-false}
 use Rattle.words.proofs.Unioned.{words-unioned, unioned-other, union-same}
 use Rattle.flow.specs.Limits.{maxArrays}
-use Rattle.theory.specs.Lists.{allBelow}
+use Rattle.theory.specs.Lists.{allBelow, differ}
 use Rattle.theory.proofs.Lists.{same-test, clash}
 use Rattle.theory.proofs.Below.{allBelow-at, allBelow-all}
-use Rattle.theory.proofs.Push.{differ}
 use Rattle.statements.specs.contracts.Layout.{areaEnd}
 use Rattle.statements.specs.contracts.Ready.{Keeps}
 use Rattle.statements.proofs.Keeps.{keeps-set, keeps-unioned, keeps-trans, keeps-refl, keeps-widen}

@@ -11,6 +11,7 @@ pub mod Below
 pub mod Enqueue
 pub mod Invariant
 pub mod Ends
+pub mod Computed
 pub mod Exact
 pub mod Push
 pub mod Edges
@@ -19,3 +20,4 @@ pub mod Runs
 pub mod Term3
 pub mod Terms
 pub mod RunCases
+pub mod Listing

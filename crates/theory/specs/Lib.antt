@@ -5,7 +5,9 @@ pub mod Doubled
 pub mod Queue
 pub mod Walks
 pub mod Masks
+pub mod Computed
 pub mod Live
 pub mod Runs
+pub mod Listing
 pub mod Cases
 pub mod contracts

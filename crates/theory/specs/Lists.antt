@@ -52,6 +52,10 @@ unfoldable pub allBelow : ℕ → (ℕ → Bool) → Bool
 allBelow zero p = true
 allBelow (suc k) p = allBelow k p && p k
 
+-- two functions have other values at some number below k
+abbrev pub differ : ℕ → (ℕ → ℕ) → (ℕ → ℕ) → Bool
+differ k f g = not (allBelow k (λ i. eqb (f i) (g i)))
+
 -- f with the value v at j
 unfoldable pub upd : {A : Type 0} → (ℕ → A) → ℕ → A → ℕ → A
 upd f j v i = cond (eqb i j) v (f i)

@@ -1,5 +1,5 @@
 -- What the phases start from, and what they leave together: the file is fit, its header is known, the areas have room and the work area is zero; after them the masks, the
--- live words and the count are those of the definitions.
+-- live words are those of the definitions, and the count is that of the queue rule's course.
 use Prim.Native.Nat.{ℕ, _*_, _+_, _<_, _≤_}
 use mathlib.Core.List.{List}
 use mathlib.Core.Path.{_≡_}
@@ -9,7 +9,9 @@ use Rattle.flow.specs.Flow.{Flow, size}
 use Rattle.flow.specs.Limits.{workWords}
 use Rattle.flow.specs.contracts.Answers.{FitFile}
 use Rattle.flow.specs.contracts.Answers.{headerOf}
-use Rattle.theory.specs.Masks.{maskOf, visitsOf}
+use Rattle.theory.specs.Doubled.{doubled}
+use Rattle.theory.specs.Queue.{Solver, Over}
+use Rattle.theory.specs.Masks.{maskIn}
 use Rattle.theory.specs.Live.{liveInWord, liveOutWord}
 use Rattle.statements.specs.contracts.Layout.{queueAt, enteredRowAt, areaEnd}
 use Rattle.statements.specs.contracts.Ready.{Ready, Indexed}
@@ -33,12 +35,13 @@ pub record FitAreas (s : List ℕ) (h : Header) (masks liveIn liveOut work : Lis
   pub out-room : h .statements ≤ length liveOut
 
 pub record Findings (f : Flow) (masks masks′ liveIn liveIn′ liveOut liveOut′ : List ℕ) (visits : ℕ) : Type 0 where
-  pub mask-bytes : (i a : ℕ) → i < size f → a < f .arrays → getD masks′ (i * (f .arrays) + a) 0 ≡ maskOf f i a
+  pub left : Solver
+  pub over : Over (doubled f) visits left
+  pub mask-bytes : (i a : ℕ) → i < size f → a < f .arrays → getD masks′ (i * (f .arrays) + a) 0 ≡ maskIn f left i a
   pub masks-size : length masks′ ≡ length masks
   pub masks-kept : (x : ℕ) → size f * (f .arrays) ≤ x → getD masks′ x 0 ≡ getD masks x 0
   pub live-in : Written (size f) (liveInWord f) liveIn liveIn′
   pub live-out : Written (size f) (liveOutWord f) liveOut liveOut′
-  pub count : visits ≡ visitsOf f
 
 -- the calls have their summaries, and the solver's words are still zero
 pub record SummariesMade (s : List ℕ) (h : Header) (ws : List ℕ) : Type 0 where
@@ -56,7 +59,8 @@ pub record SolverStart (s : List ℕ) (h : Header) (ws : List ℕ) : Type 0 wher
 -- the masks are written
 pub record Masked (s : List ℕ) (h : Header) (masks masks′ vs : List ℕ) (visits : ℕ) : Type 0 where
   pub ready : Ready s vs (h .statements)
-  pub visited : visits ≡ visitsOf (flowOf s)
-  pub bytes : (i a : ℕ) → i < h .statements → a < h .arrays → getD masks′ (i * (h .arrays) + a) 0 ≡ maskOf (flowOf s) i a
+  pub left : Solver
+  pub over : Over (doubled (flowOf s)) visits left
+  pub bytes : (i a : ℕ) → i < h .statements → a < h .arrays → getD masks′ (i * (h .arrays) + a) 0 ≡ maskIn (flowOf s) left i a
   pub masks-size : length masks′ ≡ length masks
   pub masks-kept : (x : ℕ) → h .statements * (h .arrays) ≤ x → getD masks′ x 0 ≡ getD masks x 0

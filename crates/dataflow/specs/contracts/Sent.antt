@@ -10,9 +10,9 @@ use lib.ListN.{getD}
 use Rattle.words.specs.contracts.Byte.{byteAt}
 use Rattle.flow.specs.Flow.{Flow}
 use Rattle.flow.specs.Limits.{maxArrays}
+use Rattle.theory.specs.Lists.{differ}
 use Rattle.theory.specs.Doubled.{Edge, node, number, doubled}
 use Rattle.theory.specs.Queue.{enqueue, brings}
-use Rattle.theory.proofs.Push.{differ}
 use Rattle.statements.specs.contracts.Layout.{queueAt, enteredRowAt, areaEnd}
 use Rattle.statements.specs.contracts.Ready.{Keeps}
 use Rattle.calls.specs.contracts.Held.{EmptyEntered}

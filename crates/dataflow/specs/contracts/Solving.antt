@@ -8,9 +8,7 @@ use lib.ListN.{getD}
 use Rattle.flow.specs.Flow.{Flow}
 use Rattle.flow.specs.Limits.{maxArrays}
 use Rattle.theory.specs.Doubled.{doubled}
-use Rattle.theory.specs.Queue.{Solver, pulled, changed, visit}
-use Rattle.theory.specs.Masks.{nodeMask, visitsOf}
-use Rattle.theory.proofs.Ends.{RuleState}
+use Rattle.theory.specs.Queue.{Solver, Course, Over, pulled, changed, visit}
 use Rattle.statements.specs.contracts.Layout.{queueAt, areaEnd}
 use Rattle.statements.specs.contracts.Ready.{Keeps}
 use Rattle.calls.specs.contracts.Held.{EmptyEntered}
@@ -29,8 +27,9 @@ pub record Solving (f : Flow) (ws : List ℕ) (n : ℕ) (queue : Queue) (st : So
 
 -- a state that the rule comes to, with its work area
 pub record Underway (f : Flow) (ws : List ℕ) (n : ℕ) (queue : Queue) : Type 0 where
+  pub count : ℕ
   pub state : Solver
-  pub rule : RuleState (doubled f) state
+  pub course : Course (doubled f) count state
   pub solving : Solving f ws n queue state
 
 -- the front of the queue is visited
@@ -44,8 +43,9 @@ pub record VisitsFront (f : Flow) (ws vs : List ℕ) (n : ℕ) (queue r : Queue)
 abbrev pub Unused : List ℕ → ℕ → Type 0
 Unused ws n = (x : ℕ) → queueAt n ≤ x → x < areaEnd n → getD ws x 0 ≡ 0
 
--- from an area that is zero from the queue on, the queue rule's visits and, of every number, what it leaves
+-- from an area that is zero from the queue on: the queue rule's course is over after so many visits, and every number has the masks that it leaves
 pub record RuleResult (f : Flow) (ws vs : List ℕ) (n visits : ℕ) : Type 0 where
-  pub count : visits ≡ visitsOf f
-  pub masks : (d a : ℕ) → d < 2 * n → a < f .arrays → masksAt vs n d a ≡ nodeMask f d a
+  pub left : Solver
+  pub over : Over (doubled f) visits left
+  pub masks : (d a : ℕ) → d < 2 * n → a < f .arrays → masksAt vs n d a ≡ left .masks d a
   pub keeps : Keeps (queueAt n) (areaEnd n) ws vs

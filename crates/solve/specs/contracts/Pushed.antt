@@ -9,8 +9,8 @@ use lib.Bits.{bitOr}
 use lib.ListN.{getD}
 use Rattle.words.specs.contracts.Byte.{byteAt}
 use Rattle.flow.specs.Limits.{maxArrays}
+use Rattle.theory.specs.Lists.{differ}
 use Rattle.theory.specs.Queue.{join}
-use Rattle.theory.proofs.Push.{differ}
 use Rattle.statements.specs.contracts.Layout.{queueAt, enteredRowAt, areaEnd}
 use Rattle.statements.specs.contracts.Ready.{Keeps}
 use Rattle.solve.specs.declared.Queue.{Queue}

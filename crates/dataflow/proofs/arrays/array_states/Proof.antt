@@ -146,7 +146,7 @@ returns c =
     let s = c .before .before .before .before .before .before .before .before .before .before .before .before .before .before .before in
     let none = c .if1 .left in
     let x = running-ends (well-formed (s .pre .0 .ready .fit)) (ready-size (s .pre .0 .ready)) (s .pre .2) (few s) (c .before .before .loop .visits) (c .before .before .loop .inv) (omega (arith, none)) in
-    record { count = x .count; masks = x .masks; keeps = keeps-trans (beside (c .before .before .before .before .before)) (x .keeps) }
+    record { left = x .left; over = x .over; masks = x .masks; keeps = keeps-trans (beside (c .before .before .before .before .before)) (x .keeps) }
 
 pub array-states-spec : {M : Type 1} → statement M
 array-states-spec =

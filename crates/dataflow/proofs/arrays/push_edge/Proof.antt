@@ -2,7 +2,6 @@
 -- By the two cases.
 use Prim.Native.Nat.{ℕ}
 use mathlib.Core.Path.{sym, ap, subst, _∙_}
-use native.Mathlib.Omega.{arith}
 use borrow.Author.Needs.{needs}
 use denote.Ref.{now}
 use Rattle.solve.specs.contracts.Pushed.{Pushed}

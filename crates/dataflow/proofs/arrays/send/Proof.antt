@@ -16,7 +16,7 @@ use Rattle.theory.specs.Body.{kind, continuationOf, opaqueCall, callTouches}
 use Rattle.theory.specs.Doubled.{Node, node, nodeIn}
 use Rattle.theory.proofs.Lists.{clash}
 use Rattle.statements.specs.contracts.Layout.{callsAt, callTouchedAt}
-use Rattle.statements.specs.contracts.Ready.{Ready, MembersWord}
+use Rattle.statements.specs.contracts.Ready.{MembersWord}
 use Rattle.statements.proofs.Copies.{node-below}
 use Rattle.statements.proofs.Keeps.{ready-most, ready-room, keeps-refl, keeps-trans, ready-size}
 use Rattle.statements.proofs.WellFormed.{arrays-is}

@@ -16,7 +16,6 @@ use Rattle.statements.specs.contracts.Layout.{queueAt, areaEnd}
 use Rattle.statements.specs.contracts.Ready.{Keeps}
 use Rattle.statements.proofs.Keeps.{ready-most, ready-room, keeps-trans, keeps-widen, ready-size}
 use Rattle.statements.proofs.WellFormed.{well-formed, arrays-is}
-use Rattle.solve.specs.contracts.Layout.{visitedAt}
 use Rattle.solve.specs.contracts.Waiting.{Waits, Taken, restOf}
 use Rattle.solve.proofs.Waiting.{rest-keeps}
 use Rattle.dataflow.specs.contracts.Sent.{Sends}

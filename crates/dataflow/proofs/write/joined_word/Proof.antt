@@ -2,10 +2,9 @@
 -- Assumes nothing.
 use borrow.Author.Needs.{needs}
 use native.Mathlib.Nat.{zero-add}
-use native.Mathlib.Omega.{arith}
 use denote.Ref.{now}
-use Prim.Native.Nat.{ℕ, _+_, _*_, _<_}
-use mathlib.Core.Path.{_≡_, ap, ap₂, _∙_}
+use Prim.Native.Nat.{ℕ, _+_}
+use mathlib.Core.Path.{ap, ap₂, _∙_}
 use lib.Bits.{bitOr}
 use lib.ListN.{getD}
 use Rattle.solve.specs.contracts.Layout.{maskRowAt}
