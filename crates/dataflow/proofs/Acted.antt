@@ -14,9 +14,8 @@ use Rattle.masks.specs.Step.{stepOf}
 use Rattle.flow.specs.Flow.{Flow, Kind, Item, items}
 use Rattle.theory.specs.Lists.{In, any, elem}
 use Rattle.theory.specs.Body.{kind, references}
-use Rattle.theory.specs.Doubled.{dims, kindEffects, statementEffects}
+use Rattle.theory.specs.Doubled.{dims, resets, kindEffects, statementEffects}
 use Rattle.theory.specs.Queue.{stepAll}
-use Rattle.theory.specs.Runs.{empties}
 use Rattle.theory.specs.contracts.WellFormed.{WellFormed}
 use Rattle.theory.proofs.Lists.{clash, not-so, elem-In, any-find, and-both}
 use Rattle.words.specs.contracts.Row as bits
@@ -38,7 +37,7 @@ stepAll-if true e m = refl
 stepAll-if false e m = refl
 
 -- a kind that does not empty the stack steps the arrays of its items with dimensions
-kind-steps : (k : Kind) (a m : ℕ) → empties k ≡ false → cond (any (dims a) (items k)) (stepOf Dim m) m ≡ stepAll (kindEffects k a) m
+kind-steps : (k : Kind) (a m : ℕ) → resets k ≡ false → cond (any (dims a) (items k)) (stepOf Dim m) m ≡ stepAll (kindEffects k a) m
 unfolding any kindEffects stepAll
 kind-steps Kind.other a m e = refl
 kind-steps Kind.return a m e = refl
@@ -48,7 +47,7 @@ kind-steps (Kind.dim is) a m e = sym (stepAll-if (any (dims a) is) Dim m)
 kind-steps (Kind.gosub l c) a m e = refl
 kind-steps (Kind.onGosub ls c) a m e = refl
 
-kind-resets : (k : Kind) (a m : ℕ) → empties k ≡ true → 1 ≡ stepAll (kindEffects k a) m
+kind-resets : (k : Kind) (a m : ℕ) → resets k ≡ true → 1 ≡ stepAll (kindEffects k a) m
 unfolding kindEffects stepAll
 kind-resets Kind.other a m e = clash false e refl
 kind-resets Kind.return a m e = clash false e refl
@@ -94,12 +93,12 @@ module _ {f : Flow} (wf : WellFormed f) (i : ℕ) (m : ℕ → ℕ) (a : ℕ) wh
       stepAll-append (cond (elem a (references f i)) (Reference ∷ []) []) (kindEffects (kind f i) a) (m a)
       ∙ ap (stepAll (kindEffects (kind f i) a)) (stepAll-if (elem a (references f i)) Reference (m a))
 
-  within : empties (kind f i) ≡ false
+  within : resets (kind f i) ≡ false
       → stepped f i m a ≡ stepAll (kindEffects (kind f i) a) (stepWhere (λ a. elem a (references f i)) Reference m a)
   unfolding stepWhere
   within e = kind-steps (kind f i) a (stepWhere (λ a. elem a (references f i)) Reference m a) e
 
-  acted-stays : empties (kind f i) ≡ false → stepped f i m a ≡ acted (f .arrays) (statementEffects f i) m a
+  acted-stays : resets (kind f i) ≡ false → stepped f i m a ≡ acted (f .arrays) (statementEffects f i) m a
   unfolding acted
   acted-stays e = at (decLt a (f .arrays))
     where
@@ -107,7 +106,7 @@ module _ {f : Flow} (wf : WellFormed f) (i : ℕ) (m : ℕ → ℕ) (a : ℕ) wh
       at (yes l) = rw (lt-ltb a (f .arrays) l) (within e ∙ sym effects)
       at (no l) = rw (le-ltb a (f .arrays) (omega (arith, l))) (beyond l)
 
-  acted-resets : empties (kind f i) ≡ true → stepWhere (λ b. ltb b (f .arrays)) Reset (stepped f i m) a ≡ acted (f .arrays) (statementEffects f i) m a
+  acted-resets : resets (kind f i) ≡ true → stepWhere (λ b. ltb b (f .arrays)) Reset (stepped f i m) a ≡ acted (f .arrays) (statementEffects f i) m a
   unfolding acted stepWhere
   acted-resets e = at (decLt a (f .arrays))
     where
@@ -123,10 +122,10 @@ module _ {f : Flow} (wf : WellFormed f) (i count row from : ℕ) (all : count �
       subst (λ (r : ℕ). RowIs ws vs r (acted count (statementEffects f i) (byteAt ws from))) at
       (row-as x (λ a l. h a ∙ ap₂ (λ (k p : ℕ). acted k (statementEffects f i) (byteAt ws p) a) (sym all) of))
 
-  pub stays-row : empties (kind f i) ≡ false → RowIs ws vs row′ (stepped f i (byteAt ws from′)) → RowIs ws vs row (acted count (statementEffects f i) (byteAt ws from))
+  pub stays-row : resets (kind f i) ≡ false → RowIs ws vs row′ (stepped f i (byteAt ws from′)) → RowIs ws vs row (acted count (statementEffects f i) (byteAt ws from))
   stays-row e x = placed x (λ a. acted-stays wf i (byteAt ws from′) a e)
 
-  pub resets-row : empties (kind f i) ≡ true → RowIs ws vs row′ (stepWhere (λ b. ltb b count) Reset (stepped f i (byteAt ws from′)))
+  pub resets-row : resets (kind f i) ≡ true → RowIs ws vs row′ (stepWhere (λ b. ltb b count) Reset (stepped f i (byteAt ws from′)))
       → RowIs ws vs row (acted count (statementEffects f i) (byteAt ws from))
   resets-row e x =
       placed (subst (λ (k : ℕ). RowIs ws vs row′ (stepWhere (λ b. ltb b k) Reset (stepped f i (byteAt ws from′)))) all x)

@@ -12,18 +12,19 @@ use Rattle.words.specs.contracts.Byte.{byteAt}
 use Rattle.words.specs.contracts.Change.{zeroed}
 use Rattle.words.proofs.Zeroed.{zeroed-word, zeroed-other}
 use Rattle.flow.specs.declared.Header.{Header}
-use Rattle.flow.specs.Limits.{workWords, maxStatements, maxArrays}
+use Rattle.flow.specs.Limits.{maxStatements, maxArrays}
 use Rattle.flow.specs.Flow.{Flow, size}
 use Rattle.flow.specs.Format.{flowOf, recordPlace, statementsOf, arraysOf}
 use Rattle.words.specs.contracts.Change.{noted}
 use Rattle.flow.specs.contracts.Answers.{headerOf}
 use Rattle.records.proofs.Files.{limited}
-use Rattle.records.proofs.Noting.{length-noted, noted-at, noted-other}
+use Rattle.records.proofs.Noting.{noted-other}
 use Rattle.records.proofs.Statements.{size-is}
-use Rattle.theory.specs.Masks.{maskIn}
+use Rattle.theory.specs.Masks.{maskLeft}
 use Rattle.theory.specs.Live.{liveInWord, liveOutWord}
 use Rattle.statements.specs.contracts.Layout.{callsAt, matrixAt, queueAt, enteredRowAt, solverAt, areaEnd}
 use Rattle.statements.specs.contracts.Ready.{Ready, Indexed, Keeps}
+use Rattle.statements.proofs.Noted.{ready-noted}
 use Rattle.statements.proofs.Keeps.{keeps-zeroed, ready-keeps, ready-room, indexed-keeps}
 use Rattle.statements.proofs.WorkArea.{row-from}
 use Rattle.statements.proofs.WellFormed.{arrays-is}
@@ -47,13 +48,7 @@ module _ {s : List ℕ} {h : Header} where
     room-fits = omega (arith, fresh .work-room)
 
     noted-ready : {vs : List ℕ} → vs ≡ noted ws 0 (h .statements) (recordPlace s) → Ready s vs (h .statements)
-    noted-ready {vs} e = record {
-      fit = fresh .fit;
-      count = ap (λ (x : Header). x .statements) (fresh .header);
-      room = subst (λ l. workWords (h .statements) ≤ length l) (sym e)
-          (subst (λ k. workWords (h .statements) ≤ k) (sym (length-noted ws 0 (recordPlace s) (h .statements))) (fresh .work-room));
-      offsets = λ i l. ap (λ v. getD v (0 + i) 0) e ∙ noted-at ws 0 (recordPlace s) (h .statements) i 0 l room-fits;
-    }
+    noted-ready = ready-noted ws (fresh .fit) (ap (λ (x : Header). x .statements) (fresh .header)) (fresh .work-room)
 
     pub noted-indexed : {vs : List ℕ} → vs ≡ noted ws 0 (h .statements) (recordPlace s) → Indexed s h vs
     noted-indexed e = record { ready = noted-ready e; header = fresh .header }
@@ -101,7 +96,7 @@ pub masked : {s : List ℕ} {h : Header} {ws vs masks masks′ : List ℕ} {visi
     → solver.RuleResult (flowOf s) ws vs (h .statements) visits
     → masks′ ≡ notedRows masks (h .arrays) (bothCopies vs (h .statements)) (h .statements)
     → Masked s h masks masks′ vs visits
-unfolding bothCopies maskIn
+unfolding bothCopies maskLeft
 masked {s} {h} {ws} {vs} {masks} {masks′} {visits} blank room solved e = record {
   ready = ready-keeps (blank .indexed .ready) (solved .keeps) (omega (arith, row-from (h .statements) (h .statements)));
   left = solved .left;
@@ -120,7 +115,7 @@ masked {s} {h} {ws} {vs} {masks} {masks′} {visits} blank room solved e = recor
     arrays′ : h .arrays ≡ flowOf s .arrays
     arrays′ = ap (λ (x : Header). x .arrays) (blank .indexed .header) ∙ sym (arrays-is s)
 
-    joined : (i a : ℕ) → i < h .statements → a < h .arrays → bothCopies vs (h .statements) i a ≡ maskIn (flowOf s) (solved .left) i a
+    joined : (i a : ℕ) → i < h .statements → a < h .arrays → bothCopies vs (h .statements) i a ≡ maskLeft (flowOf s) (solved .left) i a
     joined i a l m =
         let b : a < flowOf s .arrays = omega (arith, arrays′) in
         ap₂ bitOr

@@ -12,7 +12,7 @@ use Rattle.flow.specs.Format.{Verdict, fit, unfit, verdict, fileChecks, areaChe
 use Rattle.flow.specs.Refusals.{numberOf, placeOf}
 use Rattle.theory.specs.Doubled.{doubled}
 use Rattle.theory.specs.Queue.{Solver, Over, visitBound}
-use Rattle.theory.specs.Masks.{BringsTo, maskIn}
+use Rattle.theory.specs.Masks.{BringsTo, maskLeft}
 use Rattle.theory.specs.Live.{LiveIn, LiveOut, member, liveInWord, liveOutWord}
 use Rattle.theory.specs.Runs.{Config, Run, Listed}
 use Rattle.dataflow.specs.declared.Answer.{Answer}
@@ -48,7 +48,7 @@ pub record Answered (f : Flow) (masks masks′ liveIn liveIn′ liveOut liveOut�
   pub over : Over (doubled f) visits left
   pub bound : visits ≤ visitBound (doubled f)
   -- the masks that it leaves, and all other bytes
-  pub mask-bytes : (i a : ℕ) → i < size f → a < f .arrays → getD masks′ (i * (f .arrays) + a) 0 ≡ maskIn f left i a
+  pub mask-bytes : (i a : ℕ) → i < size f → a < f .arrays → getD masks′ (i * (f .arrays) + a) 0 ≡ maskLeft f left i a
   pub masks-size : length masks′ ≡ length masks
   pub masks-kept : (x : ℕ) → size f * (f .arrays) ≤ x → getD masks′ x 0 ≡ getD masks x 0
   pub live-in : Written (size f) (liveInWord f) liveIn liveIn′

@@ -24,7 +24,7 @@ fn summarize(file: &[u8], h: flow::Header, work: &mut [u64])
     calls::summary::summarize_calls(file, h, work);
 }
 
-// The edges of the RETURNs. The queue's words served as a stack, and the row after them was used: both are zeroed for the solver.
+// What the edges are made from. The queue's words served as a stack, and the row of entered statements was used: both are zeroed for the solver.
 fn link(file: &[u8], h: flow::Header, work: &mut [u64])
     requires { ⌜ SummariesMade (now file) h (now work) × (0 < h .statements) ⌝ }
     ensures { λ _. ⌜ SolverStart (now (file .entry)) h (now (work .exit)) ⌝ }
@@ -86,6 +86,8 @@ fn zero_if(work: &mut [u64], size: usize, fit: bool)
     }
 }
 
+// The answer to every file and all lent areas. Nothing is written before both are judged, so that a refusal changes nothing; the work area
+// is zeroed before the phases, which count on it, and after them, for the caller.
 pub fn states(
     file: &[u8],
     masks: &mut [u8],
@@ -112,10 +114,13 @@ pub fn states(
         work.len(),
     );
     let size = work.len();
+    // Before the refusal is returned: this is the one write that short areas could meet, and `zero_if` is told not to make it. A wrong program that
+    // makes it is thus a single change of this line, and is tried.
     zero_if(work, size, fit);
     if !fit {
         return Answer::Refused(flow::Refusal::Areas);
     }
+    // With no statements there is no entry, and nothing to visit.
     if n == 0 {
         return Answer::Accepted(0);
     }

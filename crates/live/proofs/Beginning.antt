@@ -133,7 +133,7 @@ beginning-all {f} {n} {ws₀} {ws} {ins₀} {ins} {outs₀} {outs} {q} {i} b l =
       small = b .queue .small;
       sound-in = λ k x m e. no-bit x (b .ins-zero .zeros k (omega arith) m) e;
       sound-out = λ k x m e. no-bit x (b .outs-zero .zeros k (omega arith) m) e;
-      settled = λ k m. inl (b .queue .all k (omega arith) m);
+      handed-on = λ k m. inl (b .queue .all k (omega arith) m);
     },
   );
   kept = b .kept;

@@ -19,7 +19,7 @@ use Rattle.theory.proofs.Names.{wordOf-unique}
 use Rattle.statements.specs.contracts.Ready.{Ready}
 use Rattle.statements.proofs.WellFormed.{well-formed, statement-in, names-is}
 use Rattle.statements.proofs.Keeps.{ready-size}
-use Rattle.live.specs.contracts.Solving.{Settled, Solving}
+use Rattle.live.specs.contracts.Solving.{HandedOn, Solving}
 use Rattle.live.proofs.Facts.{successor-in, written-word}
 use Rattle.live.proofs.Bits.{member-bit, bit-member, transfer-reads, transfer-keeps, bit-below, word-below}
 
@@ -37,8 +37,8 @@ out-word {s} {ws} {ins} {outs} r h i l =
     lt-of-lt-of-le (word-below (getD outs i 0) (namesOf s) (λ x e. live-out-name r (h .sound-out i x l e))) (pow-mono (limited (r .fit) .names))
 
 module _ {s ws ins outs : List ℕ} {n : ℕ} (r : Ready s ws n) (h : Solving (flowOf s) n ins outs []) where
-  done : (j : ℕ) → j < n → Settled (flowOf s) n ins outs j
-  done j l = ⊎-elim (λ m. absurd (List·Memᴰ·not-nil m)) (λ t. t) (h .settled j l)
+  done : (j : ℕ) → j < n → HandedOn (flowOf s) n ins outs j
+  done j l = ⊎-elim (λ m. absurd (List·Memᴰ·not-nil m)) (λ t. t) (h .handed-on j l)
 
   in-complete : {x i : ℕ} → i < n → LiveIn (flowOf s) x i → bit (getD ins i 0) x ≡ 1
   in-complete {x} l (LiveIn.now {i = i} e) =

@@ -13,6 +13,7 @@ use Rattle.flow.specs.Format.{verdict, fit, each, headerChecks, statementChecks
 use Rattle.flow.specs.contracts.Answers.{FitFile, FitRecord}
 use Rattle.records.proofs.Rising.{Rising, rising, risesAt, or-second}
 use Rattle.flow.proofs.Verdicts.{all-hold, fit-left, fit-right, fit-at}
+use Rattle.flow.proofs.FileVerdict.{header-within}
 
 -- the header is within the limits
 
@@ -22,6 +23,10 @@ pub record Limited (s : List ℕ) : Type 0 where
   pub arrays : arraysOf s ≤ maxArrays
   pub names : namesOf s ≤ maxNames
   pub entry : 0 < statementsOf s → entryOf s < statementsOf s
+
+pub header-fits : {s : List ℕ} → FitFile s → 8 ≤ length s
+unfolding fileChecks
+header-fits {s} h = header-within s (fit-left (headerChecks s) (statementChecks s ++ (each (lineCount s) (lineRecordChecks s) ++ endChecks s)) (h .checked))
 
 pub limited : {s : List ℕ} → FitFile s → Limited s
 unfolding fileChecks headerChecks

@@ -9,3 +9,4 @@ pub mod Sets
 pub mod Noting
 pub mod LineSearch
 pub mod Ranged
+pub mod Given

@@ -1,6 +1,7 @@
 // Fields of a statement's record at p, which was found fit.
 ghost use mathlib.Core.Path.{_≡_};
 ghost use Prim.Native.Nat.{_+_, _≤_, _<_};
+ghost use lib.ListN.{length};
 ghost use Rattle.flow.specs.Format.{lineAt, kindAt, successorCount, successorAt, referencesPlace, referenceCount, referenceAt, namesPlace, writtenAt, readAt, dataPlace, itemAt, recordEnd};
 ghost use Rattle.flow.specs.contracts.Answers.{FitRecord};
 ghost use Rattle.records.specs.contracts.Fields.{recordPart, itemCount, callLineCount, callLineAt, continuationIn, continuationTo, bitIn, setWord};
@@ -14,13 +15,6 @@ use flow::StmtId;
 use flow::bytes::u8_at;
 use flow::bytes::u16_at;
 use flow::bytes::u64_at;
-
-pub fn line(file: &[u8], p: usize) -> usize
-    requires { ⌜ FitRecord (now file) p ⌝ }
-    ensures { λ r. ⌜ r ≡ lineAt (now (file .entry)) p ⌝ }
-{
-    u16_at(file, p + 2)
-}
 
 pub fn kind(file: &[u8], p: usize) -> usize
     requires { ⌜ FitRecord (now file) p ⌝ }
@@ -203,6 +197,14 @@ pub fn record(file: &[u8], p: usize) -> &[u8]
 {
     let e = record_end(file, p);
     &file[p..e]
+}
+
+// The line of a record that was given out.
+pub fn record_line(part: &[u8]) -> usize
+    requires { ⌜ 4 ≤ length (now part) ⌝ }
+    ensures { λ r. ⌜ r ≡ lineAt (now (part .entry)) 0 ⌝ }
+{
+    u16_at(part, 2)
 }
 
 pub mod lines;

@@ -5,3 +5,4 @@ pub mod MembersWord
 pub mod WellFormed
 pub mod Members
 pub mod Copies
+pub mod Noted

@@ -3,8 +3,8 @@ ghost use mathlib.Core.Path.{_≡_};
 ghost use Prim.Native.Nat.{_<_};
 ghost use lib.ListN.{length, getD};
 ghost use Rattle.flow.specs.Flow.{statement, enters, items};
-ghost use Rattle.flow.specs.Format.{flowOf};
-ghost use Rattle.records.specs.contracts.Fields.{continuationTo, lineEntryOf};
+ghost use Rattle.flow.specs.Format.{flowOf, recordPlace};
+ghost use Rattle.records.specs.contracts.Fields.{recordPart, continuationTo, lineEntryOf};
 ghost use Rattle.theory.specs.Body as body;
 ghost use Rattle.theory.specs.Body.{kind, successors, references, callLines, continuationOf, isReturn};
 ghost use Rattle.theory.specs.Doubled as doubled;
@@ -144,4 +144,12 @@ pub fn entered(file: &[u8], h: flow::Header, work: &[u64], i: StmtId, k: usize) 
         lines,
         records::call_line(file, offset(file, work, n, i), k),
     )
+}
+
+// The record of statement i, given out as that part of the file.
+pub fn record<'a>(file: &'a [u8], work: &[u64], n: usize, i: StmtId) -> &'a [u8]
+    requires { ⌜ Ready (now file) (now work) n × (i .0 < n) ⌝ }
+    ensures { λ r. ⌜ now r ≡ recordPart (now (file .entry)) (recordPlace (now (file .entry)) (i .0)) ⌝ }
+{
+    records::record(file, offset(file, work, n, i))
 }

@@ -8,12 +8,12 @@ use Rattle.theory.specs.Reach.{closure, closureFuel, reached}
 use Rattle.theory.specs.Body.{entered, callees, walkNext, walked, called, bodies, touches, onCycle, opaque, opaqueCall, callTouches}
 use Rattle.theory.specs.Queue.{stepAll, arcCount, brings, unionBelow, pulled, changed, enqueue, visit, initial}
 use Rattle.theory.specs.Doubled.{returnsTo, returnEdges, once, callEdges, listedEdges, edgesOf, edges, kindEffects, statementEffects, edgeEffects, boundary, arcsOf, doubled}
-use Rattle.theory.specs.Masks.{maskIn}
+use Rattle.theory.specs.Masks.{maskLeft}
 use Rattle.theory.specs.Computed.{visitFront, visitTimes, solved, maskOf, visitsOf}
 use Rattle.theory.specs.Live.{unwritten, liveIn, liveOut, namesWord, liveInWord, liveOutWord}
 use Rattle.theory.specs.Listing.{placesWithin, places, decimal, hexadecimal, lineOf, maskDigits, firstLine, statementLine, flowText, refusalText, listing}
 use Rattle.theory.specs.Cases.{cases, allRight}
 
 pub all-right : T (allRight cases)
-unfolding leAt tabulate verdict each headerChecks startChecks successorChecks referenceCountChecks referenceChecks nameChecks itemChecks lineChecks continuationChecks dimChecks gosubChecks onGosubChecks dataChecks restChecks recordChecks recordEnd recordPlace statementChecks countLines lineRecordChecks endChecks fileChecks kindOf statementAt flowOf areaChecks firstOf any elem select concatMap optionList upTo sumBelow allBelow upd closure closureFuel reached entered callees walkNext walked called bodies touches onCycle opaque opaqueCall callTouches stepAll arcCount brings unionBelow pulled changed enqueue visit visitFront visitTimes initial solved returnsTo returnEdges once callEdges listedEdges edgesOf edges kindEffects statementEffects edgeEffects boundary arcsOf doubled maskIn maskOf visitsOf unwritten liveIn liveOut namesWord liveInWord liveOutWord placesWithin places decimal hexadecimal lineOf maskDigits firstLine statementLine flowText refusalText listing
+unfolding leAt tabulate verdict each headerChecks startChecks successorChecks referenceCountChecks referenceChecks nameChecks itemChecks lineChecks continuationChecks dimChecks gosubChecks onGosubChecks dataChecks restChecks recordChecks recordEnd recordPlace statementChecks countLines lineRecordChecks endChecks fileChecks kindOf statementAt flowOf areaChecks firstOf any elem select concatMap optionList upTo sumBelow allBelow upd closure closureFuel reached entered callees walkNext walked called bodies touches onCycle opaque opaqueCall callTouches stepAll arcCount brings unionBelow pulled changed enqueue visit visitFront visitTimes initial solved returnsTo returnEdges once callEdges listedEdges edgesOf edges kindEffects statementEffects edgeEffects boundary arcsOf doubled maskLeft maskOf visitsOf unwritten liveIn liveOut namesWord liveInWord liveOutWord placesWithin places decimal hexadecimal lineOf maskDigits firstLine statementLine flowText refusalText listing
 all-right = tt

@@ -67,18 +67,18 @@ calls-on (Kind.gosub l e) c = refl
 calls-on (Kind.onGosub ls e) c = refl
 
 -- kinds that go on to their listed successors, in the doubled graph and on a body walk
-pub record Listing (k : Kind) : Type 0 where
+pub record BySuccessors (k : Kind) : Type 0 where
   pub alone : continuationOf k ≡ none
   pub moves : isReturn k ≡ false
 
-listing : (k : Kind) → (goesOn k || empties k) ≡ true → Listing k
-listing Kind.other h = record { alone = refl; moves = refl }
-listing Kind.return h = record { alone = refl; moves = cc }
-listing Kind.clr h = record { alone = refl; moves = refl }
-listing Kind.run h = record { alone = refl; moves = refl }
-listing (Kind.dim items) h = record { alone = refl; moves = refl }
-listing (Kind.gosub l c) h = record { alone = cc; moves = refl }
-listing (Kind.onGosub ls c) h = record { alone = cc; moves = refl }
+by-successors : (k : Kind) → (goesOn k || empties k) ≡ true → BySuccessors k
+by-successors Kind.other h = record { alone = refl; moves = refl }
+by-successors Kind.return h = record { alone = refl; moves = cc }
+by-successors Kind.clr h = record { alone = refl; moves = refl }
+by-successors Kind.run h = record { alone = refl; moves = refl }
+by-successors (Kind.dim items) h = record { alone = refl; moves = refl }
+by-successors (Kind.gosub l c) h = record { alone = cc; moves = refl }
+by-successors (Kind.onGosub ls c) h = record { alone = cc; moves = refl }
 
 empties-wipes : (k : Kind) → empties k ≡ true → wipes k ≡ true
 empties-wipes Kind.other h = cc
@@ -129,19 +129,19 @@ module _ (f : Flow) (T : Table) (wf : WellFormed f) (listed : Listed f) (closed 
       (λ a. kept-then (r a) (act-kept f i a s v (not-wiping v o)))
 
   -- a move to a listed successor of a statement that is neither RETURN nor a call with a continuation
-  listed-move : {i j : ℕ} {s : ℕ → State} {k : List Frame} → Listing (kind f i) → In j (successors f i) → Invariant f T i s k → Invariant f T j (act f i s) k
+  listed-move : {i j : ℕ} {s : ℕ → State} {k : List Frame} → BySuccessors (kind f i) → In j (successors f i) → Invariant f T i s k → Invariant f T j (act f i s) k
   listed-move {i} g m = goes (λ b. (false, listed-edge f b i (g .alone) (g .moves) m)) (walk-listed f i (g .alone) (g .moves) m)
 
   -- CLR and RUN empty the stack, and no body that is not opaque meets them
   reset-move : {i j : ℕ} {s : ℕ → State} {k : List Frame} → empties (kind f i) ≡ true → In j (successors f i) → Invariant f T i s k → Invariant f T j (act f i s) []
   reset-move {i} h m (Invariant.outer t l) =
-      let g = listing (kind f i) (rw (h, or-true)) in
+      let g = by-successors (kind f i) (rw (h, or-true)) in
       Invariant.outer (along Zero i _ t (listed-edge f Zero i (g .alone) (g .moves) m)) Level.bottom
   reset-move {i} h m (Invariant.last t w o) = absurd (o (Opaque.own w (empties-wipes (kind f i) h)))
   reset-move {i} h m (Invariant.inner t w o c q b call r) = absurd (o (Opaque.own w (empties-wipes (kind f i) h)))
 
   -- a call without a continuation goes by a listed successor and pushes "end"
-  enter-ending : {i e : ℕ} {s : ℕ → State} {k : List Frame} → Listing (kind f i) → In e (entered f i) → Invariant f T i s k
+  enter-ending : {i e : ℕ} {s : ℕ → State} {k : List Frame} → BySuccessors (kind f i) → In e (entered f i) → Invariant f T i s k
       → Invariant f T e (act f i s) (end ∷ k)
   enter-ending {i} {e} g m inv = go (listed-move g (listed .enters i e m) inv)
     where
@@ -220,7 +220,7 @@ module _ (f : Flow) (T : Table) (wf : WellFormed f) (listed : Listed f) (closed 
       resumed d q m (λ a. kept-then (r a) (act-kept f i a s w (not-wiping w o))) call
 
   moved : {x y : Config} → Move f x y → Invariant f T (x .stmt) (x .states) (x .stack) → Invariant f T (y .stmt) (y .states) (y .stack)
-  moved (Move.next {i = i} h m) inv = listed-move (listing (kind f i) (rw h)) m inv
+  moved (Move.next {i = i} h m) inv = listed-move (by-successors (kind f i) (rw h)) m inv
   moved (Move.reset h m) inv = reset-move h m inv
   moved (Move.gosub {c = c} h m) inv = call-move c (ap continuationOf h) (ap isReturn h) m inv
   moved (Move.on-gosub {c = c} h m) inv = call-move c (ap continuationOf h) (ap isReturn h) m inv

@@ -14,7 +14,7 @@ use Rattle.flow.specs.Flow.{Flow, size}
 use Rattle.theory.specs.contracts.WellFormed.{WellFormed}
 use Rattle.theory.specs.Queue.{Arc, Solver, Over, initial, visitBound}
 use Rattle.theory.specs.Doubled.{Edge, at, number, node, edges, edgeEffects, boundary, arcsOf, doubled}
-use Rattle.theory.specs.Masks.{maskIn, BringsTo, copy}
+use Rattle.theory.specs.Masks.{maskLeft, BringsTo, copy}
 use Rattle.theory.specs.Computed.{Progress, solved, maskOf, visitsOf}
 use Rattle.theory.specs.Runs.{Config, Run, Listed}
 use Rattle.theory.proofs.Lists.{In-map}
@@ -47,9 +47,9 @@ pub term-1-visits : (f : Flow) → WellFormed f → {k : ℕ} {st : Solver} → 
 unfolding visitsOf
 term-1-visits f wf over = ap (λ (x : Progress). x .count) (over-solved (doubled-well-formed f wf) over)
 
-pub term-1-masks : (f : Flow) → WellFormed f → {k : ℕ} {st : Solver} → Over (doubled f) k st → (i a : ℕ) → maskIn f st i a ≡ maskOf f i a
+pub term-1-masks : (f : Flow) → WellFormed f → {k : ℕ} {st : Solver} → Over (doubled f) k st → (i a : ℕ) → maskLeft f st i a ≡ maskOf f i a
 unfolding maskOf
-term-1-masks f wf over i a = ap (λ (x : Progress). maskIn f (x .state) i a) (over-solved (doubled-well-formed f wf) over)
+term-1-masks f wf over i a = ap (λ (x : Progress). maskLeft f (x .state) i a) (over-solved (doubled-well-formed f wf) over)
 
 -- with n 0 there are no visits
 pub term-1-empty : (f : Flow) → size f ≡ 0 → Over (doubled f) 0 (initial (doubled f))
@@ -70,25 +70,25 @@ module _ (f : Flow) (wf : WellFormed f) {k : ℕ} {st : Solver} (over : Over (do
   nodes-exist h = omega arith
 
   -- every state of a statement's mask is brought by a walk
-  pub term-2-sound : {a i : ℕ} {s : State} → holds (maskIn f st i a) s ≡ true → BringsTo f a i s
-  unfolding maskIn
+  pub term-2-sound : {a i : ℕ} {s : State} → holds (maskLeft f st i a) s ≡ true → BringsTo f a i s
+  unfolding maskLeft
   term-2-sound {a} {i} {s} h = ⊎-elim (of Zero) (of N) (or-held (st .masks (number f (at Zero i)) a) (st .masks (number f (at N i)) a) s h)
     where
       of : (b : Base) → holds (st .masks (number f (at b i)) a) s ≡ true → BringsTo f a i s
       of b h = copy b (over-brought (doubled f) (doubled-well-formed f wf) over (number f (at b i)) a s h)
 
   -- and every state that a walk brings is in it
-  pub term-2-complete : {a i : ℕ} {s : State} → i < size f → a < f .arrays → BringsTo f a i s → holds (maskIn f st i a) s ≡ true
-  unfolding maskIn doubled
+  pub term-2-complete : {a i : ℕ} {s : State} → i < size f → a < f .arrays → BringsTo f a i s → holds (maskLeft f st i a) s ≡ true
+  unfolding maskLeft doubled
   term-2-complete {a} {i} {s} h l (copy b w) = join b (over-holds (doubled f) (doubled-well-formed f wf) over (nodes-exist h) l w)
     where
-      join : (b : Base) → holds (st .masks (number f (at b i)) a) s ≡ true → holds (maskIn f st i a) s ≡ true
+      join : (b : Base) → holds (st .masks (number f (at b i)) a) s ≡ true → holds (maskLeft f st i a) s ≡ true
       join Zero h = or-holds-left (st .masks (number f (at Zero i)) a) (st .masks (number f (at N i)) a) s h
       join N h = or-holds-right (st .masks (number f (at Zero i)) a) (st .masks (number f (at N i)) a) s h
 
   -- a mask is a union of states, 0 to 7
-  pub term-2-below : (i a : ℕ) → maskIn f st i a < 8
-  unfolding maskIn
+  pub term-2-below : (i a : ℕ) → maskLeft f st i a < 8
+  unfolding maskLeft
   term-2-below i a =
       or-lt 3 (st .masks (number f (at Zero i)) a) (st .masks (number f (at N i)) a) (below Zero) (below N)
     where
@@ -96,13 +96,13 @@ module _ (f : Flow) (wf : WellFormed f) {k : ℕ} {st : Solver} (over : Over (do
       below b = over-below (doubled f) (doubled-well-formed f wf) over (number f (at b i)) a
 
   -- unreached: 0
-  pub term-2-unreached : (i a : ℕ) → ((s : State) → BringsTo f a i s → ⊥) → maskIn f st i a ≡ 0
-  unfolding maskIn
+  pub term-2-unreached : (i a : ℕ) → ((s : State) → BringsTo f a i s → ⊥) → maskLeft f st i a ≡ 0
+  unfolding maskLeft
   term-2-unreached i a h = ap₂ bitOr (none Zero) (none N)
     where
       none : (b : Base) → st .masks (number f (at b i)) a ≡ 0
       none b = over-unreached (doubled f) (doubled-well-formed f wf) over (number f (at b i)) a (λ s w. h s (copy b w))
 
   -- Term 3: what a run finds at a statement is in its mask, for every list of moves and every array
-  pub term-3 : Listed f → {x : Config} → Run f x → (a : ℕ) → a < f .arrays → holds (maskIn f st (x .stmt) a) (x .states a) ≡ true
+  pub term-3 : Listed f → {x : Config} → Run f x → (a : ℕ) → a < f .arrays → holds (maskLeft f st (x .stmt) a) (x .states a) ≡ true
   term-3 listed r a l = let q = run-brings f wf listed r in term-2-complete (q .0) l (copy (q .1 .0) (q .1 .1 a))

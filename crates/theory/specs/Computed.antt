@@ -5,7 +5,7 @@ use mathlib.Core.List.{List, [], _∷_}
 use Rattle.flow.specs.Flow.{Flow}
 use Rattle.theory.specs.Queue.{Graph, Solver, visit, initial, visitBound}
 use Rattle.theory.specs.Doubled.{doubled}
-use Rattle.theory.specs.Masks.{maskIn}
+use Rattle.theory.specs.Masks.{maskLeft}
 
 -- the visits so far, and the state that they lead to
 pub record Progress : Type 0 where
@@ -29,7 +29,7 @@ unfoldable pub solved : Graph → Progress
 solved g = visitTimes (visitBound g) g (progress 0 (initial g))
 
 unfoldable pub maskOf : Flow → ℕ → ℕ → ℕ
-maskOf f = maskIn f (solved (doubled f) .state)
+maskOf f = maskLeft f (solved (doubled f) .state)
 
 unfoldable pub visitsOf : Flow → ℕ
 visitsOf f = solved (doubled f) .count

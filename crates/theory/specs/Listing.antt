@@ -13,6 +13,26 @@ use Rattle.theory.specs.Lists.{concatMap, upTo}
 use Rattle.theory.specs.Computed.{maskOf}
 use Rattle.theory.specs.Live.{liveInWord, liveOutWord}
 
+-- ASCII
+
+abbrev pub newline : ℕ
+newline = 10
+
+abbrev pub space : ℕ
+space = 32
+
+abbrev pub dash : ℕ
+dash = 45
+
+abbrev pub letterF : ℕ
+letterF = 70
+
+abbrev pub letterL : ℕ
+letterL = 76
+
+abbrev pub letterR : ℕ
+letterR = 82
+
 -- how many decimal digits n takes; n of them are enough beyond the first
 unfoldable pub placesWithin : ℕ → ℕ → ℕ
 placesWithin zero n = 1
@@ -31,18 +51,18 @@ hexadecimal w = digits 16 16 w
 
 -- one space parts the fields of a line, and a newline ends it
 unfoldable pub lineOf : List (List ℕ) → List ℕ
-lineOf [] = 10 ∷ []
-lineOf (x ∷ []) = x ++ (10 ∷ [])
-lineOf (x ∷ y ∷ ys) = x ++ (32 ∷ lineOf (y ∷ ys))
+lineOf [] = newline ∷ []
+lineOf (x ∷ []) = x ++ (newline ∷ [])
+lineOf (x ∷ y ∷ ys) = x ++ (space ∷ lineOf (y ∷ ys))
 
 -- one mask digit an array, array 0 first; `-` if there are none
 unfoldable pub maskDigits : ℕ → (ℕ → ℕ) → List ℕ
-maskDigits zero mask = 45 ∷ []
+maskDigits zero mask = dash ∷ []
 maskDigits (suc k) mask = tabulate (suc k) (λ a. glyph (mask a))
 
 -- `F`, n, arrays, names
 unfoldable pub firstLine : Flow → List ℕ
-firstLine f = lineOf ((70 ∷ []) ∷ decimal (size f) ∷ decimal (f .arrays) ∷ decimal (f .names) ∷ [])
+firstLine f = lineOf ((letterF ∷ []) ∷ decimal (size f) ∷ decimal (f .arrays) ∷ decimal (f .names) ∷ [])
 
 -- statement, line, mask digits, live-in, live-out
 unfoldable pub statementLine : Flow → (ℕ → ℕ → ℕ) → (ℕ → ℕ) → (ℕ → ℕ) → ℕ → List ℕ
@@ -61,11 +81,11 @@ flowText f mask liveIn liveOut = firstLine f ++ concatMap (statementLine f mask 
 
 -- `R`, number, place
 unfoldable pub refusalText : Refusal → List ℕ
-refusalText r = lineOf ((82 ∷ []) ∷ decimal (numberOf r) ∷ decimal (placeOf r) ∷ [])
+refusalText r = lineOf ((letterR ∷ []) ∷ decimal (numberOf r) ∷ decimal (placeOf r) ∷ [])
 
 -- `L` alone
 abbrev pub longText : List ℕ
-longText = lineOf ((76 ∷ []) ∷ [])
+longText = lineOf ((letterL ∷ []) ∷ [])
 
 -- what is printed for a file, by the verdict on it
 unfoldable pub listing : Verdict → Flow → List ℕ

@@ -11,8 +11,8 @@ use Rattle.theory.specs.Walks.{Brings}
 use Rattle.theory.specs.Doubled.{doubled, number, at}
 
 -- the mask of array a at statement i, where the queue rule leaves this state
-unfoldable pub maskIn : Flow → Solver → ℕ → ℕ → ℕ
-maskIn f st i a = bitOr (st .masks (number f (at Zero i)) a) (st .masks (number f (at N i)) a)
+unfoldable pub maskLeft : Flow → Solver → ℕ → ℕ → ℕ
+maskLeft f st i a = bitOr (st .masks (number f (at Zero i)) a) (st .masks (number f (at N i)) a)
 
 -- a walk brings state s of array a to statement i, in one of its two copies
 pub data BringsTo (f : Flow) (a i : ℕ) (s : State) : Type 0 where

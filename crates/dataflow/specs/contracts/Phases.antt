@@ -11,7 +11,7 @@ use Rattle.flow.specs.contracts.Answers.{FitFile}
 use Rattle.flow.specs.contracts.Answers.{headerOf}
 use Rattle.theory.specs.Doubled.{doubled}
 use Rattle.theory.specs.Queue.{Solver, Over}
-use Rattle.theory.specs.Masks.{maskIn}
+use Rattle.theory.specs.Masks.{maskLeft}
 use Rattle.theory.specs.Live.{liveInWord, liveOutWord}
 use Rattle.statements.specs.contracts.Layout.{queueAt, enteredRowAt, areaEnd}
 use Rattle.statements.specs.contracts.Ready.{Ready, Indexed}
@@ -37,7 +37,7 @@ pub record FitAreas (s : List ℕ) (h : Header) (masks liveIn liveOut work : Lis
 pub record Findings (f : Flow) (masks masks′ liveIn liveIn′ liveOut liveOut′ : List ℕ) (visits : ℕ) : Type 0 where
   pub left : Solver
   pub over : Over (doubled f) visits left
-  pub mask-bytes : (i a : ℕ) → i < size f → a < f .arrays → getD masks′ (i * (f .arrays) + a) 0 ≡ maskIn f left i a
+  pub mask-bytes : (i a : ℕ) → i < size f → a < f .arrays → getD masks′ (i * (f .arrays) + a) 0 ≡ maskLeft f left i a
   pub masks-size : length masks′ ≡ length masks
   pub masks-kept : (x : ℕ) → size f * (f .arrays) ≤ x → getD masks′ x 0 ≡ getD masks x 0
   pub live-in : Written (size f) (liveInWord f) liveIn liveIn′
@@ -61,6 +61,6 @@ pub record Masked (s : List ℕ) (h : Header) (masks masks′ vs : List ℕ) (vi
   pub ready : Ready s vs (h .statements)
   pub left : Solver
   pub over : Over (doubled (flowOf s)) visits left
-  pub bytes : (i a : ℕ) → i < h .statements → a < h .arrays → getD masks′ (i * (h .arrays) + a) 0 ≡ maskIn (flowOf s) left i a
+  pub bytes : (i a : ℕ) → i < h .statements → a < h .arrays → getD masks′ (i * (h .arrays) + a) 0 ≡ maskLeft (flowOf s) left i a
   pub masks-size : length masks′ ≡ length masks
   pub masks-kept : (x : ℕ) → h .statements * (h .arrays) ≤ x → getD masks′ x 0 ≡ getD masks x 0

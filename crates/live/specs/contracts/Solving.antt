@@ -21,7 +21,7 @@ use Rattle.live.specs.contracts.Spread.{missing}
 abbrev pub transfer : Flow → ℕ → ℕ → ℕ
 transfer f j after = bitOr (statement f j .read) (without after (statement f j .written))
 
-pub record Settled (f : Flow) (n : ℕ) (ins outs : List ℕ) (j : ℕ) : Type 0 where
+pub record HandedOn (f : Flow) (n : ℕ) (ins outs : List ℕ) (j : ℕ) : Type 0 where
   pub equation : getD ins j 0 ≡ transfer f j (getD outs j 0)
   pub carried : (i x : ℕ) → i < n → In j (successors f i) → bit (getD ins j 0) x ≡ 1 → bit (getD outs i 0) x ≡ 1
 
@@ -29,7 +29,7 @@ pub record Solving (f : Flow) (n : ℕ) (ins outs w : List ℕ) : Type 0 where
   pub small : (k : ℕ) → In k w → k < n
   pub sound-in : (i x : ℕ) → i < n → bit (getD ins i 0) x ≡ 1 → LiveIn f x i
   pub sound-out : (i x : ℕ) → i < n → bit (getD outs i 0) x ≡ 1 → LiveOut f x i
-  pub settled : (j : ℕ) → j < n → In j w ⊎ Settled f n ins outs j
+  pub handed-on : (j : ℕ) → j < n → In j w ⊎ HandedOn f n ins outs j
 
 -- the queue holds numbers for which all this holds
 abbrev pub Held : Flow → ℕ → List ℕ → List ℕ → List ℕ → Queue → Type 0
