@@ -32,7 +32,8 @@ fn words(text: &str) -> Vec<String> {
     let mut word = String::new();
     let mut before = ' ';
     for c in text.chars().chain([' ']) {
-        if inside(c) && (!word.is_empty() || c.is_alphabetic() || c == '_') || (c == '.' && !word.is_empty()) {
+        if inside(c) && (!word.is_empty() || c.is_alphabetic() || c == '_') || (c == '.' && !word.is_empty())
+        {
             word.push(c);
         } else if !word.is_empty() {
             // ` .field` asks for a field of a value
@@ -113,13 +114,22 @@ impl Module {
             } else if line.is_empty() {
                 open = None;
             } else if let Some(name) = defined(line).filter(|_| !line.starts_with(' ')) {
-                let item = Item { first: comment.unwrap_or(number), last: number, gives: Vec::new(), uses: Vec::new() };
+                let item = Item {
+                    first: comment.unwrap_or(number),
+                    last: number,
+                    gives: Vec::new(),
+                    uses: Vec::new(),
+                };
                 module.items.insert(name.clone(), item);
                 module.order.push(name.clone());
                 open = Some(name);
             } else if open.is_none() && !line.starts_with(' ') {
                 // equations go on after a blank line or a comment
-                open = line.split_whitespace().next().map(str::to_string).filter(|name| module.items.contains_key(name));
+                open = line
+                    .split_whitespace()
+                    .next()
+                    .map(str::to_string)
+                    .filter(|name| module.items.contains_key(name));
             }
             comment = None;
             if let Some(item) = open.as_ref().and_then(|name| module.items.get_mut(name)) {
@@ -142,7 +152,12 @@ impl Module {
         for (number, line) in text.lines().enumerate().map(|(k, line)| (k + 1, line)) {
             if let Some(rest) = strip(line, &["pub struct ", "pub enum "]) {
                 let name: String = rest.chars().take_while(|c| c.is_alphanumeric()).collect();
-                let item = Item { first: comment.unwrap_or(number), last: number, gives: Vec::new(), uses: held(rest) };
+                let item = Item {
+                    first: comment.unwrap_or(number),
+                    last: number,
+                    gives: Vec::new(),
+                    uses: held(rest),
+                };
                 module.items.insert(name.clone(), item);
                 module.order.push(name.clone());
                 open = (!line.ends_with(';')).then_some(name);
@@ -169,7 +184,8 @@ fn text_of(path: &Path) -> String {
 }
 
 fn rattle_sources(folder: &Path) -> Vec<std::path::PathBuf> {
-    let mut sources: Vec<_> = fs::read_dir(folder).into_iter().flatten().flatten().map(|entry| entry.path()).collect();
+    let mut sources: Vec<_> =
+        fs::read_dir(folder).into_iter().flatten().flatten().map(|entry| entry.path()).collect();
     sources.retain(|path| path.extension().is_some_and(|e| e == "rt"));
     sources.sort();
     sources
@@ -178,12 +194,19 @@ fn rattle_sources(folder: &Path) -> Vec<std::path::PathBuf> {
 impl Library {
     pub fn load(root: &Path) -> Library {
         let listed = text_of(&root.join("crates.txt"));
-        let crates = listed.lines().filter(|l| !l.starts_with('#')).filter_map(|l| l.split_once(':')).map(|(name, _)| name);
+        let crates = listed
+            .lines()
+            .filter(|l| !l.starts_with('#'))
+            .filter_map(|l| l.split_once(':'))
+            .map(|(name, _)| name);
         let mut modules = Vec::new();
         for name in crates {
             for source in rattle_sources(&root.join("crates").join(name).join("src")) {
                 let file = source.file_name().unwrap().to_str().unwrap().to_string();
-                modules.push((format!("{name}/src/{file}"), Module::declared(&format!("{name}/src/{file}"), &text_of(&source))));
+                modules.push((
+                    format!("{name}/src/{file}"),
+                    Module::declared(&format!("{name}/src/{file}"), &text_of(&source)),
+                ));
             }
             Library::below(root, name, "Lib", "", &mut modules);
         }
@@ -210,7 +233,9 @@ impl Library {
     fn find(&self, module: &str, name: &str) -> Option<(String, String)> {
         if let Some((krate, rest)) = module.split_once("/declared/") {
             let kind = rest.split('/').next().unwrap();
-            let own = |(n, m): &&(String, Module)| n.starts_with(&format!("{krate}/src/")) && m.items.contains_key(kind);
+            let own = |(n, m): &&(String, Module)| {
+                n.starts_with(&format!("{krate}/src/")) && m.items.contains_key(kind)
+            };
             return self.modules.iter().find(own).map(|(n, _)| (n.clone(), kind.to_string()));
         }
         let here = self.module(module)?;
@@ -224,12 +249,21 @@ impl Library {
         self.find(from, what)
     }
 
+    /// The path of a module that is the toolchain's.
+    fn outside(&self, module: &str) -> Option<String> {
+        let krate = module.split('/').next().unwrap();
+        let own = self.modules.iter().any(|(name, _)| name.split('/').next() == Some(krate));
+        (!own).then(|| module.trim_start_matches('~').replace('/', "."))
+    }
+
     /// What a word of a module's text means: an item of the repository, or a name of the toolchain.
     fn means(&self, module: &str, here: &Module, word: &str) -> Result<(String, String), Option<String>> {
         let mut parts = word.split('.');
         let (head, next) = (parts.next().unwrap(), parts.next());
         if let Some((from, name)) = here.names.get(head) {
-            return self.find(from, name).ok_or_else(|| from.strip_prefix('~').map(|path| format!("{path}.{name}")));
+            return self
+                .find(from, name)
+                .ok_or_else(|| self.outside(from).map(|path| format!("{path}.{name}")));
         }
         if let (Some(from), Some(name)) = (here.modules.get(head), next) {
             return self.find(from, name).ok_or(None);
@@ -253,14 +287,19 @@ impl Library {
         found.iter().filter_map(|word| self.means("", &here, word).ok()).collect()
     }
 
-    /// Every definition that the promises of the doors and of the listing rest on, file by file.
-    pub fn believed(&self, root: &Path) -> String {
-        let mut todo = Vec::new();
-        for (name, module) in self.modules.iter().filter(|(name, _)| name.contains("/src/")) {
+    /// What is named in the contracts of the functions that are exported to other languages, or of those
+    /// of one crate that the test names.
+    fn named(&self, root: &Path, exported: impl Fn(&str, &str, &str) -> bool) -> Vec<(String, String)> {
+        let sources = self.modules.iter().filter(|(name, _)| name.contains("/src/"));
+        let named = |(name, module): &(String, Module)| {
             let text = text_of(&root.join("crates").join(&module.path));
-            let listing = name.starts_with("listing/");
-            todo.extend(self.roots(&text, |before, line| before == "#[no_mangle]" || listing && line.starts_with("pub fn listing(")));
-        }
+            self.roots(&text, |before, line| exported(name, before, line))
+        };
+        sources.flat_map(named).collect()
+    }
+
+    /// All that these rest on: definitions of the repository, and names of the toolchain.
+    fn below_all(&self, mut todo: Vec<(String, String)>) -> (BTreeSet<(String, String)>, BTreeSet<String>) {
         let mut seen = BTreeSet::new();
         let mut toolchain = BTreeSet::new();
         while let Some((module, name)) = todo.pop() {
@@ -277,7 +316,31 @@ impl Library {
                 }
             }
         }
-        self.table(&seen, &toolchain)
+        (seen, toolchain)
+    }
+
+    /// Every definition that the promises of the doors rest on, and what the listing's promise rests on besides.
+    pub fn believed(&self, root: &Path) -> String {
+        let doors = self.below_all(self.named(root, |_, before, _| before == "#[no_mangle]"));
+        let program = |name: &str, _: &str, line: &str| {
+            name.starts_with("listing/") && line.starts_with("pub fn listing(")
+        };
+        let mut listing = self.below_all(self.named(root, program));
+        listing.0.retain(|item| !doors.0.contains(item));
+        listing.1.retain(|path| !doors.1.contains(path));
+        format!(
+            "{}\nThe promise of the listing program rests on these besides:\n\n{}",
+            self.table(&doors),
+            self.table(&listing)
+        )
+    }
+
+    /// The names of those definitions, each with its module.
+    pub fn believed_names(&self, root: &Path) -> BTreeSet<(String, String)> {
+        let all = |name: &str, before: &str, line: &str| {
+            before == "#[no_mangle]" || name.starts_with("listing/") && line.starts_with("pub fn listing(")
+        };
+        self.below_all(self.named(root, all)).0
     }
 
     fn type_named(&self, word: &str) -> Option<(String, String)> {
@@ -285,21 +348,29 @@ impl Library {
         self.modules.iter().find(holds).map(|(n, _)| (n.clone(), word.to_string()))
     }
 
-    fn table(&self, seen: &BTreeSet<(String, String)>, toolchain: &BTreeSet<String>) -> String {
+    fn table(&self, (seen, toolchain): &(BTreeSet<(String, String)>, BTreeSet<String>)) -> String {
         let mut out = String::from("| file | lines | definitions, each with its lines |\n|---|---|---|\n");
         let (mut count, mut all) = (0, 0);
         for (name, module) in &self.modules {
-            let own: Vec<_> = module.order.iter().filter(|item| seen.contains(&(name.clone(), (*item).clone()))).collect();
+            let own: Vec<_> =
+                module.order.iter().filter(|item| seen.contains(&(name.clone(), (*item).clone()))).collect();
             if own.is_empty() {
                 continue;
             }
-            let lines: usize = own.iter().map(|item| module.items[*item].last + 1 - module.items[*item].first).sum();
-            let each: Vec<_> = own.iter().map(|i| format!("`{i}` {}-{}", module.items[*i].first, module.items[*i].last)).collect();
+            let lines: usize =
+                own.iter().map(|item| module.items[*item].last + 1 - module.items[*item].first).sum();
+            let each: Vec<_> = own
+                .iter()
+                .map(|i| format!("`{i}` {}-{}", module.items[*i].first, module.items[*i].last))
+                .collect();
             out += &format!("| {} | {lines} | {} |\n", module.path, each.join(", "));
             count += own.len();
             all += lines;
         }
         let names: Vec<_> = toolchain.iter().map(|path| format!("`{path}`")).collect();
-        out + &format!("| all | {all} | {count} definitions; of the toolchain's own: {} |\n", names.join(", "))
+        out + &format!(
+            "| all | {all} | {count} definitions; of the toolchain's own: {} |\n",
+            names.join(", ")
+        )
     }
 }

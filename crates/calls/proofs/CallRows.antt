@@ -1,6 +1,6 @@
 -- Laws of `Notes`, what noting changes in the rows of the calls that are transparent: nothing, one row, and one change after another.
 -- By the layout of the work area: rows are apart, and no row lies where the calls' states do. Assumes nothing.
-use Prim.Native.Nat.{ℕ, _+_, _/_, _≤_, _<_}
+use Prim.Native.Nat.{ℕ, _+_, _≤_, _<_}
 use mathlib.Core.Bool.{cond}
 use mathlib.Core.List.{List}
 use mathlib.Core.Logic.{_≢_}

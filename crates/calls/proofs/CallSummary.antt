@@ -1,7 +1,7 @@
 -- The summary of a call, line by line: the bodies that the lines passed by enter were entered, and are transparent with their arrays noted, or the call is opaque.
 -- An open body that the call enters lies on a cycle of calls, since calls lead from every open body to each body that the call enters.
 use Prim.Native.Nat.{ℕ, _+_, _<_, _≤_, zero-le}
-use mathlib.Core.Bool.{Bool, true, false, not, _||_}
+use mathlib.Core.Bool.{Bool, true, false, _||_}
 use mathlib.Core.List.{List, [], List·Memᴰ·not-nil, List·Memᴰ·append-cases}
 use mathlib.Core.Logic.{_≢_, _⊎_, inl, inr, ⊎-elim}
 use mathlib.Core.Option.{none, some}
@@ -20,7 +20,7 @@ use Rattle.theory.proofs.Lists.{clash, or-cases, or-first, or-second, any-find,
 use Rattle.theory.proofs.Body.{touches-sound, opaque-sound, opaqueCall-complete, callTouches-complete}
 use Rattle.statements.specs.contracts.Layout.{callsAt, callTouchedAt, bodiesAt, matrixAt}
 use Rattle.calls.specs.contracts.Held.{unentered, transparent, opaque}
-use Rattle.calls.specs.contracts.Summing.{body, call, touchedBy, callTouchedBy, summaryState, Holds, BodyState, CalleesEntered, CallState, Summing, Onward, Leads, BodyJoined, BodySummed, CallSummed}
+use Rattle.calls.specs.contracts.Summing.{body, touchedBy, callTouchedBy, summaryState, Holds, BodyState, CalleesEntered, CallState, Summing, Onward, Leads, BodyJoined, BodySummed, CallSummed}
 use Rattle.calls.proofs.Lines.{enteredBy, entered-more, entered-all, entered-line}
 use Rattle.calls.proofs.Summing.{joined-has, onward-refl, onward-trans, callee-low, onward-callTouched, summing-callTouched, call-set, call-other, onward-call, summing-call}
 use Rattle.calls.proofs.BodySummary.{summary-state-not}

@@ -14,7 +14,7 @@ use Rattle.words.specs.contracts.Row as row
 use Rattle.words.specs.contracts.Row.{nextMember, First}
 use Rattle.words.proofs.Row.{has-lt}
 use Rattle.words.proofs.NextMember.{first}
-use Rattle.flow.specs.Flow.{Flow, size, enters}
+use Rattle.flow.specs.Flow.{Flow, size}
 use Rattle.theory.specs.Lists.{any, elem, concatMap, upTo}
 use Rattle.theory.specs.Reach.{Reach}
 use Rattle.theory.specs.Body.{kind, continuationOf, isReturn, entered, callees, walked, opaqueCall, callTouches}

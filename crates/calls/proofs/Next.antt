@@ -14,7 +14,7 @@ use Rattle.flow.specs.Flow.{Flow, size}
 use Rattle.theory.specs.Lists.{In, any, concatMap, optionList, select, upTo}
 use Rattle.theory.specs.Body.{kind, successors, continuationOf, isReturn, opaqueCall}
 use Rattle.theory.specs.contracts.WellFormed.{WellFormed}
-use Rattle.theory.specs.Doubled.{Node, Edge, at, plain, offset, number, returnsTo, returnEdges, listedEdges, edgesOf, edges}
+use Rattle.theory.specs.Doubled.{Node, Edge, at, plain, offset, returnsTo, returnEdges, listedEdges, edgesOf, edges}
 use Rattle.theory.proofs.Lists.{clash, In-map}
 use Rattle.theory.proofs.Edges.{edge-below}
 use Rattle.statements.specs.contracts.Layout.{callsAt}

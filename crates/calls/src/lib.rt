@@ -11,6 +11,7 @@ pub const UNENTERED: u64 = 0;
 
 pub const OPEN: u64 = 1;
 
+// Not opaque; the paper has no word of its own for it.
 pub const TRANSPARENT: u64 = 2;
 
 pub const OPAQUE: u64 = 3;

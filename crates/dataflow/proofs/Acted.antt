@@ -6,13 +6,13 @@ use mathlib.Core.List.{List, [], _∷_, _++_}
 use mathlib.Core.Path.{_≡_, refl, sym, ap, ap₂, subst, _∙_}
 use native.Mathlib.Decide.{decLt}
 use native.Mathlib.Omega.{arith}
-use borrow.Author.Tests.{lt-ltb, le-ltb, eqb-true, ne-eqb}
+use borrow.Author.Tests.{lt-ltb, le-ltb, eqb-true}
 use lib.Dec.{eqb, ltb}
 use Rattle.masks.specs.declared.Effect.{Effect}
 use Rattle.masks.specs.declared.Effect.the-variants.{Reference, Dim, Reset}
 use Rattle.masks.specs.Step.{stepOf}
-use Rattle.flow.specs.Flow.{Flow, Kind, Item, items}
-use Rattle.theory.specs.Lists.{In, any, elem}
+use Rattle.flow.specs.Flow.{Flow, Kind, items}
+use Rattle.theory.specs.Lists.{any, elem}
 use Rattle.theory.specs.Body.{kind, references}
 use Rattle.theory.specs.Doubled.{dims, resets, kindEffects, statementEffects}
 use Rattle.theory.specs.Queue.{stepAll}

@@ -4,7 +4,7 @@ use Prim.Native.Nat.{ℕ, _+_, _*_, _/_, _<_, _≤_}
 use mathlib.Core.List.{List}
 use mathlib.Core.Path.{_≡_, refl, _∙_}
 use native.Mathlib.Omega.{arith}
-use lib.ListN.{length, getD}
+use lib.ListN.{getD}
 use Rattle.words.proofs.Bytes.{byte-cong}
 use Rattle.flow.specs.Limits.{maxArrays}
 use Rattle.statements.specs.contracts.Layout.{queueAt, enteredRowAt, areaEnd}

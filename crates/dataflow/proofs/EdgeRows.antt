@@ -10,7 +10,6 @@ use lib.Dec.{eqb, ltb}
 use lib.ListN.{getD}
 use Rattle.words.specs.contracts.Row as bits
 use Rattle.words.specs.contracts.Byte.{byteAt}
-use Rattle.masks.specs.declared.Effect.{Effect}
 use Rattle.masks.specs.declared.Effect.the-variants.{Touched}
 use Rattle.masks.specs.Step.{stepOf}
 use Rattle.flow.specs.Flow.{Flow}

@@ -1,26 +1,25 @@
 -- The visits of a fit file's flow can be counted in a word: every list of the file lies within it, so a number has few edges, and the visits are within
 -- Term 1's bound.
-use Prim.Native.Nat.{ℕ, zero, _+_, _-_, _*_, _^_, _≤_, _<_, zero-le}
+use Prim.Native.Nat.{ℕ, _+_, _-_, _*_, _^_, _≤_, _<_, zero-le}
 use mathlib.Core.Bool.{Bool, true, false, cond, not, _||_}
 use mathlib.Core.List.{List, [], _∷_, _++_, map}
 use mathlib.Core.Option.{Option, none, some}
-use mathlib.Core.Path.{_≡_, sym, ap, subst}
+use mathlib.Core.Path.{_≡_, sym, subst}
 use native.Mathlib.Decide.{decLt}
-use native.Mathlib.Nat.{mul-le-mul-left, mul-le-mul-right, le-trans}
+use native.Mathlib.Nat.{mul-le-mul-right}
 use native.Mathlib.Omega.{arith}
-use lib.Dec.{eqb, ltb}
+use lib.Dec.{eqb}
 use lib.ListN.{length, length-append, length-map}
 use Rattle.flow.specs.declared.Base.{Base}
 use Rattle.flow.specs.declared.Base.the-variants.{Zero, N}
-use Rattle.flow.specs.Flow.{Flow, size, enters, statement}
-use Rattle.flow.specs.Format.{flowOf, statementsOf, successorCount, kindAt, dataPlace}
-use Rattle.flow.specs.contracts.Answers.{FitFile}
+use Rattle.flow.specs.Flow.{Flow, size, enters}
+use Rattle.flow.specs.Format.{flowOf}
 use Rattle.flow.specs.Limits.{maxFile, maxStatements, maxArrays}
 use Rattle.records.proofs.Files.{limited}
 use Rattle.theory.specs.Lists.{any, elem, select, concatMap, optionList, upTo, sumBelow}
 use Rattle.theory.specs.Body.{kind, successors, callLines, continuationOf, isReturn, entered, opaqueCall}
 use Rattle.theory.specs.Doubled.{Node, Edge, at, plain, node, sameNode, once, edges, edgesOf, listedEdges, returnEdges, callEdges, returnsTo, number, edgeEffects, arcsOf, doubled}
-use Rattle.theory.specs.Queue.{Graph, Arc, arcCount, visitBound}
+use Rattle.theory.specs.Queue.{Arc, arcCount, visitBound}
 use Rattle.theory.proofs.Lists.{length-upTo, sumBelow-le}
 use Rattle.theory.proofs.Below.{sumBelow-const}
 use Rattle.statements.specs.contracts.Ready.{Ready}

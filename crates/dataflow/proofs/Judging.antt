@@ -3,9 +3,9 @@
 use Prim.Native.Nat.{ℕ, zero, suc, _*_, _≤_}
 use native.Mathlib.Omega.{arith}
 use mathlib.Core.Bool.{Bool, true, false, cond, _&&_}
-use mathlib.Core.List.{List, _++_}
+use mathlib.Core.List.{List}
 use mathlib.Core.Path.{_≡_, refl, ap, sym, _∙_, subst}
-use lib.Dec.{leb, leb→le, T}
+use lib.Dec.{leb}
 use lib.ListN.{length, getD, replicate}
 use borrow.Author.Tests.{leb-true}
 use Rattle.words.specs.contracts.Change.{zeroed}
@@ -16,12 +16,12 @@ use Rattle.flow.specs.declared.Header.{Header}
 use Rattle.flow.specs.declared.Checked.{Checked}
 use Rattle.flow.specs.declared.Checked.the-variants.{Fit, Unfit}
 use Rattle.flow.specs.Limits.{workWords}
-use Rattle.flow.specs.Flow.{Flow, size}
+use Rattle.flow.specs.Flow.{size}
 use Rattle.flow.specs.Format.{Verdict, fit, unfit, verdict, fileChecks, areaChecks, flowOf, statementsOf, arraysOf}
 use Rattle.flow.specs.contracts.Answers.{FitFile, isFit}
 use Rattle.flow.specs.contracts.Answers.{headerOf, checkedOf}
 use Rattle.flow.proofs.Verdicts.{fit-append, unfit-append}
-use Rattle.flow.proofs.AreaVerdict.{longEnough, area-verdict, areas-fit}
+use Rattle.flow.proofs.AreaVerdict.{area-verdict, areas-fit}
 use Rattle.flow.proofs.Reading.{fit-answer, unfit-answer, accepts}
 use Rattle.records.proofs.Statements.{size-is}
 use Rattle.theory.specs.Doubled.{doubled}

@@ -2,9 +2,9 @@
 -- By the layout of the work area.
 use Prim.Native.Nat.{ℕ, _+_, _/_, _<_, _≤_}
 use mathlib.Core.List.{List}
-use mathlib.Core.Path.{_≡_, sym, ap, _∙_}
+use mathlib.Core.Path.{_≡_, sym, _∙_}
 use native.Mathlib.Omega.{arith}
-use lib.ListN.{length, getD}
+use lib.ListN.{getD}
 use Rattle.words.specs.contracts.Row.{has}
 use Rattle.words.proofs.Row.{has-cong}
 use Rattle.flow.specs.declared.Header.{Header}

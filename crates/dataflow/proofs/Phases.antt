@@ -5,19 +5,16 @@ use native.Mathlib.Omega.{arith}
 use native.Mathlib.Nat.{zero-add}
 use native.Mathlib.Decide.{decLt}
 use mathlib.Core.List.{List}
-use mathlib.Core.Path.{_≡_, refl, ap, ap₂, sym, _∙_, subst}
+use mathlib.Core.Path.{_≡_, ap, ap₂, sym, _∙_, subst}
 use lib.Bits.{bitOr}
 use lib.ListN.{length, getD}
-use Rattle.words.specs.contracts.Byte.{byteAt}
 use Rattle.words.specs.contracts.Change.{zeroed}
 use Rattle.words.proofs.Zeroed.{zeroed-word, zeroed-other}
 use Rattle.flow.specs.declared.Header.{Header}
-use Rattle.flow.specs.Limits.{maxStatements, maxArrays}
-use Rattle.flow.specs.Flow.{Flow, size}
-use Rattle.flow.specs.Format.{flowOf, recordPlace, statementsOf, arraysOf}
+use Rattle.flow.specs.Flow.{size}
+use Rattle.flow.specs.Format.{flowOf, recordPlace}
 use Rattle.words.specs.contracts.Change.{noted}
 use Rattle.flow.specs.contracts.Answers.{headerOf}
-use Rattle.records.proofs.Files.{limited}
 use Rattle.records.proofs.Noting.{noted-other}
 use Rattle.records.proofs.Statements.{size-is}
 use Rattle.theory.specs.Masks.{maskLeft}
@@ -33,28 +30,27 @@ use Rattle.calls.specs.contracts.Held.{Summarized, Linked}
 use Rattle.dataflow.specs.Promise.{Written}
 use Rattle.dataflow.specs.contracts.Phases.{FitFlow, SummariesMade, SolverStart, Masked, Findings}
 use Rattle.dataflow.specs.contracts.Solving as solver
-use Rattle.solve.specs.contracts.Pushed.{masksAt}
 use Rattle.dataflow.specs.contracts.Bytes.{bothCopies, notedRows}
 use Rattle.dataflow.proofs.Kept.{indexed-stays, linked-stays}
 use Rattle.dataflow.proofs.NotedRows.{length-rows, rows-past, rows-at}
 
 module _ {s : List ℕ} {h : Header} where
-  module _ {ws : List ℕ} (fresh : FitFlow s h ws) where
+  module _ {ws : List ℕ} (flow-fit : FitFlow s h ws) where
     -- what is noted stands below the calls
     past : (x : ℕ) → h .statements ≤ x → getD (noted ws 0 (h .statements) (recordPlace s)) x 0 ≡ 0
-    past x l = noted-other ws 0 (recordPlace s) (h .statements) x 0 (λ i m e. omega (arith, zero-add i)) ∙ fresh .zero x
+    past x l = noted-other ws 0 (recordPlace s) (h .statements) x 0 (λ i m e. omega (arith, zero-add i)) ∙ flow-fit .zero x
 
     pub room-fits : 0 + h .statements ≤ length ws
-    room-fits = omega (arith, fresh .work-room)
+    room-fits = omega (arith, flow-fit .work-room)
 
     noted-ready : {vs : List ℕ} → vs ≡ noted ws 0 (h .statements) (recordPlace s) → Ready s vs (h .statements)
-    noted-ready = ready-noted ws (fresh .fit) (ap (λ (x : Header). x .statements) (fresh .header)) (fresh .work-room)
+    noted-ready = ready-noted ws (flow-fit .fit) (ap (λ (x : Header). x .statements) (flow-fit .header)) (flow-fit .work-room)
 
     pub noted-indexed : {vs : List ℕ} → vs ≡ noted ws 0 (h .statements) (recordPlace s) → Indexed s h vs
-    noted-indexed e = record { ready = noted-ready e; header = fresh .header }
+    noted-indexed e = record { ready = noted-ready e; header = flow-fit .header }
 
-    pub noted-fresh : {vs : List ℕ} → vs ≡ noted ws 0 (h .statements) (recordPlace s) → held.NoSummaries vs (h .statements)
-    noted-fresh e = record { words = λ x l m. ap (λ v. getD v x 0) e ∙ past x l }
+    pub no-summaries : {vs : List ℕ} → vs ≡ noted ws 0 (h .statements) (recordPlace s) → held.NoSummaries vs (h .statements)
+    no-summaries e = record { words = λ x l m. ap (λ v. getD v x 0) e ∙ past x l }
 
     pub summed : {vs us : List ℕ} → vs ≡ noted ws 0 (h .statements) (recordPlace s) → Summarized (flowOf s) us (h .statements)
         → Keeps (callsAt (h .statements)) (enteredRowAt (h .statements)) vs us → SummariesMade s h us

@@ -3,7 +3,6 @@
 use Prim.Native.Nat.{ℕ, _+_, _*_, _/_, _%_, _^_, _<_, _≤_}
 use mathlib.Core.Bool.{Bool, false, cond}
 use mathlib.Core.List.{List, [], _∷_}
-use mathlib.Core.Logic.{_≢_}
 use mathlib.Core.Path.{_≡_, refl, sym, ap, ap₂, subst, _∙_}
 use native.Mathlib.Decide.{decLt, ℕ-discrete}
 use native.Mathlib.Nat.{zero-add, zero-div}
@@ -38,7 +37,7 @@ use Rattle.solve.specs.contracts.Waiting.{Waits, Enqueued}
 use Rattle.solve.specs.contracts.Pushed.{masksAt}
 use Rattle.solve.proofs.Waiting.{rest-keeps, waits-none}
 use Rattle.dataflow.specs.contracts.Sent.{masksBelow}
-use Rattle.dataflow.specs.contracts.Solving.{Solving, Underway, VisitsFront, Unused, RuleResult}
+use Rattle.dataflow.specs.contracts.Solving.{Underway, VisitsFront, Unused, RuleResult}
 use Rattle.dataflow.proofs.Unions.{cond-zero}
 use Rattle.dataflow.proofs.Visiting.{nodes-are, arrays-are, below-at}
 

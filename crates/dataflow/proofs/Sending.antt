@@ -1,24 +1,23 @@
 -- The edges of a number gone through one after the other: what is left to push, with what was pushed, is what there was to push.
 -- A union taken edge by edge is the union of all; the rows of the edges are not written on the way.
-use Prim.Native.Nat.{ℕ, _+_, _*_, _/_, _≤_, _<_}
-use mathlib.Core.Bool.{Bool, true, false, cond, _||_}
-use mathlib.Core.List.{List, [], map, List·Memᴰ·tail, List·Memᴰ·not-nil}
-use mathlib.Core.Option.{none, some}
+use Prim.Native.Nat.{ℕ, _+_, _*_, _≤_, _<_}
+use mathlib.Core.Bool.{Bool, true, false, cond}
+use mathlib.Core.List.{List, [], map}
 use mathlib.Core.Path.{_≡_, refl, sym, ap, ap₂, subst, _∙_}
 use native.Mathlib.Decide.{ℕ-discrete}
 use native.Mathlib.Omega.{arith}
 use borrow.Author.Tests.{eq-eqb, ne-eqb}
-use lib.Bits.{bitOr, or-self, or-zero-l, or-zero-r}
+use lib.Bits.{bitOr, or-self, or-zero-r}
 use lib.Dec.{eqb}
-use lib.ListN.{length, getD, drop}
+use lib.ListN.{getD, drop}
 use Rattle.words.specs.contracts.Byte.{byteAt}
 use Rattle.words.proofs.Bytes.{byte-cong}
 use Rattle.flow.specs.declared.NodeId.{NodeId}
 use Rattle.flow.specs.Flow.{Flow, size}
 use Rattle.flow.specs.Limits.{maxArrays}
-use Rattle.theory.specs.Lists.{elem, differ}
-use Rattle.theory.specs.Queue.{Arc, join, enqueue, brings}
-use Rattle.theory.specs.Doubled.{Node, Edge, node, number, doubled}
+use Rattle.theory.specs.Lists.{differ}
+use Rattle.theory.specs.Queue.{Arc, join, enqueue}
+use Rattle.theory.specs.Doubled.{Edge, node, number}
 use Rattle.theory.specs.contracts.WellFormed.{WellFormed}
 use Rattle.theory.proofs.Push.{differ-chain}
 use Rattle.statements.specs.contracts.Layout.{queueAt, enteredRowAt, areaEnd}

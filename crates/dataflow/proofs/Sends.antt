@@ -1,6 +1,6 @@
 -- One number sends its masks on: its edges' rows are made, pushed along the edges, and the row of entered statements is empty again.
 -- What is beside the solver's state does not count, so what was pushed is what the doubled graph's edges bring.
-use Prim.Native.Nat.{ℕ, _+_, _*_, _<_, _≤_}
+use Prim.Native.Nat.{ℕ, _+_, _*_, _<_}
 use mathlib.Core.Bool.{Bool, true, false, cond}
 use mathlib.Core.List.{List}
 use mathlib.Core.Option.{some}
@@ -8,15 +8,15 @@ use mathlib.Core.Path.{_≡_, refl, sym, ap, ap₂, subst, _∙_}
 use native.Mathlib.Omega.{arith}
 use lib.Bits.{bitOr}
 use lib.Dec.{ltb}
-use lib.ListN.{length, getD}
+use lib.ListN.{getD}
 use Rattle.masks.specs.declared.Effect.the-variants.{Touched}
 use Rattle.flow.specs.Flow.{Flow}
 use Rattle.flow.specs.Limits.{maxArrays}
-use Rattle.theory.specs.Lists.{In, differ}
+use Rattle.theory.specs.Lists.{In}
 use Rattle.theory.specs.Body.{kind, continuationOf, opaqueCall, callTouches}
 use Rattle.theory.specs.Doubled.{Edge, node, edges, statementEffects, edgeEffects, doubled}
 use Rattle.theory.specs.Queue.{stepAll, brings}
-use Rattle.statements.specs.contracts.Layout.{enteredRowAt, callTouchedAt, areaEnd}
+use Rattle.statements.specs.contracts.Layout.{enteredRowAt, callTouchedAt}
 use Rattle.statements.specs.contracts.Ready.{Keeps, MembersWord}
 use Rattle.statements.proofs.Keeps.{keeps-trans}
 use Rattle.words.specs.contracts.Byte.{byteAt}
@@ -31,7 +31,7 @@ use Rattle.solve.specs.contracts.Rows.{RowIs, stepWhere, memberBelow}
 use Rattle.solve.specs.contracts.Pushed.{masksAt}
 use Rattle.solve.proofs.Growing.{differ-as}
 use Rattle.dataflow.specs.contracts.Transfer.{acted}
-use Rattle.dataflow.specs.contracts.Sent.{edgeRow, carried, masksBelow, Sent, Sends}
+use Rattle.dataflow.specs.contracts.Sent.{edgeRow, masksBelow, Sent, Sends}
 use Rattle.dataflow.proofs.Aside.{Aside, aside-trans, aside-row, aside-entered, aside-waits, aside-masks, aside-visited, aside-grown}
 use Rattle.dataflow.proofs.EdgeRows.{act-row, back-row, carried-brings}
 

@@ -1,6 +1,6 @@
 -- One visit of the solver is one visit of the queue rule. Where the number is unchanged nothing is sent, and a visit would bring nothing new; else what its
 -- edges bring of its masks is joined to every number's, which is what the rule would pull after the visit.
-use Prim.Native.Nat.{ℕ, zero, suc, _+_, _*_, _/_, _<_, _≤_}
+use Prim.Native.Nat.{ℕ, _+_, _*_, _/_, _<_, _≤_}
 use mathlib.Core.Bool.{Bool, true, false, cond, not, _&&_, _||_, or-false}
 use mathlib.Core.List.{List, [], _∷_, List·Memᴰ·head}
 use mathlib.Core.Logic.{_≢_}
@@ -21,21 +21,21 @@ use Rattle.theory.specs.Queue.{Graph, Solver, pulled, changed, visit, enqueue, 
 use Rattle.theory.specs.contracts.WellFormed.{WellFormed}
 use Rattle.theory.proofs.Lists.{clash, or-second}
 use Rattle.theory.proofs.Terms.{doubled-well-formed}
-use Rattle.theory.proofs.Invariant.{WellFormedGraph, Invariant, grew, queue, front-below, visited-at, visited-other, waiting-next, was-visited}
+use Rattle.theory.proofs.Invariant.{WellFormedGraph, Invariant, queue, visited-at, visited-other, waiting-next, was-visited}
 use Rattle.theory.proofs.Ends.{course-keeps}
 use Rattle.theory.proofs.Push.{alike, no-differ, pulled-next, pulled-same, changed-front, changed-other}
-use Rattle.statements.specs.contracts.Layout.{queueAt, enteredRowAt, areaEnd}
+use Rattle.statements.specs.contracts.Layout.{areaEnd}
 use Rattle.statements.specs.contracts.Ready.{Keeps}
-use Rattle.statements.proofs.Keeps.{keeps-set, keeps-trans, keeps-widen}
+use Rattle.statements.proofs.Keeps.{keeps-set, keeps-trans}
 use Rattle.calls.specs.contracts.Held.{EmptyEntered}
 use Rattle.solve.specs.declared.Queue.{Queue}
 use Rattle.solve.specs.contracts.Layout.{visitedAt, grownAt, maskRowAt}
-use Rattle.solve.specs.contracts.Waiting.{Waits, Taken, KeepsRest, restOf}
+use Rattle.solve.specs.contracts.Waiting.{Waits, Taken, restOf}
 use Rattle.solve.specs.contracts.Pushed.{masksAt}
-use Rattle.solve.proofs.Waiting.{rest-keeps, waits-kept}
+use Rattle.solve.proofs.Waiting.{waits-kept}
 use Rattle.solve.proofs.Growing.{differ-as}
 use Rattle.dataflow.specs.contracts.Sent.{masksBelow, Sends}
-use Rattle.dataflow.specs.contracts.Solving.{Solving, Underway, VisitsFront}
+use Rattle.dataflow.specs.contracts.Solving.{Underway, VisitsFront}
 use Rattle.dataflow.proofs.Kept.{empty-stays}
 use Rattle.dataflow.proofs.Unions.{cond-or}
 

@@ -5,7 +5,6 @@ use native.Mathlib.Omega.{arith}
 use mathlib.Core.List.{List, _++_}
 use mathlib.Core.Path.{_≡_, refl, sym, ap, _∙_}
 use Rattle.flow.specs.declared.Refusal.{Refusal}
-use Rattle.flow.specs.declared.Passed.{Passed}
 use Rattle.flow.specs.declared.Passed.the-variants.{To, Unfit}
 use Rattle.flow.specs.Format.{Check, Verdict, fit, unfit, verdict, each}
 use Rattle.flow.specs.contracts.Answers.{passedOf}

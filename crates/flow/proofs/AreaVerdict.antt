@@ -6,7 +6,7 @@ use mathlib.Core.Path.{_≡_, refl, ap, _∙_}
 use lib.Dec.{leb}
 use Rattle.flow.specs.declared.Refusal.the-variants.{Areas}
 use Rattle.flow.specs.Limits.{workWords}
-use Rattle.flow.specs.Format.{Verdict, fit, unfit, first, verdict, areaChecks}
+use Rattle.flow.specs.Format.{fit, unfit, first, verdict, areaChecks}
 use Rattle.flow.specs.contracts.Answers.{isFit}
 
 abbrev pub longEnough : (n arrays masks liveIn liveOut work : ℕ) → Bool

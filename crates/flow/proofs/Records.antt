@@ -1,17 +1,14 @@
 -- What a fit record gives its readers: each of its parts is fit, and its fields lie within the file.
 -- By the checks of each of the record's parts, which all hold.
-use Prim.Native.Nat.{ℕ, zero, suc, _+_, _-_, _*_, _≤_, _<_}
+use Prim.Native.Nat.{ℕ, zero, suc, _+_, _-_, _≤_}
 use native.Mathlib.Omega.{arith}
-use native.Mathlib.Nat.{eq-or-lt-of-le}
-use mathlib.Core.Logic.{⊎-elim}
 use mathlib.Core.Bool.{Bool, true, false, cond}
 use mathlib.Core.List.{List, [], _∷_, _++_}
-use mathlib.Core.Option.{none}
-use mathlib.Core.Path.{_≡_, refl, sym, ap, _∙_}
+use mathlib.Core.Path.{_≡_, refl, ap}
 use lib.ListN.{length}
 use lib.Dec.{eqb}
-use borrow.Author.Tests.{leb-true, eqb-true, ne-eqb}
-use Rattle.flow.specs.Format.{verdict, fit, each, present, recordEnd, startChecks, successorChecks, referenceCountChecks, referenceChecks, nameChecks, itemChecks, lineChecks, continuationChecks, dimChecks, gosubChecks, onGosubChecks, dataChecks, restChecks, recordChecks, successorCount, referencesPlace, referenceCount, dataPlace, dataCount, elementPlace, elementsEnd, kindAt, continuationAt, byData}
+use borrow.Author.Tests.{leb-true, ne-eqb}
+use Rattle.flow.specs.Format.{verdict, fit, each, present, recordEnd, startChecks, successorChecks, referenceCountChecks, referenceChecks, nameChecks, itemChecks, lineChecks, continuationChecks, dimChecks, gosubChecks, onGosubChecks, dataChecks, restChecks, recordChecks, successorCount, referencesPlace, referenceCount, dataPlace, dataCount, elementPlace, elementsEnd, kindAt, byData}
 use Rattle.flow.specs.contracts.Answers.{FitRecord}
 use Rattle.flow.proofs.Verdicts.{all-hold, fit-left, fit-right, fit-at}
 

@@ -2,11 +2,11 @@
 -- stand in the table of the theory crate. A file is put together from its records.
 use Prim.Native.Nat.{ℕ, zero, suc, _+_, _/_, _%_, _^_}
 use mathlib.Core.List.{List, [], _∷_, _++_}
-use mathlib.Core.Option.{Option, none, some}
+use mathlib.Core.Option.{none, some}
 use lib.ListN.{length}
 use Rattle.flow.specs.declared.Refusal.the-variants.{Record, Header, Kind, Target, Member, ReturnReference, Order, Trailing}
 use Rattle.flow.specs.Flow as F
-use Rattle.flow.specs.Flow.{Flow, Statement, Item, Line}
+use Rattle.flow.specs.Flow.{Flow}
 use Rattle.flow.specs.Format.{Reading, accepted, refused}
 
 -- Records as bytes

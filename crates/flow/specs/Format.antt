@@ -1,6 +1,6 @@
 -- Document 01, "The flow file" and "What a refused flow gets". The file length is judged first, then every field in file order; the first
 -- unfit field is the answer. So a file's judgement is a list of checks in that order, and its answer is the first check that fails.
-use Prim.Native.Nat.{ℕ, zero, suc, _+_, _-_, _*_, _/_, _^_}
+use Prim.Native.Nat.{ℕ, zero, suc, _+_, _-_, _*_, _^_}
 use mathlib.Core.Bool.{Bool, true, false, cond, not, _&&_, _||_}
 use mathlib.Core.List.{List, [], _∷_, _++_}
 use mathlib.Core.Option.{Option, none, some}
@@ -11,7 +11,7 @@ use Rattle.flow.specs.declared.Refusal.the-variants.{TooLong, Record, He
 use Rattle.flow.specs.Limits.{maxFile, maxStatements, maxArrays, maxNames, maxKind, noContinuation, workWords}
 use Rattle.flow.specs.Refusals.{numberOf, placeOf}
 use Rattle.flow.specs.Flow as F
-use Rattle.flow.specs.Flow.{Flow, Statement, Item, Line, size}
+use Rattle.flow.specs.Flow.{Flow, Statement, Item}
 
 -- the little-endian number of w bytes at a place
 unfoldable pub leAt : ℕ → List ℕ → ℕ → ℕ

@@ -1,5 +1,4 @@
 // The flow file: what it may hold, which file is refused and why, and the fields of a statement's record.
-ghost use mathlib.Core.Path.{_≡_};
 
 // The limits of a flow file.
 pub const MAX_FILE: usize = 262144;

@@ -12,8 +12,7 @@ use mir.Syntax.{w8}
 use Rattle.flow.specs.Limits.{maxArrays, workWords}
 use Rattle.flow.specs.declared.Refusal.{Refusal}
 use Rattle.flow.specs.Refusals.{numberOf, placeOf}
-use Rattle.flow.specs.Flow.{Flow}
-use Rattle.flow.specs.Format.{Verdict, fit, unfit, flowOf, statementsOf, arraysOf, recordPlace}
+use Rattle.flow.specs.Format.{Verdict, fit, flowOf, statementsOf, arraysOf, recordPlace}
 use Rattle.flow.proofs.Numbers.{leAt-lt}
 use Rattle.records.proofs.Files.{limited}
 use Rattle.records.proofs.Statements.{says, size-is}

@@ -17,7 +17,8 @@ use Rattle.records.proofs.Given.{part-start, part-line}
 use Rattle.records.proofs.Statements.{says, size-is}
 use Rattle.statements.proofs.WellFormed.{arrays-is}
 use Rattle.theory.specs.Lists.{concatMap, upTo}
-use Rattle.theory.specs.Listing.{letterF, decimal, hexadecimal, lineOf, maskDigits, firstLine, statementLine, flowText}
+use Rattle.flow.specs.Format.{letterF}
+use Rattle.theory.specs.Listing.{decimal, hexadecimal, lineOf, maskDigits, firstLine, statementLine, flowText}
 use Rattle.theory.proofs.Lists.{concatMap-append}
 use Rattle.listing.specs.contracts.Put.{HasRoom, Appended}
 use Rattle.listing.specs.contracts.Room.{Small, Room, wordIn, areasText, areasLine}

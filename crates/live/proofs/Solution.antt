@@ -15,7 +15,7 @@ use Rattle.records.proofs.Files.{limited}
 use Rattle.theory.specs.Live.{member, LiveIn, LiveOut, liveIn, liveOut, liveInWord, liveOutWord}
 use Rattle.theory.proofs.Lists.{same-test}
 use Rattle.theory.proofs.Live.{liveIn-sound, liveIn-complete, liveOut-sound, liveOut-complete}
-use Rattle.theory.proofs.Names.{wordOf-unique}
+use Rattle.theory.proofs.Names.{namesWord-unique}
 use Rattle.statements.specs.contracts.Ready.{Ready}
 use Rattle.statements.proofs.WellFormed.{well-formed, statement-in, names-is}
 use Rattle.statements.proofs.Keeps.{ready-size}
@@ -57,7 +57,7 @@ module _ {s ws ins outs : List ℕ} {n : ℕ} (r : Ready s ws n) (h : Solving (f
   pub solved-in : (i : ℕ) → i < n → getD ins i 0 ≡ liveInWord (flowOf s) i
   unfolding liveInWord
   solved-in i l =
-      wordOf-unique (flowOf s) (λ x. liveIn (flowOf s) x i) (getD ins i 0)
+      namesWord-unique (flowOf s) (λ x. liveIn (flowOf s) x i) (getD ins i 0)
       (names (word-below (getD ins i 0) (namesOf s) (λ x e. live-name r (h .sound-in i x l e))))
       (λ x b. same-test (member (getD ins i 0) x) (liveIn (flowOf s) x i)
       (λ e. liveIn-complete (well-formed (r .fit)) (let size = ready-size r in omega arith) (h .sound-in i x l (member-bit (getD ins i 0) x e)))
@@ -66,7 +66,7 @@ module _ {s ws ins outs : List ℕ} {n : ℕ} (r : Ready s ws n) (h : Solving (f
   pub solved-out : (i : ℕ) → i < n → getD outs i 0 ≡ liveOutWord (flowOf s) i
   unfolding liveOutWord
   solved-out i l =
-      wordOf-unique (flowOf s) (λ x. liveOut (flowOf s) x i) (getD outs i 0)
+      namesWord-unique (flowOf s) (λ x. liveOut (flowOf s) x i) (getD outs i 0)
       (names (word-below (getD outs i 0) (namesOf s) (λ x e. live-out-name r (h .sound-out i x l e))))
       (λ x b. same-test (member (getD outs i 0) x) (liveOut (flowOf s) x i)
       (λ e. liveOut-complete (well-formed (r .fit)) (h .sound-out i x l (member-bit (getD outs i 0) x e)))

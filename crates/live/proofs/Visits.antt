@@ -5,7 +5,7 @@ use mathlib.Core.List.{List, [], _∷_, List·Memᴰ·head}
 use mathlib.Core.Path.{_≡_, refl, sym, _∙_, subst}
 use native.Mathlib.Omega.{arith}
 use lib.ListN.{length, getD, set}
-use Rattle.flow.specs.Flow.{Flow, statement}
+use Rattle.flow.specs.Flow.{Flow}
 use Rattle.flow.specs.Format.{flowOf}
 use Rattle.statements.specs.contracts.Ready.{Ready}
 use Rattle.statements.proofs.WorkArea.{row-from}

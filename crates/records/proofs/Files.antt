@@ -2,16 +2,15 @@
 -- rise strictly and name statements. By the checks of each of its parts, which all hold.
 use Prim.Native.Nat.{ℕ, _+_, _≤_, _<_}
 use native.Mathlib.Omega.{arith}
-use mathlib.Core.Bool.{Bool, true, false, _||_}
 use mathlib.Core.List.{List, _++_}
 use mathlib.Core.Path.{_≡_}
 use lib.ListN.{length}
-use lib.Dec.{eqb, ltb}
+use lib.Dec.{eqb}
 use borrow.Author.Tests.{leb-true, ltb-true, ne-eqb}
 use Rattle.flow.specs.Limits.{maxFile, maxStatements, maxArrays, maxNames}
 use Rattle.flow.specs.Format.{verdict, fit, each, headerChecks, statementChecks, lineRecordChecks, endChecks, fileChecks, recordChecks, recordPlace, statementsOf, arraysOf, namesOf, entryOf, lineCount, linePlace, lineNumber, lineFirst}
 use Rattle.flow.specs.contracts.Answers.{FitFile, FitRecord}
-use Rattle.records.proofs.Rising.{Rising, rising, risesAt, or-second}
+use Rattle.records.proofs.Rising.{Rising, rising, or-second}
 use Rattle.flow.proofs.Verdicts.{all-hold, fit-left, fit-right, fit-at}
 use Rattle.flow.proofs.FileVerdict.{header-within}
 

@@ -1,20 +1,20 @@
 -- The data of a fit record's kind lie within the file, and a call's continuation ends its record.
 -- By the end of the record, which its kind gives.
-use Prim.Native.Nat.{ℕ, zero, suc, _+_, _-_, _*_, _≤_, _<_}
+use Prim.Native.Nat.{ℕ, _+_, _-_, _*_, _≤_, _<_}
 use native.Mathlib.Omega.{arith}
 use native.Mathlib.Nat.{eq-or-lt-of-le}
 use mathlib.Core.Logic.{⊎-elim}
 use mathlib.Core.Bool.{Bool, true, false, cond}
-use mathlib.Core.List.{List, [], _∷_, _++_}
+use mathlib.Core.List.{List}
 use mathlib.Core.Option.{none}
 use mathlib.Core.Path.{_≡_, refl, sym, ap, _∙_}
 use lib.ListN.{length}
 use lib.Dec.{eqb}
 use borrow.Author.Tests.{leb-true, eqb-true, ne-eqb}
-use Rattle.flow.specs.Format.{verdict, fit, each, present, recordEnd, startChecks, successorChecks, referenceCountChecks, referenceChecks, nameChecks, itemChecks, lineChecks, continuationChecks, dimChecks, gosubChecks, onGosubChecks, dataChecks, restChecks, recordChecks, successorCount, referencesPlace, referenceCount, dataPlace, dataCount, elementPlace, elementsEnd, kindAt, continuationAt, byData}
+use Rattle.flow.specs.Format.{recordEnd, startChecks, dataPlace, dataCount, elementPlace, elementsEnd, kindAt, continuationAt}
 use Rattle.flow.specs.contracts.Answers.{FitRecord}
 use Rattle.records.specs.contracts.Fields.{itemCount, callLineCount, continuationIn}
-use Rattle.flow.proofs.Verdicts.{all-hold, fit-left, fit-right, fit-at}
+use Rattle.flow.proofs.Verdicts.{all-hold}
 use Rattle.flow.proofs.Records.{end-is, end-fits, parts}
 
 -- the data of a kind lie within the file

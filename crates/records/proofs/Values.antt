@@ -4,7 +4,7 @@ use Prim.Native.Nat.{ℕ, _+_, _^_, _≤_, _<_}
 use native.Mathlib.Omega.{arith}
 use mathlib.Core.Bool.{Bool, true, false, cond, not, _||_}
 use mathlib.Core.List.{List, [], _∷_, _++_}
-use mathlib.Core.Option.{none, some}
+use mathlib.Core.Option.{some}
 use mathlib.Core.Path.{_≡_, refl, sym, ap, _∙_}
 use lib.Dec.{eqb, ltb}
 use borrow.Author.Tests.{leb-true, ltb-true, eqb-true, eq-eqb}
@@ -13,7 +13,7 @@ use Rattle.flow.specs.Format.{verdict, fit, each, present, startChecks, success
 use Rattle.flow.specs.contracts.Answers.{FitRecord}
 use Rattle.records.specs.contracts.Fields.{itemCount, continuationIn}
 use Rattle.records.proofs.Rising.{Rising, rising, risesAt, or-second}
-use Rattle.flow.proofs.Verdicts.{all-hold, fit-left, fit-right, fit-at}
+use Rattle.flow.proofs.Verdicts.{all-hold, fit-right, fit-at}
 use Rattle.flow.proofs.Records.{parts}
 use Rattle.records.proofs.KindData.{continuation-none}
 use Rattle.records.proofs.KindNumber.{Number, number, dim, gosub, onGosub, other}

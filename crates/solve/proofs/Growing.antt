@@ -1,15 +1,15 @@
 -- A row of masks joined to another: each byte is united, the row differs where some byte does, and the word of the number says so.
 -- A word is what its bytes are.
-use Prim.Native.Nat.{ℕ, zero, suc, _+_, _*_, _/_, _%_, _^_, _≤_, _<_}
+use Prim.Native.Nat.{ℕ, zero, suc, _+_, _*_, _/_, _%_, _≤_, _<_}
 use mathlib.Core.Bool.{Bool, true, false, cond, not, _&&_}
 use mathlib.Core.List.{List}
 use mathlib.Core.Logic.{_≢_}
 use mathlib.Core.Path.{_≡_, refl, sym, ap, ap₂, subst, _∙_}
 use native.Mathlib.Omega.{arith}
-use borrow.Author.Tests.{eq-eqb, eqb-true, not-true, not-false}
+use borrow.Author.Tests.{eq-eqb, eqb-true, not-false}
 use lib.Bits.{bitOr}
 use lib.Dec.{eqb}
-use lib.ListN.{length, getD, set, length-set}
+use lib.ListN.{length, getD, set}
 use lib.Seq.{getD-set-same, getD-set-other}
 use Rattle.words.specs.contracts.Row.{bit, has, Words}
 use Rattle.words.specs.contracts.Byte.{byteAt}
@@ -21,7 +21,7 @@ use Rattle.words.proofs.Rewritten.{differs-cong, differs-self, differs-false}
 use Rattle.words.proofs.Unioned.{words-unioned, unioned-other, union-same}
 use Rattle.flow.specs.Limits.{maxArrays}
 use Rattle.theory.specs.Lists.{allBelow, differ}
-use Rattle.theory.proofs.Lists.{same-test, clash}
+use Rattle.theory.proofs.Lists.{clash}
 use Rattle.theory.proofs.Below.{allBelow-at, allBelow-all}
 use Rattle.statements.specs.contracts.Layout.{areaEnd}
 use Rattle.statements.specs.contracts.Ready.{Keeps}

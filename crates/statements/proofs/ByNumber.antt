@@ -2,7 +2,7 @@
 -- By what a fit file gives its readers; the tests of a kind go by its number.
 use Prim.Native.Nat.{ℕ, zero, suc, _<_, _≤_}
 use native.Mathlib.Omega.{arith}
-use mathlib.Core.Bool.{Bool, true, false, _||_}
+use mathlib.Core.Bool.{_||_}
 use mathlib.Core.List.{List, [], _∷_}
 use mathlib.Core.Option.{Option}
 use mathlib.Core.Path.{_≡_, refl, sym, ap, _∙_, subst}
@@ -11,9 +11,9 @@ use lib.Dec.{eqb, ltb}
 use lib.ListN.{length, getD}
 use Rattle.flow.specs.Limits.{maxKind}
 use Rattle.flow.specs.Flow.{Kind, Item, statement, items}
-use Rattle.flow.specs.Format.{flowOf, tabulate, recordPlace, statementsOf, kindAt, kindOf, byData, plainKind, successorCount, successorAt, referenceCount, referenceAt, writtenAt, readAt, itemAt}
+use Rattle.flow.specs.Format.{flowOf, tabulate, recordPlace, statementsOf, kindAt, kindOf, byData, plainKind, successorCount, successorAt, referenceCount, referenceAt, itemAt}
 use Rattle.flow.specs.contracts.Answers.{FitRecord}
-use Rattle.records.specs.contracts.Fields.{itemCount, callLineCount, callLineAt, continuationIn}
+use Rattle.records.specs.contracts.Fields.{itemCount, callLineCount, callLineAt}
 use Rattle.records.proofs.Files.{record-fit}
 use Rattle.records.proofs.Values.{in-range}
 use Rattle.records.proofs.Statements.{Says, says}

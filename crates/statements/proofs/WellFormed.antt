@@ -3,7 +3,7 @@
 use mathlib.Core.List.{List}
 use mathlib.Core.Path.{_≡_, refl, sym, ap, subst}
 use Prim.Native.Nat.{ℕ}
-use Rattle.flow.specs.Flow.{Flow, items}
+use Rattle.flow.specs.Flow.{items}
 use Rattle.flow.specs.Format.{flowOf, arraysOf, namesOf, entryOf}
 use Rattle.flow.specs.contracts.Answers.{FitFile}
 use Rattle.records.proofs.Ranged.{ranged}

@@ -1,6 +1,6 @@
 -- The parts of the work area: rows of the matrix lie apart and within it, a row has a word for each of its numbers, and all fits into 64 × n words.
 -- By the bound on n, which makes a row at most 32 words.
-use Prim.Native.Nat.{ℕ, suc, _+_, _*_, _/_, _≤_, _<_}
+use Prim.Native.Nat.{ℕ, _+_, _*_, _/_, _≤_, _<_}
 use native.Mathlib.Omega.{arith}
 use native.Mathlib.Decide.{decLt}
 use native.Mathlib.Nat.{le-refl, mul-suc, mul-le-mul-left, mul-le-mul-right}

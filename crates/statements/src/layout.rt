@@ -6,7 +6,7 @@ ghost use Rattle.flow.specs.Limits.{maxStatements};
 ghost use Rattle.statements.specs.contracts.Layout as at;
 use flow::StmtId;
 
-// The state of each call with a continuation: clear or opaque.
+// The state of each call with a continuation: transparent or opaque.
 pub fn calls(n: usize) -> usize
     requires { ⌜ n ≤ maxStatements ⌝ }
     ensures { λ r. ⌜ r ≡ at.callsAt n ⌝ }
@@ -22,7 +22,7 @@ pub fn call_touched(n: usize) -> usize
     2 * n
 }
 
-// The state of each body: unentered, open, clear or opaque.
+// The state of each body: unentered, open, transparent or opaque.
 pub fn bodies(n: usize) -> usize
     requires { ⌜ n ≤ maxStatements ⌝ }
     ensures { λ r. ⌜ r ≡ at.bodiesAt n ⌝ }

@@ -80,34 +80,34 @@ word-unique (suc k) p w l h =
     sym parts ∙ ap (λ z. z + w / 2 ^ k * 2 ^ k) low ∙ ap (λ z. wordBelow k p + z * 2 ^ k) top
 
 module _ (f : Flow) (p : ℕ → Bool) where
-  pub wordOf-lt : namesWord f p < 2 ^ (f .names)
+  pub namesWord-lt : namesWord f p < 2 ^ (f .names)
   unfolding namesWord wordBelow
-  wordOf-lt = word-lt (f .names) p
+  namesWord-lt = word-lt (f .names) p
 
-  pub wordOf-member : (x : ℕ) → x < f .names → member (namesWord f p) x ≡ p x
+  pub namesWord-member : (x : ℕ) → x < f .names → member (namesWord f p) x ≡ p x
   unfolding namesWord wordBelow
-  wordOf-member = word-member (f .names) p
+  namesWord-member = word-member (f .names) p
 
   -- so a word below 2 ^ names with these bits is that word
-  pub wordOf-unique : (w : ℕ) → w < 2 ^ (f .names) → ((x : ℕ) → x < f .names → member w x ≡ p x) → w ≡ namesWord f p
+  pub namesWord-unique : (w : ℕ) → w < 2 ^ (f .names) → ((x : ℕ) → x < f .names → member w x ≡ p x) → w ≡ namesWord f p
   unfolding namesWord wordBelow
-  wordOf-unique = word-unique (f .names) p
+  namesWord-unique = word-unique (f .names) p
 
 pub liveInWord-member : (f : Flow) (i x : ℕ) → x < f .names → member (liveInWord f i) x ≡ liveIn f x i
 unfolding liveInWord
-liveInWord-member f i = wordOf-member f (λ x. liveIn f x i)
+liveInWord-member f i = namesWord-member f (λ x. liveIn f x i)
 
 pub liveInWord-lt : (f : Flow) (i : ℕ) → liveInWord f i < 2 ^ (f .names)
 unfolding liveInWord
-liveInWord-lt f i = wordOf-lt f (λ x. liveIn f x i)
+liveInWord-lt f i = namesWord-lt f (λ x. liveIn f x i)
 
 pub liveOutWord-member : (f : Flow) (i x : ℕ) → x < f .names → member (liveOutWord f i) x ≡ liveOut f x i
 unfolding liveOutWord
-liveOutWord-member f i = wordOf-member f (λ x. liveOut f x i)
+liveOutWord-member f i = namesWord-member f (λ x. liveOut f x i)
 
 pub liveOutWord-lt : (f : Flow) (i : ℕ) → liveOutWord f i < 2 ^ (f .names)
 unfolding liveOutWord
-liveOutWord-lt f i = wordOf-lt f (λ x. liveOut f x i)
+liveOutWord-lt f i = namesWord-lt f (λ x. liveOut f x i)
 
 -- Live sets by walks: a bit is set exactly when the name is live
 

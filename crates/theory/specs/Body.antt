@@ -1,11 +1,11 @@
 -- Document 01, "Subroutines and the doubled graph", first paragraph: lines that enter, body walk, touched arrays, opaque bodies and calls.
 -- Each term is an inductive type with one constructor a rule; beside it stands the function that decides it.
 use Prim.Native.Nat.{ℕ}
-use mathlib.Core.Bool.{Bool, true, false, cond, _&&_, _||_}
-use mathlib.Core.List.{List, [], _∷_, _++_}
+use mathlib.Core.Bool.{Bool, true, false, cond, _||_}
+use mathlib.Core.List.{List, [], _∷_}
 use mathlib.Core.Option.{Option, none, some}
 use mathlib.Core.Path.{_≡_}
-use Rattle.flow.specs.Flow.{Flow, Kind, Statement, Item, size, statement, enters}
+use Rattle.flow.specs.Flow.{Flow, Kind, Item, size, statement, enters}
 pub use Rattle.flow.specs.Flow.{callLines, continuation as continuationOf}
 use Rattle.theory.specs.Lists.{In, any, elem, concatMap, optionList}
 use Rattle.theory.specs.Reach.{Reach, reached}

@@ -1,6 +1,6 @@
 -- Document 01, the doubled graph: statements exist twice, as doubled numbers i and n + i; each doubled number's edges, in the paper's order, with the
 -- effect of each edge on each array. Order and repeats count for the visits and the bound.
-use Prim.Native.Nat.{ℕ, _+_, _-_, _*_}
+use Prim.Native.Nat.{ℕ, _+_, _-_}
 use mathlib.Core.Bool.{Bool, true, false, cond, not, _&&_, _||_}
 use mathlib.Core.List.{List, [], _∷_, _++_, map}
 use mathlib.Core.Option.{Option, none, some}

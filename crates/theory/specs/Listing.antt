@@ -7,13 +7,13 @@ use lib.Dec.{ltb}
 use Rattle.io.specs.Digits.{digits, glyph}
 use Rattle.flow.specs.declared.Refusal.{Refusal}
 use Rattle.flow.specs.Flow.{Flow, size, statement}
-use Rattle.flow.specs.Format.{Verdict, fit, unfit, tabulate}
+use Rattle.flow.specs.Format.{Verdict, fit, unfit, tabulate, letterF, letterL}
 use Rattle.flow.specs.Refusals.{numberOf, placeOf}
 use Rattle.theory.specs.Lists.{concatMap, upTo}
 use Rattle.theory.specs.Computed.{maskOf}
 use Rattle.theory.specs.Live.{liveInWord, liveOutWord}
 
--- ASCII
+-- ASCII; `F` and `L` are letters of marks too
 
 abbrev pub newline : ℕ
 newline = 10
@@ -23,12 +23,6 @@ space = 32
 
 abbrev pub dash : ℕ
 dash = 45
-
-abbrev pub letterF : ℕ
-letterF = 70
-
-abbrev pub letterL : ℕ
-letterL = 76
 
 abbrev pub letterR : ℕ
 letterR = 82

@@ -1,7 +1,7 @@
 -- Document 01, the queue rule, over any graph of numbers whose edges have an effect on each array: the front of the queue is taken (a visit) and its
 -- masks become the union over edges from numbers visited before, with the boundary at the entry; at its first visit, or if its masks changed, its successors not waiting join the back in order.
 use Prim.Native.Nat.{ℕ, zero, suc, _+_, _*_}
-use mathlib.Core.Bool.{Bool, true, false, cond, not, _&&_, _||_}
+use mathlib.Core.Bool.{Bool, true, false, cond, not, _||_}
 use mathlib.Core.List.{List, [], _∷_, _++_}
 use mathlib.Core.Path.{_≡_}
 use lib.Bits.{bitOr}

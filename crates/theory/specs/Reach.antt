@@ -1,7 +1,7 @@
 -- Reachability over lists of next numbers: body walks and calls between bodies are instances of it. `Reach` is the definition; `reached`
 -- is the list that decides it for numbers below n.
 use Prim.Native.Nat.{ℕ, zero, suc, _+_}
-use mathlib.Core.Bool.{Bool, true, false, cond}
+use mathlib.Core.Bool.{true, false}
 use mathlib.Core.List.{List, [], _∷_, _++_}
 use lib.ListN.{length}
 use Rattle.theory.specs.Lists.{In, elem, sumBelow}

@@ -3,7 +3,7 @@
 use Prim.Native.Nat.{ℕ, _*_, _+_, _<_, _≤_}
 use mathlib.Core.List.{List}
 use mathlib.Core.Path.{_≡_}
-use lib.ListN.{length, getD, replicate}
+use lib.ListN.{length, getD}
 use Rattle.flow.specs.declared.Header.{Header}
 use Rattle.flow.specs.Flow.{Flow, size}
 use Rattle.flow.specs.Limits.{workWords}
@@ -29,7 +29,7 @@ pub record FitFlow (s : List ℕ) (h : Header) (work : List ℕ) : Type 0 where
 
 -- and areas with room
 pub record FitAreas (s : List ℕ) (h : Header) (masks liveIn liveOut work : List ℕ) : Type 0 where
-  pub fresh : FitFlow s h work
+  pub flow-fit : FitFlow s h work
   pub masks-room : h .statements * (h .arrays) ≤ length masks
   pub in-room : h .statements ≤ length liveIn
   pub out-room : h .statements ≤ length liveOut

@@ -1,7 +1,7 @@
 -- The work area as a state of the queue rule: what waits, what was visited, and for each number the union of what was pushed to it, which is what a
 -- visit of it would pull now. A visited number's word says whether a visit would change its masks.
 use Prim.Native.Nat.{ℕ, _+_, _*_, _<_, _≤_}
-use mathlib.Core.Bool.{Bool, true, cond}
+use mathlib.Core.Bool.{true, cond}
 use mathlib.Core.List.{List, _∷_}
 use mathlib.Core.Path.{_≡_}
 use lib.ListN.{getD}

@@ -1,7 +1,7 @@
 -- "At a statement, a reference turns NONE into AUTO and keeps other states; then DIM with flag 1 makes its array's mask DIMMED, CLR and RUN make all masks NONE":
 -- what the masks of a row become, array by array. Assumes nothing.
 use Prim.Native.Nat.{ℕ}
-use mathlib.Core.Bool.{Bool, cond}
+use mathlib.Core.Bool.{cond}
 use mathlib.Core.List.{List}
 use lib.Dec.{ltb}
 use Rattle.masks.specs.declared.Effect.{Effect}

@@ -5,7 +5,6 @@ use mathlib.Core.Bool.{Bool, true, false}
 use mathlib.Core.Path.{_≡_}
 use mathlib.Core.List.{List}
 use lib.ListN.{length}
-use Rattle.flow.specs.declared.Refusal.{Refusal}
 use Rattle.flow.specs.declared.Header.{Header}
 use Rattle.flow.specs.declared.Checked.{Checked}
 use Rattle.flow.specs.declared.Checked as C

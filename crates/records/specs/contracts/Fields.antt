@@ -1,18 +1,17 @@
 -- The fields of a statement's record that was found fit, where Format does not give them by one position: the data of its kind, its references as
 -- a set, the part of the file that the record is, and what the second pass notes of the records' places.
 use Prim.Native.Nat.{ℕ, zero, suc, _+_, _-_, _*_, _/_, _%_, _^_, _≤_, _<_}
-use mathlib.Core.Bool.{Bool, true, false, cond}
+use mathlib.Core.Bool.{cond}
 use mathlib.Core.List.{List}
 use mathlib.Core.Option.{Option, none, some}
-use mathlib.Core.Path.{_≡_}
-use lib.ListN.{take, drop, set}
+use lib.ListN.{take, drop}
 use lib.Bits.{bitOr}
 use lib.Dec.{eqb}
 use Rattle.flow.specs.declared.Continuation.{Continuation}
 use Rattle.flow.specs.declared.Continuation as C
 use Rattle.flow.specs.declared.LineEntry.{LineEntry}
 use Rattle.flow.specs.declared.LineEntry as E
-use Rattle.flow.specs.Format.{Verdict, fit, unfit, verdict, fileChecks, recordChecks, kindAt, kindDim, kindGosub, kindOnGosub, dataPlace, dataCount, elementsEnd, continuationAt, recordEnd, lineCount, lineNumber, u16At}
+use Rattle.flow.specs.Format.{kindAt, kindDim, kindGosub, kindOnGosub, dataPlace, dataCount, elementsEnd, continuationAt, recordEnd, lineCount, lineNumber, u16At}
 
 -- the record at p, as that part of the file
 abbrev pub recordPart : List ℕ → ℕ → List ℕ

@@ -1,7 +1,7 @@
 -- `words::next_by_word` meets its contract. The invariant: the next member from the first word on is the next one from word k on. A word that is zero is
 -- passed over, and the lowest bit of one that is not is the answer. Assumes nothing.
 use mathlib.Core.Path.{_≡_, refl, sym, ap, _∙_}
-use Prim.Native.Nat.{ℕ, _+_, _-_, _*_, _/_, min}
+use Prim.Native.Nat.{ℕ, _+_, _-_, _*_, min}
 use native.Mathlib.Nat.{le-refl, lt-of-le-of-lt}
 use native.Mathlib.Omega.{arith}
 use borrow.Author.Needs.{needs}

@@ -1,4 +1,4 @@
--- `words::clear` meets its contract. The invariant: after k words the slice is the one with the first k words of the row zeroed.
+-- `words::zero_row` meets its contract. The invariant: after k words the slice is the one with the first k words of the row zeroed.
 -- Assumes nothing.
 use mathlib.Core.Path.{_≡_, refl, sym, ap, _∙_}
 use mathlib.Core.List.{List}

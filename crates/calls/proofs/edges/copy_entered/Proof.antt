@@ -1,6 +1,6 @@
 -- `copy_entered` meets its contract: the row is zeroed and joined with the row of entered statements, and no other word changes.
 -- By the laws of zeroed and joined rows. Assumes nothing.
-use Prim.Native.Nat.{ℕ, _+_, _≤_, max}
+use Prim.Native.Nat.{ℕ, _+_, _≤_}
 use mathlib.Core.List.{List}
 use mathlib.Core.Path.{_≡_, sym, ap, ap₂, _∙_, subst}
 use native.Mathlib.Omega.{arith}
@@ -13,7 +13,7 @@ use Rattle.words.proofs.Zeroed.{length-zeroed, zeroed-has}
 use Rattle.words.proofs.Unioned.{unioned-has}
 use Rattle.statements.specs.contracts.Layout.{rowAt, rowWords, enteredRowAt}
 use Rattle.statements.specs.contracts.Ready.{Keeps}
-use Rattle.statements.proofs.WorkArea.{member-word, row-holds, row-fits, row-words-le}
+use Rattle.statements.proofs.WorkArea.{row-holds, row-fits, row-words-le}
 use Rattle.statements.proofs.Keeps.{keeps-trans, keeps-has, keeps-zeroed, keeps-unioned}
 use Rattle.calls.proofs.edges.copy_entered.Statement.{statement}
 use Rattle.calls.proofs.edges.copy_entered.Tie as tie

@@ -9,7 +9,6 @@ use Rattle.words.specs.contracts.Change.{Inserted}
 use Rattle.flow.specs.Flow.{size}
 use Rattle.flow.specs.Format.{flowOf}
 use Rattle.theory.specs.Body.{walked}
-use Rattle.statements.specs.contracts.Layout.{enteredRowAt}
 use Rattle.statements.proofs.WorkArea.{row-fits, row-words-le}
 use Rattle.statements.proofs.Keeps.{ready-most, ready-formed, ready-size, ready-room}
 use Rattle.calls.proofs.Checked.{entered-room, entered-word}

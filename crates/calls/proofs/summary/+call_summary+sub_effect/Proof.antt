@@ -20,7 +20,7 @@ use Rattle.statements.specs.contracts.Ready.{Ready, Indexed, Keeps}
 use Rattle.statements.proofs.Keeps.{indexed-keeps, ready-keeps, keeps-set, ready-most, ready-size, ready-formed}
 use Rattle.statements.proofs.WorkArea.{row-from}
 use Rattle.calls.specs.contracts.Held.{unentered, opened, transparent, EmptyRow, Walked}
-use Rattle.calls.specs.contracts.Summing.{body, call, summaryState, Summing, OnwardBut, Onward, Leads, BodySummed, CallSummed}
+use Rattle.calls.specs.contracts.Summing.{body, Summing, OnwardBut, Onward, Leads, BodySummed, CallSummed}
 use Rattle.calls.proofs.Checked.{row-room, continues-to, continues-nowhere, enters-at, enters-nothing}
 use Rattle.calls.proofs.Summing.{onward-refl, onward-trans, onward-but, body-open, onward-open, summing-open, rows-set, callee-low}
 use Rattle.calls.proofs.BodySummary.{BodyLoop, PassedBelow, body-next, passed-none, body-turn, body-done, body-leads, return-done, referred-summing, referred-onward, next-low, unentered-row}
@@ -495,10 +495,10 @@ module _ (t : ℕ) (c : sub-effect-lts.After-join-call (sub-claims t) (sub-effec
   abbrev turned : sub-effect-lts.In-loop (sub-claims t) (sub-effect-at t) sub-effect.Post sub-effect-Inv-loop sub-effect-μ-loop
   turned = c .before .before .before .before .before .before .before .before .before .before .before .before
 
-  abbrev passed-hidden : Bool
-  passed-hidden = (turned .before .loop .opaque || c .before .before .before .before .before .before .wipes .result) || c .join-call .result
+  abbrev passed-opaque : Bool
+  passed-opaque = (turned .before .loop .opaque || c .before .before .before .before .before .before .wipes .result) || c .join-call .result
 
-  passed : PassedBelow (flowOf (given t turned .args .file .now)) (walked t (walk-done t turned)) (c .join-call .last .0) (given t turned .args .h .statements) (given t turned .args .e .0) passed-hidden (turned .before .loop .i + 1)
+  passed : PassedBelow (flowOf (given t turned .args .file .now)) (walked t (walk-done t turned)) (c .join-call .last .0) (given t turned .args .h .statements) (given t turned .args .e .0) passed-opaque (turned .before .loop .i + 1)
   passed =
       let r = given t turned .pre .1 .0 .ready in
       body-turn (ready-formed r) (ready-size r) (omega (arith, turn-room t turned)) (given t turned .pre .1 .1) (turned .loop-test .taken) (on-walk t turned) (turned .before .loop .inv .below)

@@ -8,7 +8,6 @@ use native.Mathlib.Omega.{arith}
 use borrow.Author.Needs.{needs}
 use denote.Ref.{now}
 use lib.ListN.{length-set}
-use Rattle.words.specs.contracts.Row.{has}
 use Rattle.statements.specs.contracts.Layout.{queueAt}
 use Rattle.statements.proofs.WorkArea.{row-below}
 use Rattle.words.specs.contracts.Change.{Inserted}

@@ -1,8 +1,7 @@
 -- `dataflow::arrays::push_edges` meets its contract. The invariant: what the edges from the cursor on have left to push, with what was pushed, is all.
 -- The measure is the number of slots left.
-use Prim.Native.Nat.{ℕ, _*_, _-_, _<_}
-use mathlib.Core.List.{List}
-use mathlib.Core.Path.{_≡_, sym, ap, subst, _∙_}
+use Prim.Native.Nat.{_*_, _-_, _<_}
+use mathlib.Core.Path.{sym, _∙_}
 use native.Mathlib.Omega.{arith}
 use borrow.Author.Needs.{needs}
 use denote.Ref.{now}

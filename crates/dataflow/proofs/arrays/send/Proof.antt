@@ -1,15 +1,13 @@
 -- `dataflow::arrays::send` meets its contract: the rows of the edges are made, with the touched step where the statement is a call that is not opaque,
 -- and pushed; the row of entered statements is empty before and after.
-use Prim.Native.Nat.{ℕ, _+_, _<_, _≤_}
+use Prim.Native.Nat.{ℕ, _+_, _<_}
 use mathlib.Core.Bool.{true}
-use mathlib.Core.List.{List}
 use mathlib.Core.Option.{some}
-use mathlib.Core.Path.{_≡_, refl, sym, ap, subst, _∙_}
+use mathlib.Core.Path.{_≡_, sym, ap, subst, _∙_}
 use native.Mathlib.Omega.{arith}
 use borrow.Author.Needs.{needs}
 use denote.Ref.{now}
-use lib.ListN.{length, getD}
-use Rattle.flow.specs.Flow.{Flow}
+use lib.ListN.{getD}
 use Rattle.flow.specs.Format.{flowOf}
 use Rattle.records.proofs.Files.{limited}
 use Rattle.theory.specs.Body.{kind, continuationOf, opaqueCall, callTouches}
@@ -18,9 +16,9 @@ use Rattle.theory.proofs.Lists.{clash}
 use Rattle.statements.specs.contracts.Layout.{callsAt, callTouchedAt}
 use Rattle.statements.specs.contracts.Ready.{MembersWord}
 use Rattle.statements.proofs.Copies.{node-below}
-use Rattle.statements.proofs.Keeps.{ready-most, ready-room, keeps-refl, keeps-trans, ready-size}
+use Rattle.statements.proofs.Keeps.{ready-most, ready-room, ready-size}
 use Rattle.statements.proofs.WellFormed.{arrays-is}
-use Rattle.calls.specs.contracts.Held.{Linked, EnteredRow, EmptyEntered, transparent}
+use Rattle.calls.specs.contracts.Held.{EnteredRow, transparent}
 use Rattle.calls.proofs.Found.{call-opaque}
 use Rattle.dataflow.proofs.Kept.{queue-above, indexed-stays, linked-stays, empty-stays}
 use Rattle.dataflow.proofs.Aside.{Aside, aside-refl, aside-trans, aside-row, aside-entered, aside-waits}

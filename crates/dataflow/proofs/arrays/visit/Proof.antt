@@ -1,14 +1,11 @@
 -- `dataflow::arrays::visit` meets its contract: the front is taken, and where it is unchanged nothing more is done; else the visit is noted, and its masks go on.
 -- By what one visit of the queue rule is.
-use Prim.Native.Nat.{ℕ, _+_, _*_, _<_, _≤_}
-use mathlib.Core.Bool.{Bool, true, false, not}
-use mathlib.Core.List.{List, _∷_}
-use mathlib.Core.Path.{_≡_, refl, sym, ap, subst, _∙_}
+use Prim.Native.Nat.{ℕ, _*_, _<_, _≤_}
+use mathlib.Core.Path.{_≡_, sym, subst, _∙_}
 use native.Mathlib.Omega.{arith}
-use borrow.Author.Needs.{needs}
 use borrow.Author.Tests.{not-true, not-false}
 use denote.Ref.{now}
-use lib.ListN.{length, getD, set, length-set}
+use lib.ListN.{length}
 use Rattle.flow.specs.Format.{flowOf}
 use Rattle.flow.specs.Limits.{maxArrays}
 use Rattle.records.proofs.Files.{limited}
@@ -16,10 +13,10 @@ use Rattle.statements.specs.contracts.Layout.{queueAt, areaEnd}
 use Rattle.statements.specs.contracts.Ready.{Keeps}
 use Rattle.statements.proofs.Keeps.{ready-most, ready-room, keeps-trans, keeps-widen, ready-size}
 use Rattle.statements.proofs.WellFormed.{well-formed, arrays-is}
-use Rattle.solve.specs.contracts.Waiting.{Waits, Taken, restOf}
+use Rattle.solve.specs.contracts.Waiting.{Waits}
 use Rattle.solve.proofs.Waiting.{rest-keeps}
 use Rattle.dataflow.specs.contracts.Sent.{Sends}
-use Rattle.dataflow.specs.contracts.Solving.{Underway, VisitsFront}
+use Rattle.dataflow.specs.contracts.Solving.{VisitsFront}
 use Rattle.dataflow.proofs.Kept.{indexed-stays, linked-stays}
 use Rattle.dataflow.proofs.Visiting.{underway-front, is-front, front-in, rest-waits, took-entered, unchanged-at, visits-unchanged, visits-sent, note-keeps, noted-waits, noted-entered}
 use Rattle.dataflow.proofs.arrays.visit.Statement.{statement}

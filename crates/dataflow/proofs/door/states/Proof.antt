@@ -2,12 +2,11 @@
 -- Assumes nothing.
 use borrow.Author.Needs.{needs}
 use borrow.Author.Tests.{not-true, not-false}
-use native.Mathlib.Omega.{arith}
 use native.Mathlib.Nat.{pos-of-ne-zero}
 use denote.Ref.{now}
-use Prim.Native.Nat.{ℕ, _≤_}
+use Prim.Native.Nat.{_≤_}
 use mathlib.Core.Bool.{Bool, true, false}
-use mathlib.Core.Path.{_≡_, refl, ap, sym, _∙_, subst}
+use mathlib.Core.Path.{_≡_, ap, sym, _∙_, subst}
 use lib.ListN.{length, getD, replicate}
 use Rattle.flow.specs.declared.Header.{Header}
 use Rattle.flow.specs.Limits.{workWords, maxStatements, maxArrays}
@@ -101,7 +100,7 @@ solve-flow-requires c κs =
     let fit = not-false _ (e .if1 .left) in
     let rooms = judging.rooms _ _ _ _ _ _ (sym (f .areas-fit .ensures) ∙ fit) in
     record {
-      fresh = record {
+      flow-fit = record {
         fit = fits k;
         header = header k;
         some = pos-of-ne-zero (c .before .before .before .before .if2 .left);

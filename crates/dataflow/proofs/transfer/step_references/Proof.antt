@@ -1,15 +1,13 @@
 -- `dataflow::transfer::step_references` meets its contract. The invariant: the arrays of the first k references have stepped.
 -- The measure is the number of references left.
 use Prim.Native.Nat.{ℕ, _-_}
-use mathlib.Core.Path.{_≡_, ap, subst, sym, _∙_}
-use native.Mathlib.Omega.{arith}
+use mathlib.Core.Path.{ap}
 use borrow.Author.Needs.{needs}
 use denote.Ref.{now}
 use lib.Dec.{eqb}
 use lib.ListN.{length, getD}
 use Rattle.masks.specs.declared.Effect.the-variants.{Reference}
-use Rattle.flow.specs.Format.{flowOf, arraysOf}
-use Rattle.flow.specs.Limits.{maxArrays}
+use Rattle.flow.specs.Format.{flowOf}
 use Rattle.records.proofs.Files.{limited}
 use Rattle.theory.specs.Lists.{elem}
 use Rattle.theory.specs.Body.{references}

@@ -9,7 +9,8 @@ use borrow.Author.Needs.{needs}
 use Rattle.records.proofs.Files.{header-fits}
 use Rattle.statements.proofs.Noted.{ready-noted}
 use Rattle.theory.specs.Lists.{concatMap, upTo}
-use Rattle.theory.specs.Listing.{letterF, decimal, lineOf}
+use Rattle.flow.specs.Format.{letterF}
+use Rattle.theory.specs.Listing.{decimal, lineOf}
 use Rattle.listing.specs.contracts.Put.{HasRoom, Appended}
 use Rattle.listing.specs.contracts.Room.{areasLine}
 use Rattle.listing.proofs.Appending.{then, room-first, room-next}

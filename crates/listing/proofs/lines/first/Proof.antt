@@ -2,7 +2,8 @@
 -- Assumes nothing.
 use mathlib.Core.List.{[], _∷_}
 use borrow.Author.Needs.{needs}
-use Rattle.theory.specs.Listing.{letterF, decimal}
+use Rattle.flow.specs.Format.{letterF}
+use Rattle.theory.specs.Listing.{decimal}
 use Rattle.listing.proofs.Appending.{field-room, rest-room, last-room, field-then, last-field, line}
 use Rattle.listing.proofs.lines.first.Statement.{statement}
 use Rattle.listing.proofs.lines.first.Tie as tie

@@ -1,13 +1,10 @@
 -- `solve::push::grow` meets its contract: the rows are joined, and the word of the number is set where the row grew.
 -- By the union of rows of masks.
 use Prim.Native.Nat.{ℕ, _+_}
-use mathlib.Core.List.{List}
-use mathlib.Core.Path.{_≡_, refl, sym, ap, subst, _∙_}
-use native.Mathlib.Omega.{arith}
+use mathlib.Core.Path.{refl, sym, subst}
 use borrow.Author.Needs.{needs}
 use denote.Ref.{now}
-use lib.ListN.{set, length-set}
-use Rattle.words.proofs.Unioned.{length-unioned}
+use lib.ListN.{set}
 use Rattle.statements.specs.contracts.Layout.{areaEnd}
 use Rattle.statements.specs.contracts.Ready.{Keeps}
 use Rattle.solve.specs.contracts.Layout.{grownAt}

@@ -1,6 +1,5 @@
 -- `solve::rows::step_at` meets its contract: the byte is read, stepped and written back.
 -- By the law of a byte that is set.
-use native.Mathlib.Omega.{arith}
 use borrow.Author.Needs.{needs}
 use Prim.Native.Nat.{ℕ}
 use mathlib.Core.List.{List}
