@@ -17,6 +17,7 @@ pub mod original;
 pub mod proved_reader;
 pub mod random;
 pub mod reader;
+pub mod reading;
 pub mod sides;
 #[cfg(original)]
 mod stand_ins;

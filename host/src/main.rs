@@ -8,7 +8,7 @@ use yarnuskel_host::flow::Flow;
 use yarnuskel_host::generate::{self, Family};
 use yarnuskel_host::judge::{self, Comparison, Lent};
 use yarnuskel_host::sides::{self, NO_ORIGINAL, NO_READER, NO_STATES};
-use yarnuskel_host::{bench, cases, dot, flow, listing, store, text, worst};
+use yarnuskel_host::{bench, cases, dot, flow, listing, reading, store, text, worst};
 
 const USAGE: &str = "commands:
   answer FILE|DIR              masks and live sets by the original, refusals by the answerer (of a DIR, its .flow files)
@@ -22,6 +22,7 @@ const USAGE: &str = "commands:
   store                        write the stored answers and the example flows
   stored                       list the stored cases
   list FILE                    what the listing program prints
+  definitions                  every definition that the promises rest on, with its file and its lines
   text FILE                    a flow file as text
   flow TEXT PATH               write the flow file that a text says
   dot FILE                     a flow file with its masks as a picture, for Graphviz
@@ -214,6 +215,10 @@ fn run(words: &[&str]) -> Outcome {
             Ok(true)
         }
         ["dot", path] => picture(Path::new(path)),
+        ["definitions"] => {
+            print!("{}", reading::Library::load(&root()).believed(&root()));
+            Ok(true)
+        }
         ["flow", from, path] => write_flow(Path::new(from), Path::new(path)),
         ["bench-reader"] => Ok(bench::readers()),
         ["bench"] => Ok(bench::whole_call()),

@@ -26,12 +26,13 @@ enum Family {
     /// Opaque calls with long lists of lines, each of another body.
     Calls,
     /// Calls that are not opaque, with long lists of lines, reached in both copies.
-    Clear,
+    Transparent,
     /// A dense graph without calls.
     Dense,
 }
 
-const FAMILIES: [Family; 5] = [Family::Returns, Family::Bodies, Family::Calls, Family::Clear, Family::Dense];
+const FAMILIES: [Family; 5] =
+    [Family::Returns, Family::Bodies, Family::Calls, Family::Transparent, Family::Dense];
 
 // ----- Recipes ------------------------------------------------------------
 
@@ -84,7 +85,7 @@ impl Recipe {
             Family::Returns => returns(self.knobs),
             Family::Bodies => bodies(self.knobs, random),
             Family::Calls => calls(self.knobs, random),
-            Family::Clear => clear(self.knobs, random),
+            Family::Transparent => transparent(self.knobs, random),
             Family::Dense => dense(self.knobs, random),
         }
         .bytes()
@@ -241,7 +242,7 @@ fn calls([share, fill, known, direction]: Knobs, random: &mut Random) -> Flow {
 
 /// Knobs: the share of calls, the length of their lists, how many `FL` records there are (up to
 /// twice the statements), and how many successors the calls list.
-fn clear([share, fill, known, listed]: Knobs, random: &mut Random) -> Flow {
+fn transparent([share, fill, known, listed]: Knobs, random: &mut Random) -> Flow {
     let first_call = CHANGES + 2;
     let calls = part(N - first_call - 2, share);
     let end = first_call + calls;

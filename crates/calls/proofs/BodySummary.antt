@@ -1,5 +1,5 @@
--- The summary of a body, statement by statement of its walk: what was passed by is clear and its arrays are noted, or the body is opaque.
--- A body with nothing opaque on its walk is clear, since the bodies that its calls enter are; what it touches is then all noted.
+-- The summary of a body, statement by statement of its walk: what was passed by is transparent and its arrays are noted, or the body is opaque.
+-- A body with nothing opaque on its walk is transparent, since the bodies that its calls enter are; what it touches is then all noted.
 use Prim.Native.Nat.{ℕ, _+_, _<_, _≤_}
 use mathlib.Core.Bool.{Bool, true, false, cond, _||_}
 use mathlib.Core.List.{List, [], List·Memᴰ·not-nil}
@@ -10,7 +10,7 @@ use native.Mathlib.Decide.{decLt, ℕ-discrete}
 use native.Mathlib.Omega.{arith}
 use borrow.Author.Tests.{eqb-true, eqb-false}
 use lib.ListN.{length, set}
-use Rattle.words.specs.Row.{bit, nextMember}
+use Rattle.words.specs.contracts.Row.{bit, nextMember}
 use Rattle.words.proofs.NextMember.{first}
 use Rattle.flow.specs.Flow.{Flow, Kind, size}
 use Rattle.theory.specs.Lists as lists
@@ -18,14 +18,14 @@ use Rattle.theory.specs.Lists.{In, any}
 use Rattle.theory.specs.Reach.{Reach}
 use Rattle.theory.specs.Body as theory
 use Rattle.theory.specs.Body.{kind, references, continuationOf, entered, ifSome, callees, isReturn, successors, orElse, walkNext, Walks, Calls, Touches, wipes, Calls⁺, Opaque, OpaqueCall, CallTouches, walked, touches, opaqueCall, callTouches}
-use Rattle.theory.specs.WellFormed.{WellFormed}
-use Rattle.theory.proofs.Lists.{clash, or-cases, or-first, or-second, any-find, In-has, has-In}
+use Rattle.theory.specs.contracts.WellFormed.{WellFormed}
+use Rattle.theory.proofs.Lists.{clash, or-cases, or-first, or-second, any-find, In-elem, elem-In}
 use Rattle.theory.proofs.Body.{walked-sound, touches-sound, touches-complete, touches-equation, opaque-complete, opaqueCall-sound, callTouches-sound}
-use Rattle.theory.proofs.Clear.{Clear, clear-opaque, callee-clear}
-use Rattle.statements.specs.Layout.{bodiesAt, touchedAt, matrixAt, rowAt}
-use Rattle.statements.specs.Ready.{MembersWord}
-use Rattle.calls.specs.Held.{unentered, opened, clear, opaque, EmptyRow, WalkRow}
-use Rattle.calls.specs.Summing.{body, call, touchedBy, callTouchedBy, settled, Within, Holds, BodyState, CallState, Summing, OnwardBut, Onward, Leads, Referred, CallJoined, BodySummed, CallSummed}
+use Rattle.theory.proofs.Transparent.{Transparent, transparent-opaque, callee-transparent}
+use Rattle.statements.specs.contracts.Layout.{bodiesAt, touchedAt, matrixAt, rowAt}
+use Rattle.statements.specs.contracts.Ready.{MembersWord}
+use Rattle.calls.specs.contracts.Held.{unentered, opened, transparent, opaque, EmptyRow, WalkRow}
+use Rattle.calls.specs.contracts.Summing.{body, call, touchedBy, callTouchedBy, summaryState, Within, Holds, BodyState, CallState, Summing, OnwardBut, Onward, Leads, Referred, CallJoined, BodySummed, CallSummed}
 use Rattle.calls.proofs.Summing.{joined-has, onward-refl, onward-trans, onward-but, onward-all, walk-low, onward-touched, summing-touched, body-set, body-other, onward-body, summing-body, rows-set, walk-kept}
 
 -- Members of a word
@@ -46,13 +46,13 @@ true-member {w} {a} m l h = m .member a l ∙ ap (λ b. cond b 1 0) h
 pub open-row : {f : Flow} {ws : List ℕ} {n b : ℕ} → body ws n b ≡ opened → BodyState f ws n b → WalkRow f ws n b
 open-row h (BodyState.is-unentered e r) = absurd (omega (arith, h, e))
 open-row h (BodyState.is-open e r) = r
-open-row h (BodyState.is-clear e o t r) = absurd (omega (arith, h, e))
+open-row h (BodyState.is-transparent e o t r) = absurd (omega (arith, h, e))
 open-row h (BodyState.is-opaque e o r) = absurd (omega (arith, h, e))
 
 pub unentered-row : {f : Flow} {ws : List ℕ} {n b : ℕ} → body ws n b ≡ unentered → BodyState f ws n b → EmptyRow ws n b
 unentered-row h (BodyState.is-unentered e r) = r
 unentered-row h (BodyState.is-open e r) = absurd (omega (arith, h, e))
-unentered-row h (BodyState.is-clear e o t r) = absurd (omega (arith, h, e))
+unentered-row h (BodyState.is-transparent e o t r) = absurd (omega (arith, h, e))
 unentered-row h (BodyState.is-opaque e o r) = absurd (omega (arith, h, e))
 
 -- what a call says that is not opaque by its state
@@ -71,23 +71,23 @@ ordinary f ws n c h = record {
   touched = λ a l t. clash (callTouches f c a) t (ap (any (λ b. touches f b a)) (no-callees f c h));
 }
 
-not-hidden : {f : Flow} {ws : List ℕ} {n c : ℕ} → ((k : ℕ) → continuationOf (kind f c) ≡ some k → call ws n c ≢ unentered) → call ws n c ≢ opaque → CallState f ws n c → NotHidden f ws n c
-not-hidden {f} {ws} {n} {c} done d (CallState.is-none e) = go (continuationOf (kind f c)) refl
+none-opaque-there : {f : Flow} {ws : List ℕ} {n c : ℕ} → ((k : ℕ) → continuationOf (kind f c) ≡ some k → call ws n c ≢ unentered) → call ws n c ≢ opaque → CallState f ws n c → NotHidden f ws n c
+none-opaque-there {f} {ws} {n} {c} done d (CallState.is-none e) = go (continuationOf (kind f c)) refl
   where
     go : (o : Option ℕ) → continuationOf (kind f c) ≡ o → NotHidden f ws n c
     go none q = ordinary f ws n c q
     go (some k) q = absurd (done k q e)
-not-hidden done d (CallState.is-clear e n o t) = record { call = o; touched = t }
-not-hidden done d (CallState.is-opaque e n o) = absurd (d e)
+none-opaque-there done d (CallState.is-transparent e n o t) = record { call = o; touched = t }
+none-opaque-there done d (CallState.is-opaque e n o) = absurd (d e)
 
-hidden-opaque : {f : Flow} {ws : List ℕ} {n c : ℕ} → call ws n c ≡ opaque → CallState f ws n c → opaqueCall f c ≡ true
-hidden-opaque h (CallState.is-none e) = absurd (omega (arith, h, e))
-hidden-opaque h (CallState.is-clear e n o t) = absurd (omega (arith, h, e))
-hidden-opaque h (CallState.is-opaque e n o) = o
+opaque-there : {f : Flow} {ws : List ℕ} {n c : ℕ} → call ws n c ≡ opaque → CallState f ws n c → opaqueCall f c ≡ true
+opaque-there h (CallState.is-none e) = absurd (omega (arith, h, e))
+opaque-there h (CallState.is-transparent e n o t) = absurd (omega (arith, h, e))
+opaque-there h (CallState.is-opaque e n o) = o
 
-pub settled-not : (b : Bool) (v : ℕ) → opaque ≢ v → clear ≢ v → settled b ≢ v
-settled-not true v h k = h
-settled-not false v h k = k
+pub summary-state-not : (b : Bool) (v : ℕ) → opaque ≢ v → transparent ≢ v → summaryState b ≢ v
+summary-state-not true v h k = h
+summary-state-not false v h k = k
 
 -- Calls lead to the bodies that the calls on the walk enter, from every open body
 pub body-leads : {f : Flow} {ws vs : List ℕ} {n e i b : ℕ} → OnwardBut e ws vs n → Leads f ws n e → Walks f e i → In b (callees f i) → Leads f vs n b
@@ -131,26 +131,26 @@ return-stays f {e} h (Reach.on {i = i} {j = j} r m) = absurd (return-stops f e j
 pub record Passed (f : Flow) (ws : List ℕ) (n e j : ℕ) : Type 0 where
   pub keeps : wipes (kind f j) ≡ false
   pub call : opaqueCall f j ≡ false
-  pub own : Holds (touchedBy ws n e) (λ a. lists.has a (references f j))
+  pub own : Holds (touchedBy ws n e) (λ a. lists.elem a (references f j))
   pub nested : Holds (touchedBy ws n e) (callTouches f j)
 
--- the statements below i of the walk were passed by; `hidden` says whether one of them is opaque
-pub record PassedBelow (f : Flow) (ws₀ ws : List ℕ) (n e : ℕ) (hidden : Bool) (i : ℕ) : Type 0 where
+-- the statements below i of the walk were passed by; `found-opaque` says whether one of them is opaque
+pub record PassedBelow (f : Flow) (ws₀ ws : List ℕ) (n e : ℕ) (found-opaque : Bool) (i : ℕ) : Type 0 where
   pub summing : Summing f ws n
   pub onward : Onward ws₀ ws n
   pub is-open : body ws n e ≡ opened
-  pub passed : (j : ℕ) → j < i → Walks f e j → hidden ≡ false → Passed f ws n e j
-  pub found : hidden ≡ true → theory.opaque f e ≡ true
+  pub passed : (j : ℕ) → j < i → Walks f e j → found-opaque ≡ false → Passed f ws n e j
+  pub found : found-opaque ≡ true → theory.opaque f e ≡ true
 
-pub record BodyLoop (f : Flow) (ws₀ ws : List ℕ) (n e : ℕ) (hidden : Bool) (i : ℕ) : Type 0 where
-  pub below : PassedBelow f ws₀ ws n e hidden i
+pub record BodyLoop (f : Flow) (ws₀ ws : List ℕ) (n e : ℕ) (found-opaque : Bool) (i : ℕ) : Type 0 where
+  pub below : PassedBelow f ws₀ ws n e found-opaque i
   pub high : i ≤ n
   pub member : i < n → Walks f e i
 
 -- to the next statement of the walk
-pub body-next : {f : Flow} {ws₀ ws : List ℕ} {n e from : ℕ} {hidden : Bool} → e < n → from ≤ n → PassedBelow f ws₀ ws n e hidden from → {base i : ℕ} → base ≡ rowAt n e → i ≡ nextMember ws base from n
-    → BodyLoop f ws₀ ws n e hidden i
-body-next {f} {ws₀} {ws} {n} {e} {from} {hidden} le l p {base} {i} q is = record {
+pub body-next : {f : Flow} {ws₀ ws : List ℕ} {n e from : ℕ} {found-opaque : Bool} → e < n → from ≤ n → PassedBelow f ws₀ ws n e found-opaque from → {base i : ℕ} → base ≡ rowAt n e → i ≡ nextMember ws base from n
+    → BodyLoop f ws₀ ws n e found-opaque i
+body-next {f} {ws₀} {ws} {n} {e} {from} {found-opaque} le l p {base} {i} q is = record {
   below = record {
     summing = p .summing;
     onward = p .onward;
@@ -168,10 +168,10 @@ body-next {f} {ws₀} {ws} {n} {e} {from} {hidden} le l p {base} {i} q is = reco
     is′ : i ≡ nextMember ws (rowAt n e) from n
     is′ = is ∙ ap (λ b. nextMember ws b from n) q
 
-    is-first : Rattle.words.specs.Row.First ws (rowAt n e) from n (nextMember ws (rowAt n e) from n)
+    is-first : Rattle.words.specs.contracts.Row.First ws (rowAt n e) from n (nextMember ws (rowAt n e) from n)
     is-first = first ws (rowAt n e) from n l
 
-    passed : (j : ℕ) → j < i → Walks f e j → hidden ≡ false → Dec (j < from) → Passed f ws n e j
+    passed : (j : ℕ) → j < i → Walks f e j → found-opaque ≡ false → Dec (j < from) → Passed f ws n e j
     passed j h r z (yes k) = p .passed j k r z
     passed j h r z (no k) = absurd (let w : j < nextMember ws (rowAt n e) from n = rw is′ at h in omega (arith, is-first .none j (omega (arith, k)) w, row .complete j r))
 
@@ -193,8 +193,8 @@ module _ {f : Flow} {n : ℕ} (w : WellFormed f) (sz : size f ≡ n) where
 
   -- what a statement of the walk does belongs to the body
 
-  own-within : {e i word : ℕ} → e < n → Walks f e i → MembersWord word (λ a. lists.has a (references f i)) → Within word (touches f e)
-  own-within {i = i} le r m a l h = touches-complete w (low le) (Touches.own r (has-In a (references f i) (member-true m l h)))
+  own-within : {e i word : ℕ} → e < n → Walks f e i → MembersWord word (λ a. lists.elem a (references f i)) → Within word (touches f e)
+  own-within {i = i} le r m a l h = touches-complete w (low le) (Touches.own r (elem-In a (references f i) (member-true m l h)))
 
   call-touches : {e i : ℕ} (a : ℕ) → e < n → Walks f e i → callTouches f i a ≡ true → touches f e a ≡ true
   call-touches {e} {i} a le r h = go (callTouches-sound f i a h)
@@ -216,12 +216,12 @@ module _ {f : Flow} {n : ℕ} (w : WellFormed f) (sz : size f ≡ n) where
     pub referred-onward : Onward ws vs n
     referred-onward = rw (j .slice) (onward-touched w sz s room le (j .word))
 
-    pub referred-own : Holds (touchedBy vs n e) (λ a. lists.has a (references f i))
+    pub referred-own : Holds (touchedBy vs n e) (λ a. lists.elem a (references f i))
     referred-own a l h = rw (j .slice) (joined-has ws (touchedAt n + e) (j .word) a (omega arith) (true-member (j .set) l h))
 
   -- a turn: the references of i, the summary of i, and what i touches as a call
-  module _ {ws₀ ws us vs zs : List ℕ} {e i : ℕ} {before wiped hidden : Bool} (room : matrixAt n ≤ length ws) (le : e < n) (li : i < n) (r : Walks f e i)
-      (p : PassedBelow f ws₀ ws n e before i) (j : Referred f ws us n e i) (k : CallSummed f us vs n i) (q : wiped ≡ wipes (kind f i)) (z : CallJoined vs zs n e i hidden) where
+  module _ {ws₀ ws us vs zs : List ℕ} {e i : ℕ} {before wiped found-opaque : Bool} (room : matrixAt n ≤ length ws) (le : e < n) (li : i < n) (r : Walks f e i)
+      (p : PassedBelow f ws₀ ws n e before i) (j : Referred f ws us n e i) (k : CallSummed f us vs n i) (q : wiped ≡ wipes (kind f i)) (z : CallJoined vs zs n e i found-opaque) where
     room-then : matrixAt n ≤ length vs
     room-then = omega (arith, room, referred-onward (p .summing) room le r j .keeps .size, k .onward .keeps .size)
 
@@ -231,9 +231,9 @@ module _ {f : Flow} {n : ℕ} (w : WellFormed f) (sz : size f ≡ n) where
     onward-turn : Onward ws zs n
     onward-turn = onward-trans (referred-onward (p .summing) room le r j) onward-here
 
-    here : hidden ≡ false → wiped ≡ false → Passed f zs n e i
+    here : found-opaque ≡ false → wiped ≡ false → Passed f zs n e i
     here h g =
-        let c = not-hidden (k .done) (eqb-false (call vs n i) opaque (sym (z .state) ∙ h)) (k .summing .calls i li) in
+        let c = none-opaque-there (k .done) (eqb-false (call vs n i) opaque (sym (z .state) ∙ h)) (k .summing .calls i li) in
         record {
           keeps = sym q ∙ g;
           call = c .call;
@@ -249,61 +249,61 @@ module _ {f : Flow} {n : ℕ} (w : WellFormed f) (sz : size f ≡ n) where
       nested = λ a l h. onward-turn .touched e a le (t .nested a l h);
     }
 
-    pub body-turn : PassedBelow f ws₀ zs n e ((before || wiped) || hidden) (i + 1)
+    pub body-turn : PassedBelow f ws₀ zs n e ((before || wiped) || found-opaque) (i + 1)
     body-turn = record {
       summing = rw (z .slice) (summing-touched w sz (k .summing) room-then le (callTouchedBy vs n i) (λ a l h. call-touches a le r (k .summing .callTouched i li a l h)));
       onward = onward-trans (p .onward) onward-turn;
       is-open = onward-turn .still-open e le (λ x. omega arith) (p .is-open);
       passed = λ x l t h. passed x l t h (ℕ-discrete x i);
-      found = λ h. ⊎-elim (λ g. ⊎-elim (p .found) (λ o. opaque-complete w (low le) (Opaque.own r (sym q ∙ o))) (or-cases before wiped g)) (λ g. call-hides le r (hidden-opaque (eqb-true (call vs n i) opaque (sym (z .state) ∙ g)) (k .summing .calls i li))) (or-cases (before || wiped) hidden h);
+      found = λ h. ⊎-elim (λ g. ⊎-elim (p .found) (λ o. opaque-complete w (low le) (Opaque.own r (sym q ∙ o))) (or-cases before wiped g)) (λ g. call-hides le r (opaque-there (eqb-true (call vs n i) opaque (sym (z .state) ∙ g)) (k .summing .calls i li))) (or-cases (before || wiped) found-opaque h);
     }
       where
-        passed : (x : ℕ) → x < i + 1 → Walks f e x → ((before || wiped) || hidden) ≡ false → Dec (x ≡ i) → Passed f zs n e x
-        passed x l t h (yes y) = subst (λ y. Passed f zs n e y) (sym y) (here (or-second (before || wiped) hidden h) (or-second before wiped (or-first (before || wiped) hidden h)))
-        passed x l t h (no d) = further (p .passed x (omega (arith, d)) t (or-first before wiped (or-first (before || wiped) hidden h)))
+        passed : (x : ℕ) → x < i + 1 → Walks f e x → ((before || wiped) || found-opaque) ≡ false → Dec (x ≡ i) → Passed f zs n e x
+        passed x l t h (yes y) = subst (λ y. Passed f zs n e y) (sym y) (here (or-second (before || wiped) found-opaque h) (or-second before wiped (or-first (before || wiped) found-opaque h)))
+        passed x l t h (no d) = further (p .passed x (omega (arith, d)) t (or-first before wiped (or-first (before || wiped) found-opaque h)))
 
-  -- the walk is passed by: the body is settled
-  module _ {ws₀ ws : List ℕ} {e i : ℕ} {hidden : Bool} (room : matrixAt n ≤ length ws) (le : e < n) (p : PassedBelow f ws₀ ws n e hidden i) (end : n ≤ i) where
-    passed-all : {j : ℕ} → Walks f e j → hidden ≡ false → Passed f ws n e j
+  -- the walk is passed by: the body is summaryState
+  module _ {ws₀ ws : List ℕ} {e i : ℕ} {found-opaque : Bool} (room : matrixAt n ≤ length ws) (le : e < n) (p : PassedBelow f ws₀ ws n e found-opaque i) (end : n ≤ i) where
+    passed-all : {j : ℕ} → Walks f e j → found-opaque ≡ false → Passed f ws n e j
     passed-all {j} r h = p .passed j (let l : j < n = walk-low w sz le j r in omega arith) r h
 
-    is-clear : hidden ≡ false → Clear f e
-    is-clear h = Clear.clear (λ j r. passed-all r h .keeps) (λ b k. go b k)
+    is-transparent : found-opaque ≡ false → Transparent f e
+    is-transparent h = Transparent.transparent (λ j r. passed-all r h .keeps) (λ b k. go b k)
       where
-        go : (b : ℕ) → Calls f e b → Clear f b
-        go b (Calls.calls {c = c} r m) = callee-clear w c (passed-all r h .call) m
+        go : (b : ℕ) → Calls f e b → Transparent f b
+        go b (Calls.calls {c = c} r m) = callee-transparent w c (passed-all r h .call) m
 
-    all-touched : hidden ≡ false → Holds (touchedBy ws n e) (touches f e)
+    all-touched : found-opaque ≡ false → Holds (touchedBy ws n e) (touches f e)
     all-touched h a l t =
-        let x = any-find (λ j. lists.has a (references f j) || callTouches f j a) (walked f e) (sym (touches-equation w e a (low le)) ∙ t) in
+        let x = any-find (λ j. lists.elem a (references f j) || callTouches f j a) (walked f e) (sym (touches-equation w e a (low le)) ∙ t) in
         let y = passed-all (walked-sound f e (x .1)) h in
-        ⊎-elim (y .own a l) (y .nested a l) (or-cases (lists.has a (references f (x .0))) (callTouches f (x .0) a) (x .2))
+        ⊎-elim (y .own a l) (y .nested a l) (or-cases (lists.elem a (references f (x .0))) (callTouches f (x .0) a) (x .2))
 
     row : (v : ℕ) → WalkRow f (set ws (bodiesAt n + e) v) n e
     row v = walk-kept (walk-low w sz le) (λ j m. rows-set ws (bodiesAt n + e) v (omega arith) (omega arith) e j) (open-row (p .is-open) (p .summing .bodies e le))
 
-    state : (b : Bool) → hidden ≡ b → BodyState f (set ws (bodiesAt n + e) (settled b)) n e
+    state : (b : Bool) → found-opaque ≡ b → BodyState f (set ws (bodiesAt n + e) (summaryState b)) n e
     state true h = BodyState.is-opaque (body-set w sz (p .summing) room le opaque) (p .found h) (row opaque)
     state false h =
-        BodyState.is-clear (body-set w sz (p .summing) room le clear) (clear-opaque (is-clear h))
-        (λ a l t. ap (λ x. bit x a) (body-other w sz (p .summing) room le clear (touchedAt n + e) (λ q. omega arith)) ∙ all-touched h a l t)
-        (λ g. row clear)
+        BodyState.is-transparent (body-set w sz (p .summing) room le transparent) (transparent-opaque (is-transparent h))
+        (λ a l t. ap (λ x. bit x a) (body-other w sz (p .summing) room le transparent (touchedAt n + e) (λ q. omega arith)) ∙ all-touched h a l t)
+        (λ g. row transparent)
 
-    pub body-done : (v : ℕ) → v ≡ settled hidden → {ws₁ : List ℕ} → OnwardBut e ws₁ ws₀ n → body ws₁ n e ≡ unentered → BodySummed f ws₁ (set ws (bodiesAt n + e) v) n e
+    pub body-done : (v : ℕ) → v ≡ summaryState found-opaque → {ws₁ : List ℕ} → OnwardBut e ws₁ ws₀ n → body ws₁ n e ≡ unentered → BodySummed f ws₁ (set ws (bodiesAt n + e) v) n e
     body-done v q {ws₁} o was = rw q (record {
-      summing = summing-body w sz (p .summing) room le (settled hidden) not-zero (state hidden refl);
-      onward = onward-all (onward-trans o (onward-trans (onward-but e (p .onward)) (onward-body w sz (p .summing) room le (settled hidden)))) was (λ x. not-zero (sym is ∙ x)) (λ x. not-open (sym is ∙ x));
+      summing = summing-body w sz (p .summing) room le (summaryState found-opaque) not-zero (state found-opaque refl);
+      onward = onward-all (onward-trans o (onward-trans (onward-but e (p .onward)) (onward-body w sz (p .summing) room le (summaryState found-opaque)))) was (λ x. not-zero (sym is ∙ x)) (λ x. not-open (sym is ∙ x));
       done = λ x. not-zero (sym is ∙ x);
     })
       where
-        is : body (set ws (bodiesAt n + e) (settled hidden)) n e ≡ settled hidden
-        is = body-set w sz (p .summing) room le (settled hidden)
+        is : body (set ws (bodiesAt n + e) (summaryState found-opaque)) n e ≡ summaryState found-opaque
+        is = body-set w sz (p .summing) room le (summaryState found-opaque)
 
-        not-zero : settled hidden ≢ unentered
-        not-zero = settled-not hidden unentered (λ x. omega arith) (λ x. omega arith)
+        not-zero : summaryState found-opaque ≢ unentered
+        not-zero = summary-state-not found-opaque unentered (λ x. omega arith) (λ x. omega arith)
 
-        not-open : settled hidden ≢ opened
-        not-open = settled-not hidden opened (λ x. omega arith) (λ x. omega arith)
+        not-open : summaryState found-opaque ≢ opened
+        not-open = summary-state-not found-opaque opened (λ x. omega arith) (λ x. omega arith)
 
   -- a RETURN touches what it references and calls nothing
   module _ {ws vs : List ℕ} {e : ℕ} (s : Summing f ws n) (room : matrixAt n ≤ length ws) (le : e < n) (was : body ws n e ≡ unentered) (ret : isReturn (kind f e) ≡ true)
@@ -312,17 +312,17 @@ module _ {f : Flow} {n : ℕ} (w : WellFormed f) (sz : size f ≡ n) where
     no-call {c} {b} r m =
         List·Memᴰ·not-nil (subst (λ l. In b l) (no-callees f e (return-ordinary (kind f e) ret)) (subst (λ x. In b (callees f x)) (return-stays f ret r) m))
 
-    return-clear : Clear f e
-    return-clear = Clear.clear (λ i r. subst (λ x. wipes (kind f x) ≡ false) (sym (return-stays f ret r)) (return-wipes (kind f e) ret)) (λ b k. go b k)
+    return-transparent : Transparent f e
+    return-transparent = Transparent.transparent (λ i r. subst (λ x. wipes (kind f x) ≡ false) (sym (return-stays f ret r)) (return-wipes (kind f e) ret)) (λ b k. go b k)
       where
-        go : (b : ℕ) → Calls f e b → Clear f b
+        go : (b : ℕ) → Calls f e b → Transparent f b
         go b (Calls.calls r m) = absurd (no-call r m)
 
-    return-touches : (a : ℕ) → Touches f a e → lists.has a (references f e) ≡ true
+    return-touches : (a : ℕ) → Touches f a e → lists.elem a (references f e) ≡ true
     return-touches a t = go e refl t
       where
-        go : (x : ℕ) → x ≡ e → Touches f a x → lists.has a (references f e) ≡ true
-        go x q (Touches.own {i = i} r m) = In-has (subst (λ y. In a (references f y)) (return-stays f ret (subst (λ y. Walks f y i) q r)) m)
+        go : (x : ℕ) → x ≡ e → Touches f a x → lists.elem a (references f e) ≡ true
+        go x q (Touches.own {i = i} r m) = In-elem (subst (λ y. In a (references f y)) (return-stays f ret (subst (λ y. Walks f y i) q r)) m)
         go x q (Touches.nested (Calls.calls {c = c} r m) t) = absurd (no-call (subst (λ y. Walks f y c) q r) m)
 
     vs-summing : Summing f vs n
@@ -331,17 +331,17 @@ module _ {f : Flow} {n : ℕ} (w : WellFormed f) (sz : size f ≡ n) where
     return-room : matrixAt n ≤ length vs
     return-room = omega (arith, room, referred-onward s room le Reach.here j .keeps .size)
 
-    pub return-done : BodySummed f ws (set vs (bodiesAt n + e) clear) n e
+    pub return-done : BodySummed f ws (set vs (bodiesAt n + e) transparent) n e
     return-done = record {
-      summing = summing-body w sz vs-summing return-room le clear (λ x. omega arith) (BodyState.is-clear is (clear-opaque return-clear) holds (λ h. clash (isReturn (kind f e)) ret h));
-      onward = onward-all (onward-trans (onward-but e (referred-onward s room le Reach.here j)) (onward-body w sz vs-summing return-room le clear)) was (λ x. omega (arith, is, x)) (λ x. omega (arith, is, x));
+      summing = summing-body w sz vs-summing return-room le transparent (λ x. omega arith) (BodyState.is-transparent is (transparent-opaque return-transparent) holds (λ h. clash (isReturn (kind f e)) ret h));
+      onward = onward-all (onward-trans (onward-but e (referred-onward s room le Reach.here j)) (onward-body w sz vs-summing return-room le transparent)) was (λ x. omega (arith, is, x)) (λ x. omega (arith, is, x));
       done = λ x. omega (arith, is, x);
     }
       where
-        is : body (set vs (bodiesAt n + e) clear) n e ≡ clear
-        is = body-set w sz vs-summing return-room le clear
+        is : body (set vs (bodiesAt n + e) transparent) n e ≡ transparent
+        is = body-set w sz vs-summing return-room le transparent
 
-        holds : Holds (touchedBy (set vs (bodiesAt n + e) clear) n e) (touches f e)
+        holds : Holds (touchedBy (set vs (bodiesAt n + e) transparent) n e) (touches f e)
         holds a l t =
-            ap (λ x. bit x a) (body-other w sz vs-summing return-room le clear (touchedAt n + e) (λ q. omega arith))
+            ap (λ x. bit x a) (body-other w sz vs-summing return-room le transparent (touchedAt n + e) (λ q. omega arith))
             ∙ referred-own s room le Reach.here j a l (return-touches a (touches-sound f e a t))

@@ -1,6 +1,6 @@
--- Laws of `Notes`, what noting changes in the rows of the calls that are clear: nothing, one row, and one change after another.
+-- Laws of `Notes`, what noting changes in the rows of the calls that are transparent: nothing, one row, and one change after another.
 -- By the layout of the work area: rows are apart, and no row lies where the calls' states do. Assumes nothing.
-use Prim.Native.Nat.{ℕ, _+_, _/_, _≤_, _<_}
+use Prim.Native.Nat.{ℕ, _+_, _≤_, _<_}
 use mathlib.Core.Bool.{cond}
 use mathlib.Core.List.{List}
 use mathlib.Core.Logic.{_≢_}
@@ -8,26 +8,26 @@ use mathlib.Core.Path.{_≡_, refl, sym, _∙_, subst}
 use native.Mathlib.Decide.{decLt}
 use native.Mathlib.Omega.{arith}
 use lib.ListN.{getD}
-use Rattle.words.specs.Row.{has}
+use Rattle.words.specs.contracts.Row.{has}
 use Rattle.flow.specs.Flow.{Flow}
 use Rattle.theory.specs.Lists as lists
 use Rattle.theory.specs.Body.{entered}
-use Rattle.statements.specs.Layout.{callsAt, rowAt, rowWords, enteredAt, waitingAt}
-use Rattle.statements.specs.Ready.{Keeps}
+use Rattle.statements.specs.contracts.Layout.{callsAt, rowAt, rowWords, enteredRowAt, solverAt}
+use Rattle.statements.specs.contracts.Ready.{Keeps}
 use Rattle.statements.proofs.WorkArea.{member-word, row-from, row-fits, rows-apart}
 use Rattle.statements.proofs.Keeps.{keeps-refl, keeps-trans, keeps-widen, keeps-has}
-use Rattle.calls.specs.Held.{EmptyEntered, clear}
-use Rattle.calls.specs.Joins.{Adds, Notes}
+use Rattle.calls.specs.contracts.Held.{EmptyEntered, transparent}
+use Rattle.calls.specs.contracts.Joins.{Adds, Notes}
 use Rattle.calls.proofs.Joined.{row-stays, adds-all}
 
 pub notes-none : {f : Flow} {ws : List ℕ} {n : ℕ} (lo : ℕ) → Notes f ws ws n lo lo
 notes-none lo = record { kept = keeps-refl; noted = λ c j a b l q. absurd (omega arith); others = λ e j l m h. refl }
 
--- a statement that is no clear call has no such row
-pub notes-skip : {f : Flow} {ws : List ℕ} {n i : ℕ} → (getD ws (callsAt n + i) 0 ≡ clear → ⊥) → Notes f ws ws n i (i + 1)
+-- a statement that is no transparent call has no such row
+pub notes-skip : {f : Flow} {ws : List ℕ} {n i : ℕ} → (getD ws (callsAt n + i) 0 ≡ transparent → ⊥) → Notes f ws ws n i (i + 1)
 notes-skip {ws = ws} {n = n} {i = i} other = record {
   kept = keeps-refl;
-  noted = λ c j a b l q. absurd (other (subst (λ (x : ℕ). getD ws (callsAt n + x) 0 ≡ clear) (omega arith) q));
+  noted = λ c j a b l q. absurd (other (subst (λ (x : ℕ). getD ws (callsAt n + x) 0 ≡ transparent) (omega arith) q));
   others = λ e j l m h. refl;
 }
 
@@ -41,22 +41,22 @@ notes-then {f} {ws} {vs} {us} {n} {lo} {m} {hi} low high top x y = record {
     state : (c : ℕ) → c < n → getD vs (callsAt n + c) 0 ≡ getD ws (callsAt n + c) 0
     state c l = x .kept .below (callsAt n + c) (omega arith)
 
-    go : (c j : ℕ) → lo ≤ c → c < hi → j < n → getD ws (callsAt n + c) 0 ≡ clear → Dec (c < m) → has us (rowAt n c) j ≡ cond (lists.has j (entered f c)) 1 0
+    go : (c j : ℕ) → lo ≤ c → c < hi → j < n → getD ws (callsAt n + c) 0 ≡ transparent → Dec (c < m) → has us (rowAt n c) j ≡ cond (lists.elem j (entered f c)) 1 0
     go c j a b l q (yes d) = y .others c j (omega arith) l (λ p r s. absurd (omega arith)) ∙ x .noted c j a d l q
     go c j a b l q (no d) = y .noted c j (omega (arith, d)) b l (state c (omega arith) ∙ q)
 
--- the row of entered statements is cleared, gains those of the clear call i, and becomes its row
-pub notes-row : {f : Flow} {ws us vs ts : List ℕ} {n i : ℕ} → i < n → getD ws (callsAt n + i) 0 ≡ clear
-    → EmptyEntered us n → Keeps (enteredAt n) (waitingAt n) ws us → Adds us vs n (entered f i)
-    → ((j : ℕ) → j < n → has ts (rowAt n i) j ≡ has vs (enteredAt n) j) → Keeps (rowAt n i) (rowAt n i + rowWords n) vs ts → Notes f ws ts n i (i + 1)
-notes-row {f} {ws} {us} {vs} {ts} {n} {i} l is empty cleared adds copied k = record {
+-- the row of entered statements is zeroed, gains those of the transparent call i, and becomes its row
+pub notes-row : {f : Flow} {ws us vs ts : List ℕ} {n i : ℕ} → i < n → getD ws (callsAt n + i) 0 ≡ transparent
+    → EmptyEntered us n → Keeps (enteredRowAt n) (solverAt n) ws us → Adds us vs n (entered f i)
+    → ((j : ℕ) → j < n → has ts (rowAt n i) j ≡ has vs (enteredRowAt n) j) → Keeps (rowAt n i) (rowAt n i + rowWords n) vs ts → Notes f ws ts n i (i + 1)
+notes-row {f} {ws} {us} {vs} {ts} {n} {i} l is empty zeroed adds copied k = record {
   kept = keeps-trans (keeps-widen (omega (arith, row-from n n)) (omega arith) before) (keeps-widen (row-from n i) (omega (arith, row-fits n l)) k);
-  noted = λ c j a b lj q. subst (λ (x : ℕ). has ts (rowAt n x) j ≡ cond (lists.has j (entered f x)) 1 0) (omega arith) (copied j lj ∙ adds-all empty adds j lj);
-  others = λ e j le lj h. apart e j lj (λ same. h (omega arith) (omega arith) (subst (λ (x : ℕ). getD ws (callsAt n + x) 0 ≡ clear) (sym same) is)) ∙ row-stays before le lj;
+  noted = λ c j a b lj q. subst (λ (x : ℕ). has ts (rowAt n x) j ≡ cond (lists.elem j (entered f x)) 1 0) (omega arith) (copied j lj ∙ adds-all empty adds j lj);
+  others = λ e j le lj h. apart e j lj (λ same. h (omega arith) (omega arith) (subst (λ (x : ℕ). getD ws (callsAt n + x) 0 ≡ transparent) (sym same) is)) ∙ row-stays before le lj;
 }
   where
-    before : Keeps (enteredAt n) (waitingAt n) ws vs
-    before = keeps-trans cleared (adds .kept)
+    before : Keeps (enteredRowAt n) (solverAt n) ws vs
+    before = keeps-trans zeroed (adds .kept)
 
     apart : (e j : ℕ) → j < n → e ≢ i → has ts (rowAt n e) j ≡ has vs (rowAt n e) j
     apart e j lj other = go (decLt e i)

@@ -9,20 +9,22 @@ use lib.ListN.{length, getD}
 use Rattle.flow.specs.Limits.{maxFile}
 use Rattle.flow.specs.declared.StmtId.{StmtId}
 use Rattle.flow.specs.declared.Continuation as C
-use Rattle.flow.specs.declared.Entered as E
-use Rattle.flow.specs.Fields.{FitRecord, callLineCount, callLineAt, continuationTo, enteredAt}
+use Rattle.flow.specs.declared.LineEntry as E
+use Rattle.flow.specs.contracts.Answers.{FitRecord}
+use Rattle.records.specs.contracts.Fields.{callLineCount, callLineAt, continuationTo, lineEntryOf}
 use Rattle.flow.specs.Format.{flowOf, statementsOf, recordPlace, successorCount, successorAt}
 use Rattle.records.proofs.Files.{limited, record-fit}
-use Rattle.flow.proofs.Records.{call-line-fits, references-fit}
+use Rattle.records.proofs.KindData.{call-line-fits}
+use Rattle.flow.proofs.Records.{references-fit}
 use Rattle.records.proofs.Statements.{says}
 use Rattle.records.proofs.Tabulated.{length-tabulate}
 use Rattle.theory.specs.Lists.{In}
 use Rattle.theory.specs.Body.{kind, callLines, successors, walkNext}
 use Rattle.theory.proofs.Body.{walkNext-below}
 use Rattle.theory.proofs.Lists.{getD-In}
-use Rattle.statements.specs.Layout as layout
-use Rattle.statements.specs.Layout.{rowAt, rowWords, queueAt, waitingAt}
-use Rattle.statements.specs.Ready.{Ready}
+use Rattle.statements.specs.contracts.Layout as layout
+use Rattle.statements.specs.contracts.Layout.{rowAt, rowWords, queueAt, solverAt}
+use Rattle.statements.specs.contracts.Ready.{Ready}
 use Rattle.statements.proofs.Keeps.{ready-formed, ready-below, ready-room}
 use Rattle.statements.proofs.WorkArea.{member-word, row-words-le, row-fits}
 
@@ -62,14 +64,14 @@ module _ {s ws : List ℕ} {n : ℕ} (r : Ready s ws n) where
     pub matrix-room : queueAt n ≤ length ws
     matrix-room = omega (arith, ready-room r (omega arith))
 
-    pub entered-room : waitingAt n ≤ length ws
+    pub entered-room : solverAt n ≤ length ws
     entered-room = omega (arith, ready-room r (omega arith))
 
     -- the row of entered statements
-    pub members-room : layout.enteredAt n + (n + 63) / 64 ≤ length ws
+    pub members-room : layout.enteredRowAt n + (n + 63) / 64 ≤ length ws
     members-room = omega (arith, ready-room r (omega arith))
 
-    pub entered-word : layout.enteredAt n + i / 64 < length ws
+    pub entered-word : layout.enteredRowAt n + i / 64 < length ws
     entered-word = omega (arith, member-word l, row-words-le n, ready-room r (omega arith))
 
 -- What a continuation and an entered statement are told as
@@ -82,11 +84,11 @@ pub continues-nowhere : (o : Option ℕ) → continuationTo o ≡ C.the-variants
 continues-nowhere none e = refl
 continues-nowhere (some t) e = let z : _≡_ {A = ℕ} 0 1 = cc in absurd (omega arith)
 
-pub enters-at : (o : Option ℕ) (k : StmtId) → enteredAt o ≡ E.the-variants.At k → o ≡ some (k .0)
+pub enters-at : (o : Option ℕ) (k : StmtId) → lineEntryOf o ≡ E.the-variants.At k → o ≡ some (k .0)
 enters-at none k e = let z : _≡_ {A = ℕ} 0 1 = cc in absurd (omega arith)
 enters-at (some t) k e = let q : record { 0 = t } ≡ k = cc in ap (λ (x : StmtId). some (x .0)) q
 
-pub enters-nothing : (o : Option ℕ) → enteredAt o ≡ E.the-variants.Nothing → o ≡ none
+pub enters-nothing : (o : Option ℕ) → lineEntryOf o ≡ E.the-variants.Nothing → o ≡ none
 enters-nothing none e = refl
 enters-nothing (some t) e = let z : _≡_ {A = ℕ} 0 1 = cc in absurd (omega arith)
 

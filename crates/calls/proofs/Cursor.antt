@@ -12,7 +12,7 @@ use Rattle.flow.specs.declared.NodeId.{NodeId}
 use Rattle.flow.specs.Flow.{Flow}
 use Rattle.theory.specs.Lists.{concatMap, optionList}
 use Rattle.theory.specs.Doubled.{Edge, number}
-use Rattle.calls.specs.Slots.{present, edgeFrom}
+use Rattle.calls.specs.contracts.Slots.{present, edgeFrom}
 use Rattle.calls.specs.declared.Edge as E
 
 -- the edge at or after a cursor: where it goes, whether it carries the touched step, and the cursor behind it

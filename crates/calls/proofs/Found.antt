@@ -13,17 +13,20 @@ use borrow.Author.Tests.{lt-ltb, le-ltb, eq-eqb, ne-eqb, eqb-true}
 use lib.Dec.{eqb}
 use lib.ListN.{length, getD, drop, length-append, length-map, List·getD-append, List·getD-map, drop-of-length-le}
 use lib.Seq.{drop-cons, drop-nil, drop-append-add, drop-at, getD-at}
-use Rattle.words.specs.Row as row
-use Rattle.words.specs.Row.{seek, nextMember, pick}
+use Rattle.words.specs.contracts.Row as row
+use Rattle.words.specs.contracts.Row.{seek, nextMember}
+use Rattle.flow.specs.declared.NodeId.{NodeId}
+use Rattle.flow.specs.declared.Base.{Base}
+use Rattle.flow.specs.declared.Base.the-variants.{Zero, N}
 use Rattle.flow.specs.Flow.{Flow, size, enters}
-use Rattle.theory.specs.Lists.{any, has, upTo}
+use Rattle.theory.specs.Lists.{any, elem, upTo}
 use Rattle.theory.specs.Body.{kind, successors, callLines, continuationOf, entered, isReturn, opaqueCall}
-use Rattle.theory.specs.Doubled.{Base, Node, Edge, at, plain, offset, number, node, sameNode, returnsTo}
+use Rattle.theory.specs.Doubled.{Node, Edge, at, plain, number, numberIn, sameNode, returnsTo}
 use Rattle.theory.proofs.Lists.{same-test, or-second, says-one, length-upTo}
 use Rattle.theory.proofs.Edges.{node-same}
-use Rattle.statements.specs.Layout.{callsAt, enteredAt}
-use Rattle.calls.specs.Held.{EnteredIs, Linked, clear, opaque}
-use Rattle.calls.specs.Slots.{edgeTo, ifEntered, otherSlots, callSlots, returnSlots, listedSlots, slotsOf, slots, edgeFrom, copyOf, memberEdge}
+use Rattle.statements.specs.contracts.Layout.{callsAt, enteredRowAt}
+use Rattle.calls.specs.contracts.Held.{EnteredIs, Linked, transparent, opaque}
+use Rattle.calls.specs.contracts.Slots.{edgeTo, ifEntered, otherSlots, callSlots, returnSlots, listedSlots, slotsOf, slots, edgeFrom, memberEdge}
 use Rattle.calls.specs.declared.Edge as E
 use Rattle.calls.proofs.BodySummary.{return-ordinary}
 
@@ -56,21 +59,21 @@ module _ (f : Flow) (b : Base) (i c p : ℕ) where
 -- a call with the continuation k
 
 not-back : (b : Base) (j k : ℕ) → eqb j k ≡ false → sameNode (at b j) (at b k) ≡ false
-not-back Base.zero j k e = e
-not-back Base.n j k e = e
+not-back Zero j k e = e
+not-back N j k e = e
 
 module _ (f : Flow) (b : Base) (i k c p : ℕ) where
   other : ℕ → Option Edge
-  other j = cond (not (has j (entered f i) || eqb j k)) (some (edgeTo (at b k) (at b j))) none
+  other j = cond (not (elem j (entered f i) || eqb j k)) (some (edgeTo (at b k) (at b j))) none
 
-  pub other-here : c < length (successors f i) → (has (getD (successors f i) c 0) (entered f i) || eqb (getD (successors f i) c 0) k) ≡ false
+  pub other-here : c < length (successors f i) → (elem (getD (successors f i) c 0) (entered f i) || eqb (getD (successors f i) c 0) k) ≡ false
       → edgeFrom f (drop c (otherSlots f b i k)) p ≡ to f (at b (getD (successors f i) c 0)) false (p + 1)
   unfolding otherSlots edgeFrom other
   other-here h e =
       let j = getD (successors f i) c 0 in
-      mapped f other (successors f i) 0 c p h ∙ simp (e, not-back b j k (or-second (has j (entered f i)) (eqb j k) e))
+      mapped f other (successors f i) 0 c p h ∙ simp (e, not-back b j k (or-second (elem j (entered f i)) (eqb j k) e))
 
-  pub other-skip : c < length (successors f i) → (has (getD (successors f i) c 0) (entered f i) || eqb (getD (successors f i) c 0) k) ≡ true
+  pub other-skip : c < length (successors f i) → (elem (getD (successors f i) c 0) (entered f i) || eqb (getD (successors f i) c 0) k) ≡ true
       → edgeFrom f (drop c (otherSlots f b i k)) p ≡ edgeFrom f (drop (c + 1) (otherSlots f b i k)) (p + 1)
   unfolding otherSlots edgeFrom other
   other-skip h e = mapped f other (successors f i) 0 c p h ∙ simp e
@@ -105,7 +108,7 @@ module _ (f : Flow) (b : Base) (i k c p : ℕ) where
       ∙ ap (λ (j : ℕ). edgeFrom f (ifEntered (at b k) o ∷ drop j (lines ++ rest)) p) (sym (add-one c))
 
   pub line-here : c < length (callLines (kind f i)) → (e : ℕ) → enters f (getD (callLines (kind f i)) c 0) ≡ some e
-      → edgeFrom f (drop c (callSlots f b i k)) p ≡ to f (at Base.n e) (sameNode (at Base.n e) (at b k)) (p + 1)
+      → edgeFrom f (drop c (callSlots f b i k)) p ≡ to f (at N e) (sameNode (at N e) (at b k)) (p + 1)
   unfolding edgeFrom
   line-here h e q = in-lines h (some e) q
 
@@ -141,7 +144,7 @@ getD-upTo (suc n) c l = go (decLt c n) (getD-upTo n c)
 
 module _ (f : Flow) (r : ℕ) (ws : List ℕ) (base : ℕ) (h : (k : ℕ) → k < size f → row.has ws base k ≡ cond (any (returnsTo f r k) (upTo (size f))) 1 0) where
   slot : ℕ → Option Edge
-  slot k = cond (any (returnsTo f r k) (upTo (size f))) (some (plain (at Base.zero k))) none
+  slot k = cond (any (returnsTo f r k) (upTo (size f))) (some (plain (at Zero k))) none
 
   none-left : (c : ℕ) → size f ≤ c → edgeFrom f (drop c (map slot (upTo (size f)))) c ≡ memberEdge (size f) c
   none-left c l =
@@ -165,13 +168,13 @@ module _ (f : Flow) (r : ℕ) (ws : List ℕ) (base : ℕ) (h : (k : ℕ) → k 
           ∙ ap (λ (k : ℕ). edgeFrom f (slot k ∷ left) c) (getD-upTo (size f) c l)
 
       go : (t : Bool) → row.has ws base c ≡ cond t 1 0 → edgeFrom f left (c + 1) ≡ memberEdge (size f) (seek ws base (c + 1) d)
-          → edgeFrom f (cond t (some (plain (at Base.zero c))) none ∷ left) c ≡ memberEdge (size f) (pick (eqb (row.has ws base c) 1) c (seek ws base (c + 1) d))
+          → edgeFrom f (cond t (some (plain (at Zero c))) none ∷ left) c ≡ memberEdge (size f) (cond (eqb (row.has ws base c) 1) c (seek ws base (c + 1) d))
       go true q ih = rw (q, lt-ltb c (size f) l) (ap (λ (k : ℕ). E.the-variants.To (record { 0 = k }) false (c + 1)) (zero-add c))
       go false q ih = rw q ih
 
 -- a RETURN goes to the next member of its row
 pub return-edge : (f : Flow) (r c : ℕ) (ws : List ℕ) (base : ℕ) → ((k : ℕ) → k < size f → row.has ws base k ≡ cond (any (returnsTo f r k) (upTo (size f))) 1 0)
-    → edgeFrom f (drop c (returnSlots f Base.zero r)) c ≡ memberEdge (size f) (nextMember ws base c (size f))
+    → edgeFrom f (drop c (returnSlots f Zero r)) c ≡ memberEdge (size f) (nextMember ws base c (size f))
 unfolding returnSlots nextMember slot seek
 return-edge f r c ws base h = go (decLt c (size f))
   where
@@ -198,62 +201,44 @@ module _ (f : Flow) (b : Base) (i : ℕ) where
       go none e = rw (e, h) refl
       go (some k) e = rw (e, op k e) refl
 
--- The copies' bases as numbers
-
-pub base-most : (f : Flow) (base : ℕ) → offset f (copyOf base) ≡ base → base ≤ size f
-base-most f base e = go (eqb base 0) refl e
-  where
-    go : (t : Bool) → eqb base 0 ≡ t → offset f (cond t Base.zero Base.n) ≡ base → base ≤ size f
-    go true q e = omega (arith, eqb-true base 0 q)
-    go false q e = omega arith
+-- The doubled numbers of copies, of n statements
 
 -- an edge to statement j of the copy
-pub to-copy : (f : Flow) (b : Base) {base : ℕ} (j : ℕ) (c : Bool) (next : ℕ) → offset f b ≡ base → E.the-variants.To (record { 0 = base + j }) c next ≡ to f (at b j) c next
-to-copy f b j c next e = ap (λ (x : ℕ). E.the-variants.To (record { 0 = x + j }) c next) (sym e)
+pub to-copy : (f : Flow) {n : ℕ} (b : Base) (j : ℕ) (c : Bool) (next : ℕ) {t : NodeId} → size f ≡ n → t .0 ≡ numberIn n (at b j) → E.the-variants.To t c next ≡ to f (at b j) c next
+to-copy f b j c next z e = ap (λ (x : ℕ). E.the-variants.To (record { 0 = x }) c next) (e ∙ sym (ap (λ (m : ℕ). numberIn m (at b j)) z))
 
 -- an entered statement is the continuation when their numbers are one
-pub same-number : (f : Flow) (b : Base) {base : ℕ} (e k : ℕ) → offset f b ≡ base → k < size f → eqb (size f + e) (base + k) ≡ sameNode (at Base.n e) (at b k)
-same-number f Base.zero {base} e k o l = ne-eqb (size f + e) (base + k) (λ q. omega arith)
-same-number f Base.n {base} e k o l =
-    same-test (eqb (size f + e) (base + k)) (eqb e k)
-    (λ q. let same = eqb-true (size f + e) (base + k) q in eq-eqb e k (omega arith))
-    (λ q. let same = eqb-true e k q in eq-eqb (size f + e) (base + k) (omega arith))
+pub same-number : {n : ℕ} (b : Base) (e k : ℕ) → k < n → eqb (numberIn n (at N e)) (numberIn n (at b k)) ≡ sameNode (at N e) (at b k)
+same-number {n} Zero e k l = ne-eqb (n + e) (0 + k) (λ q. omega arith)
+same-number {n} N e k l =
+    same-test (eqb (n + e) (n + k)) (eqb e k)
+    (λ q. let same = eqb-true (n + e) (n + k) q in eq-eqb e k (omega arith))
+    (λ q. let same = eqb-true e k q in eq-eqb (n + e) (n + k) (omega arith))
 
 -- what is left out, by the row of entered statements
 pub left-out-is : (f : Flow) (ws : List ℕ) {n : ℕ} (i k s : ℕ) → EnteredIs f ws n i → s < n
-    → (eqb s k || eqb (row.has ws (enteredAt n) s) 1) ≡ (has s (entered f i) || eqb s k)
-left-out-is f ws i k s r l = ap (λ (x : ℕ). eqb s k || eqb x 1) (r s l) ∙ ap (λ (b : Bool). eqb s k || b) (says-one (has s (entered f i))) ∙ or-comm (eqb s k) (has s (entered f i))
+    → (eqb s k || eqb (row.has ws (enteredRowAt n) s) 1) ≡ (elem s (entered f i) || eqb s k)
+left-out-is f ws i k s r l = ap (λ (x : ℕ). eqb s k || eqb x 1) (r s l) ∙ ap (λ (b : Bool). eqb s k || b) (says-one (elem s (entered f i))) ∙ or-comm (eqb s k) (elem s (entered f i))
 
 -- the state of a call as its summary says it
 
-pub call-opaque : {f : Flow} {ws : List ℕ} {n i k : ℕ} → Linked f ws n → i < n → (getD ws (callsAt n + i) 0 ≡ clear → ⊥) → continuationOf (kind f i) ≡ some k
+pub call-opaque : {f : Flow} {ws : List ℕ} {n i k : ℕ} → Linked f ws n → i < n → (getD ws (callsAt n + i) 0 ≡ transparent → ⊥) → continuationOf (kind f i) ≡ some k
     → opaqueCall f i ≡ true
 call-opaque {f} {ws} {n} {i} {k} h l other e = go (opaqueCall f i) (h .calls .call i k l e)
   where
-    go : (b : Bool) → getD ws (callsAt n + i) 0 ≡ cond b opaque clear → b ≡ true
+    go : (b : Bool) → getD ws (callsAt n + i) 0 ≡ cond b opaque transparent → b ≡ true
     go true q = refl
     go false q = absurd (other q)
 
-pub call-clear : {f : Flow} {ws : List ℕ} {n i k : ℕ} → Linked f ws n → i < n → getD ws (callsAt n + i) 0 ≡ clear → continuationOf (kind f i) ≡ some k
+pub call-transparent : {f : Flow} {ws : List ℕ} {n i k : ℕ} → Linked f ws n → i < n → getD ws (callsAt n + i) 0 ≡ transparent → continuationOf (kind f i) ≡ some k
     → opaqueCall f i ≡ false
-call-clear {f} {ws} {n} {i} {k} h l is e = go (opaqueCall f i) (sym (h .calls .call i k l e) ∙ is)
+call-transparent {f} {ws} {n} {i} {k} h l is e = go (opaqueCall f i) (sym (h .calls .call i k l e) ∙ is)
   where
-    go : (b : Bool) → cond b opaque clear ≡ clear → b ≡ false
+    go : (b : Bool) → cond b opaque transparent ≡ transparent → b ≡ false
     go true q = absurd (omega arith)
     go false q = refl
 
--- the node of a number in each copy
-
-pub node-low : (f : Flow) (d : ℕ) → d < size f → node f d ≡ at Base.zero d
-node-low f d l = ap (λ (t : Bool). cond t (at Base.zero d) (at Base.n (d - size f))) (lt-ltb d (size f) l)
-
-pub node-high : (f : Flow) (d : ℕ) → size f ≤ d → node f d ≡ at Base.n (d - size f)
-node-high f d l = ap (λ (t : Bool). cond t (at Base.zero d) (at Base.n (d - size f))) (le-ltb d (size f) l)
-
-pub copy-n : (n : ℕ) → 0 < n → copyOf n ≡ Base.n
-copy-n n l = ap (λ (t : Bool). cond t Base.zero Base.n) (ne-eqb n 0 (λ e. omega arith))
-
 -- a RETURN in base n goes nowhere
-pub return-end : (f : Flow) (base i c : ℕ) → (base ≡ 0 → ⊥) → edgeFrom f (drop c (returnSlots f (copyOf base) i)) c ≡ E.the-variants.End
+pub return-end : (f : Flow) (i c : ℕ) → edgeFrom f (drop c (returnSlots f N i)) c ≡ E.the-variants.End
 unfolding returnSlots edgeFrom
-return-end f base i c other = rw (ne-eqb base 0 other, drop-nil {A = Option Edge} c) refl
+return-end f i c = rw (drop-nil {A = Option Edge} c) refl

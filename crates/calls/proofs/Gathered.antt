@@ -10,24 +10,24 @@ use native.Mathlib.Omega.{arith}
 use borrow.Author.Tests.{eqb-true, eq-eqb, lt-ltb}
 use lib.Dec.{eqb, ltb}
 use lib.ListN.{getD}
-use Rattle.words.specs.Row as row
-use Rattle.words.specs.Row.{nextMember, First}
+use Rattle.words.specs.contracts.Row as row
+use Rattle.words.specs.contracts.Row.{nextMember, First}
 use Rattle.words.proofs.Row.{has-lt}
 use Rattle.words.proofs.NextMember.{first}
-use Rattle.flow.specs.Flow.{Flow, size, enters}
-use Rattle.theory.specs.Lists.{any, has, concatMap, upTo}
+use Rattle.flow.specs.Flow.{Flow, size}
+use Rattle.theory.specs.Lists.{any, elem, concatMap, upTo}
 use Rattle.theory.specs.Reach.{Reach}
 use Rattle.theory.specs.Body.{kind, continuationOf, isReturn, entered, callees, walked, opaqueCall, callTouches}
-use Rattle.theory.specs.WellFormed.{WellFormed}
+use Rattle.theory.specs.contracts.WellFormed.{WellFormed}
 use Rattle.theory.specs.Doubled.{returnsTo, isSome}
-use Rattle.theory.proofs.Lists.{same-test, not-so, eqb-sym, says-one, any-append, In-has, has-In, has-not, has-append, concatMap-append}
+use Rattle.theory.proofs.Lists.{same-test, not-so, eqb-sym, says-one, any-append, In-elem, elem-In, elem-not, elem-append, concatMap-append}
 use Rattle.theory.proofs.Body.{entered-below, walked-sound, walked-complete}
-use Rattle.statements.specs.Layout.{callsAt, callTouchedAt, matrixAt, rowAt, queueAt, enteredAt, waitingAt}
-use Rattle.statements.specs.Ready.{Keeps, MembersWord}
+use Rattle.statements.specs.contracts.Layout.{callsAt, callTouchedAt, matrixAt, rowAt, queueAt, enteredRowAt, solverAt}
+use Rattle.statements.specs.contracts.Ready.{Keeps, MembersWord}
 use Rattle.statements.proofs.Keeps.{keeps-has}
 use Rattle.statements.proofs.Members.{first-as, members-none, members-next}
-use Rattle.calls.specs.Held.{WalkRow, EmptyEntered, CallSummaries, Summarized, Linked, clear, opaque}
-use Rattle.calls.specs.Joins.{Joins, Adds, Notes, Summary, BodyRows, walks, fromReturn, fromEntered, fromBodies}
+use Rattle.calls.specs.contracts.Held.{WalkRow, EmptyEntered, CallSummaries, Summarized, Linked, transparent, opaque}
+use Rattle.calls.specs.contracts.Joins.{Joins, Adds, Notes, Summary, BodyRows, walks, fromReturn, fromEntered, fromBodies}
 use Rattle.calls.proofs.Joined.{joins-none, joins-then, joins-same, row-stays, adds-all}
 use Rattle.calls.proofs.Summing.{walk-low, walk-kept}
 use Rattle.calls.proofs.BodySummary.{return-stays, return-ordinary}
@@ -35,28 +35,28 @@ use Rattle.calls.proofs.BodySummary.{return-stays, return-ordinary}
 -- The row of entered statements, member by member
 
 abbrev pub isEntered : List ℕ → ℕ → ℕ → Bool
-isEntered ws n s = eqb (row.has ws (enteredAt n) s) 1
+isEntered ws n s = eqb (row.has ws (enteredRowAt n) s) 1
 
 -- the RETURNs below r that the row has go to k, and r is its next member
 pub record Noting (f : Flow) (ws₀ ws : List ℕ) (n k r : ℕ) : Type 0 where
   pub joins : Joins f ws₀ ws n (queueAt n) (λ s j. (ltb s r && isEntered ws₀ n s) && eqb j k)
   pub below : r ≤ n
-  pub member : r < n → row.has ws₀ (enteredAt n) r ≡ 1
+  pub member : r < n → row.has ws₀ (enteredRowAt n) r ≡ 1
 
 module _ {f : Flow} {ws₀ : List ℕ} {n : ℕ} (k : ℕ) where
-  pub noting-start : Noting f ws₀ ws₀ n k (nextMember ws₀ (enteredAt n) 0 n)
+  pub noting-start : Noting f ws₀ ws₀ n k (nextMember ws₀ (enteredRowAt n) 0 n)
   noting-start = record {
     joins = joins-same joins-none (λ s j ls lj is. sym (ap (λ (t : Bool). t && eqb j k) (members-none found s)));
     below = found .high;
     member = found .member;
   }
     where
-      found : First ws₀ (enteredAt n) 0 n (nextMember ws₀ (enteredAt n) 0 n)
-      found = first ws₀ (enteredAt n) 0 n (omega arith)
+      found : First ws₀ (enteredRowAt n) 0 n (nextMember ws₀ (enteredRowAt n) 0 n)
+      found = first ws₀ (enteredRowAt n) 0 n (omega arith)
 
   -- the rows of RETURNs lie below the row of entered statements
   pub noting-on : {ws vs : List ℕ} {r : ℕ} → Noting f ws₀ ws n k r → r < n → Joins f ws vs n (queueAt n) (fromReturn r k)
-      → Noting f ws₀ vs n k (nextMember vs (enteredAt n) (r + 1) n)
+      → Noting f ws₀ vs n k (nextMember vs (enteredRowAt n) (r + 1) n)
   noting-on {ws} {vs} {r} inv lr js = record {
     joins = joins-same both
         (λ s j ls lj is. sym (and-or-distrib-right (ltb s r && isEntered ws₀ n s) (eqb s r) (eqb j k)) ∙ ap (λ (t : Bool). t && eqb j k) (members-next r (inv .member lr) found s));
@@ -67,8 +67,8 @@ module _ {f : Flow} {ws₀ : List ℕ} {n : ℕ} (k : ℕ) where
       both : Joins f ws₀ vs n (queueAt n) (λ s j. ((ltb s r && isEntered ws₀ n s) && eqb j k) || fromReturn r k s j)
       both = joins-then (inv .joins) js
 
-      found : First ws₀ (enteredAt n) (r + 1) n (nextMember vs (enteredAt n) (r + 1) n)
-      found = first-as (first vs (enteredAt n) (r + 1) n (omega arith)) (λ j l. keeps-has (both .kept) (enteredAt n) j (λ a b. omega arith))
+      found : First ws₀ (enteredRowAt n) (r + 1) n (nextMember vs (enteredRowAt n) (r + 1) n)
+      found = first-as (first vs (enteredRowAt n) (r + 1) n (omega arith)) (λ j l. keeps-has (both .kept) (enteredRowAt n) j (λ a b. omega arith))
 
 pub noting-done : {f : Flow} {ws₀ ws : List ℕ} {n k r : ℕ} → Noting f ws₀ ws n k r → n ≤ r → Joins f ws₀ ws n (queueAt n) (fromEntered ws₀ n k)
 noting-done {ws₀ = ws₀} {n = n} {k = k} {r = r} inv l =
@@ -78,24 +78,24 @@ noting-done {ws₀ = ws₀} {n = n} {k = k} {r = r} inv l =
 
 -- the row that holds a walk has what the walk meets
 pub row-walked : {f : Flow} {ws : List ℕ} {n e : ℕ} → WellFormed f → size f ≡ n → e < n → WalkRow f ws n e
-    → (i : ℕ) → i < n → row.has ws (rowAt n e) i ≡ cond (has i (walked f e)) 1 0
-row-walked {f} {ws} {n} {e} w z l r i li = go (has i (walked f e)) refl
+    → (i : ℕ) → i < n → row.has ws (rowAt n e) i ≡ cond (elem i (walked f e)) 1 0
+row-walked {f} {ws} {n} {e} w z l r i li = go (elem i (walked f e)) refl
   where
-    go : (b : Bool) → has i (walked f e) ≡ b → row.has ws (rowAt n e) i ≡ cond b 1 0
-    go true q = r .complete i (walked-sound f e (has-In i (walked f e) q))
+    go : (b : Bool) → elem i (walked f e) ≡ b → row.has ws (rowAt n e) i ≡ cond b 1 0
+    go true q = r .complete i (walked-sound f e (elem-In i (walked f e) q))
     go false q =
-        let out : row.has ws (rowAt n e) i ≡ 1 → ⊥ = λ h. has-not i (walked f e) q (walked-complete w (omega arith) (r .sound i li h)) in
+        let out : row.has ws (rowAt n e) i ≡ 1 → ⊥ = λ h. elem-not i (walked f e) q (walked-complete w (omega arith) (r .sound i li h)) in
         omega (arith, out, has-lt ws (rowAt n e) i)
 
 -- the walk of a RETURN is itself
 
-pub return-walk : {f : Flow} {e : ℕ} → WellFormed f → e < size f → isReturn (kind f e) ≡ true → (s : ℕ) → has s (e ∷ []) ≡ has s (walked f e)
-unfolding has
+pub return-walk : {f : Flow} {e : ℕ} → WellFormed f → e < size f → isReturn (kind f e) ≡ true → (s : ℕ) → elem s (e ∷ []) ≡ elem s (walked f e)
+unfolding elem
 return-walk {f} {e} w l is s =
     or-false (eqb s e)
-    ∙ same-test (eqb s e) (has s (walked f e))
-    (λ q. subst (λ (x : ℕ). has x (walked f e) ≡ true) (sym (eqb-true s e q)) (In-has (walked-complete w l Reach.here)))
-    (λ q. eq-eqb s e (return-stays f is (walked-sound f e (has-In s (walked f e) q))))
+    ∙ same-test (eqb s e) (elem s (walked f e))
+    (λ q. subst (λ (x : ℕ). elem x (walked f e) ≡ true) (sym (eqb-true s e q)) (In-elem (walked-complete w l Reach.here)))
+    (λ q. eq-eqb s e (return-stays f is (walked-sound f e (elem-In s (walked f e) q))))
 
 -- rows of walks stay where their members do
 
@@ -105,7 +105,7 @@ rows-kept c w z js rs b m other =
     let l = subst (λ x. b < x) z (entered-below w c b m) in
     walk-kept (walk-low w z l) (λ i li. js .others b i l li other) (rs b m other)
 
-pub rows-stay : {f : Flow} {ws vs : List ℕ} {n : ℕ} (c : ℕ) → WellFormed f → size f ≡ n → Keeps (enteredAt n) (waitingAt n) ws vs
+pub rows-stay : {f : Flow} {ws vs : List ℕ} {n : ℕ} (c : ℕ) → WellFormed f → size f ≡ n → Keeps (enteredRowAt n) (solverAt n) ws vs
     → BodyRows f ws n c → BodyRows f vs n c
 rows-stay c w z k rs b m other =
     let l = subst (λ x. b < x) z (entered-below w c b m) in
@@ -124,15 +124,15 @@ module _ (f : Flow) where
   unfolding concatMap
   walks-one b = append-nil (walked f b)
 
-  has-walks : (s : ℕ) (bs : List ℕ) → has s (walks f bs) ≡ any (λ e. has s (walked f e)) bs
-  unfolding concatMap any has
-  has-walks s [] = refl
-  has-walks s (b ∷ bs) = has-append s (walked f b) (walks f bs) ∙ ap (λ (t : Bool). has s (walked f b) || t) (has-walks s bs)
+  elem-walks : (s : ℕ) (bs : List ℕ) → elem s (walks f bs) ≡ any (λ e. elem s (walked f e)) bs
+  unfolding concatMap any elem
+  elem-walks s [] = refl
+  elem-walks s (b ∷ bs) = elem-append s (walked f b) (walks f bs) ∙ ap (λ (t : Bool). elem s (walked f b) || t) (elem-walks s bs)
 
   -- once the row has the bodies' walks and no more, its RETURNs are those of the bodies
   pub bodies-noted : {ws us vs : List ℕ} {n : ℕ} (k : ℕ) (bs : List ℕ) → EmptyEntered ws n → Adds ws us n (walks f bs)
       → Joins f us vs n (queueAt n) (fromEntered us n k) → Joins f us vs n (queueAt n) (fromBodies f bs k)
-  bodies-noted k bs empty a js = joins-same js (λ s j ls lj is. ap (λ (t : Bool). t && eqb j k) (ap (λ (x : ℕ). eqb x 1) (adds-all empty a s ls) ∙ says-one (has s (walks f bs)) ∙ has-walks s bs))
+  bodies-noted k bs empty a js = joins-same js (λ s j ls lj is. ap (λ (t : Bool). t && eqb j k) (ap (λ (x : ℕ). eqb x 1) (adds-all empty a s ls) ∙ says-one (elem s (walks f bs)) ∙ elem-walks s bs))
 
 -- Call by call
 
@@ -144,14 +144,14 @@ module _ {f : Flow} {ws : List ℕ} {n hi : ℕ} (c : ℕ) where
   pub call-none : continuationOf (kind f c) ≡ none → Joins f ws ws n hi (λ r k. returnsTo f r k c)
   call-none e = joins-same joins-none (λ r k lr lk is. sym (returns-nowhere f r k c e))
 
-  pub call-clear : Summary f ws n c → (getD ws (callsAt n + c) 0 ≡ opaque → ⊥) → Joins f ws ws n hi (λ r k. returnsTo f r k c)
+  pub call-transparent : Summary f ws n c → (getD ws (callsAt n + c) 0 ≡ opaque → ⊥) → Joins f ws ws n hi (λ r k. returnsTo f r k c)
   unfolding returnsTo
-  call-clear s h = joins-same joins-none (λ r k lr lk is. sym (go r k (continuationOf (kind f c)) refl))
+  call-transparent s h = joins-same joins-none (λ r k lr lk is. sym (go r k (continuationOf (kind f c)) refl))
     where
       go : (r k : ℕ) (o : Option ℕ) → continuationOf (kind f c) ≡ o → returnsTo f r k c ≡ false
       go r k none e = returns-nowhere f r k c e
       go r k (some m) e =
-          let not-opaque : opaqueCall f c ≡ false = not-so (opaqueCall f c) (λ t. h (s .call m e ∙ ap (λ (b : Bool). cond b opaque clear) t)) in
+          let not-opaque : opaqueCall f c ≡ false = not-so (opaqueCall f c) (λ t. h (s .call m e ∙ ap (λ (b : Bool). cond b opaque transparent) t)) in
           rw not-opaque (and-false (isSome (continuationOf (kind f c)) k))
 
   pub call-opaque : {vs : List ℕ} (k : ℕ) → Summary f ws n c → getD ws (callsAt n + c) 0 ≡ opaque → continuationOf (kind f c) ≡ some k
@@ -160,22 +160,22 @@ module _ {f : Flow} {ws : List ℕ} {n hi : ℕ} (c : ℕ) where
   call-opaque k s h e js = joins-same js (λ r j lr lj is. rw (e, is-opaque (opaqueCall f c) (sym (s .call k e) ∙ h)) (and-comm (bodies r) (eqb j k) ∙ ap (λ (t : Bool). t && bodies r) (eqb-sym j k)))
     where
       bodies : ℕ → Bool
-      bodies r = any (λ b. has r (walked f b)) (entered f c)
+      bodies r = any (λ b. elem r (walked f b)) (entered f c)
 
-      is-opaque : (b : Bool) → cond b opaque clear ≡ opaque → b ≡ true
+      is-opaque : (b : Bool) → cond b opaque transparent ≡ opaque → b ≡ true
       is-opaque true q = refl
       is-opaque false q = absurd (omega arith)
 
 -- the RETURNs go where the calls below c make them go
 pub record Calling (f : Flow) (ws₀ ws : List ℕ) (n c : ℕ) : Type 0 where
   pub below : c ≤ n
-  pub joins : Joins f ws₀ ws n (waitingAt n) (λ r k. any (returnsTo f r k) (upTo c))
+  pub joins : Joins f ws₀ ws n (solverAt n) (λ r k. any (returnsTo f r k) (upTo c))
 
 pub calling-start : (f : Flow) (ws : List ℕ) (n : ℕ) → Calling f ws ws n 0
 unfolding any upTo
 calling-start f ws n = record { below = omega arith; joins = joins-none }
 
-pub calling-on : {f : Flow} {ws₀ ws vs : List ℕ} {n c : ℕ} → Calling f ws₀ ws n c → c < n → Joins f ws vs n (waitingAt n) (λ r k. returnsTo f r k c) → Calling f ws₀ vs n (c + 1)
+pub calling-on : {f : Flow} {ws₀ ws vs : List ℕ} {n c : ℕ} → Calling f ws₀ ws n c → c < n → Joins f ws vs n (solverAt n) (λ r k. returnsTo f r k c) → Calling f ws₀ vs n (c + 1)
 unfolding any upTo
 calling-on {f} {c = c} inv l js = record {
   below = omega arith;
@@ -215,6 +215,6 @@ linked {f} {ws} {us} {vs} {n} z s js ns = record {
       ∙ js .joined r k lr lk is ∙ ap (λ (x : ℕ). max x (goes n)) (s .free r lr is k lk) ∙ only ∙ ap goes (sym z);
 }
   where
-    -- a RETURN is no clear call
-    no-call : (r : ℕ) → r < n → isReturn (kind f r) ≡ true → getD us (callsAt n + r) 0 ≡ clear → ⊥
+    -- a RETURN is no transparent call
+    no-call : (r : ℕ) → r < n → isReturn (kind f r) ≡ true → getD us (callsAt n + r) 0 ≡ transparent → ⊥
     no-call r l is e = omega (arith, e, js .kept .below (callsAt n + r) (omega arith), s .calls .ordinary r l (return-ordinary (kind f r) is))

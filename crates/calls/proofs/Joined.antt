@@ -8,21 +8,21 @@ use native.Mathlib.Omega.{arith}
 use borrow.Author.Tests.{eqb-true, eqb-false}
 use lib.Dec.{eqb}
 use lib.ListN.{length}
-use Rattle.words.specs.Row.{has}
-use Rattle.words.specs.Change.{Inserted, inserted, Unioned}
+use Rattle.words.specs.contracts.Row.{has}
+use Rattle.words.specs.contracts.Change.{Inserted, inserted, Unioned}
 use Rattle.words.proofs.Row.{has-lt}
 use Rattle.words.proofs.Inserted.{insert-same, insert-other}
 use Rattle.words.proofs.Unioned.{unioned-has}
 use Rattle.flow.specs.Flow.{Flow}
 use Rattle.theory.specs.Lists as lists
 use Rattle.theory.specs.Body.{kind, isReturn}
-use Rattle.theory.proofs.Lists.{clash, not-so, has-append}
-use Rattle.statements.specs.Layout.{rowAt, rowWords, queueAt, enteredAt, waitingAt}
-use Rattle.statements.specs.Ready.{Keeps}
+use Rattle.theory.proofs.Lists.{clash, not-so, elem-append}
+use Rattle.statements.specs.contracts.Layout.{rowAt, rowWords, queueAt, enteredRowAt, solverAt}
+use Rattle.statements.specs.contracts.Ready.{Keeps}
 use Rattle.statements.proofs.WorkArea.{member-word, row-holds, row-words-le, row-from, row-fits, insert-row}
 use Rattle.statements.proofs.Keeps.{keeps-refl, keeps-trans, keeps-widen, keeps-has, keeps-inserted, keeps-unioned}
-use Rattle.calls.specs.Held.{EmptyEntered}
-use Rattle.calls.specs.Joins.{Joins, Adds, fromReturn}
+use Rattle.calls.specs.contracts.Held.{EmptyEntered}
+use Rattle.calls.specs.contracts.Joins.{Joins, Adds, fromReturn}
 
 max-or : (a : ℕ) (p q : Bool) → max (max a (cond p 1 0)) (cond q 1 0) ≡ max a (cond (p || q) 1 0)
 max-or a true true = omega arith
@@ -39,7 +39,7 @@ inserted-bit ws base i l j = go (eqb j i) refl
     go false e = insert-other ws base i j l (eqb-false j i e) ∙ omega arith
 
 -- a change of the row of entered statements leaves the rows of the matrix
-pub row-stays : {ws vs : List ℕ} {n e i : ℕ} → Keeps (enteredAt n) (waitingAt n) ws vs → e < n → i < n → has vs (rowAt n e) i ≡ has ws (rowAt n e) i
+pub row-stays : {ws vs : List ℕ} {n e i : ℕ} → Keeps (enteredRowAt n) (solverAt n) ws vs → e < n → i < n → has vs (rowAt n e) i ≡ has ws (rowAt n e) i
 row-stays {n = n} {e = e} {i = i} a l m = keeps-has a (rowAt n e) i (λ x y. omega (arith, row-fits n l, member-word m))
 
 pub joins-none : {f : Flow} {ws : List ℕ} {n hi : ℕ} → Joins f ws ws n hi (λ r k. false)
@@ -85,8 +85,8 @@ joins-skip {f} r k other = joins-same joins-none (λ s j ls lj is. sym (ap (λ (
     apart s is = not-so (eqb s r) (λ e. clash (isReturn (kind f r)) (subst (λ (x : ℕ). isReturn (kind f x) ≡ true) (eqb-true s r e) is) other)
 
 -- a change of the row of entered statements may come before
-pub joins-after : {f : Flow} {ws vs us : List ℕ} {n : ℕ} {q : ℕ → ℕ → Bool} → Keeps (enteredAt n) (waitingAt n) ws vs → Joins f vs us n (queueAt n) q
-    → Joins f ws us n (waitingAt n) q
+pub joins-after : {f : Flow} {ws vs us : List ℕ} {n : ℕ} {q : ℕ → ℕ → Bool} → Keeps (enteredRowAt n) (solverAt n) ws vs → Joins f vs us n (queueAt n) q
+    → Joins f ws us n (solverAt n) q
 joins-after {ws = ws} {vs = vs} {n = n} {q = q} a js = record {
   kept = keeps-trans (keeps-widen (omega (arith, row-from n n)) (omega arith) a) (keeps-widen (omega arith) (omega arith) (js .kept));
   others = λ e i l m h. js .others e i l m h ∙ row-stays a l m;
@@ -96,24 +96,24 @@ joins-after {ws = ws} {vs = vs} {n = n} {q = q} a js = record {
 -- The row of entered statements
 
 pub adds-none : {ws : List ℕ} {n : ℕ} → Adds ws ws n []
-unfolding lists.has
+unfolding lists.elem
 adds-none = record { kept = keeps-refl; joined = λ j l. omega arith }
 
 pub adds-then : {ws vs us : List ℕ} {n : ℕ} {xs ys : List ℕ} → Adds ws vs n xs → Adds vs us n ys → Adds ws us n (xs ++ ys)
 adds-then {ws} {n = n} {xs = xs} {ys = ys} a b = record {
   kept = keeps-trans (a .kept) (b .kept);
   joined = λ j l.
-      b .joined j l ∙ ap (λ (x : ℕ). max x (cond (lists.has j ys) 1 0)) (a .joined j l)
-      ∙ max-or (has ws (enteredAt n) j) (lists.has j xs) (lists.has j ys)
-      ∙ ap (λ (t : Bool). max (has ws (enteredAt n) j) (cond t 1 0)) (sym (has-append j xs ys));
+      b .joined j l ∙ ap (λ (x : ℕ). max x (cond (lists.elem j ys) 1 0)) (a .joined j l)
+      ∙ max-or (has ws (enteredRowAt n) j) (lists.elem j xs) (lists.elem j ys)
+      ∙ ap (λ (t : Bool). max (has ws (enteredRowAt n) j) (cond t 1 0)) (sym (elem-append j xs ys));
 }
 
-pub adds-insert : {ws vs : List ℕ} {n b : ℕ} {t : Bool} → Inserted ws vs (enteredAt n) b t → b < n → waitingAt n ≤ length ws → Adds ws vs n (b ∷ [])
-unfolding lists.has
+pub adds-insert : {ws vs : List ℕ} {n b : ℕ} {t : Bool} → Inserted ws vs (enteredRowAt n) b t → b < n → solverAt n ≤ length ws → Adds ws vs n (b ∷ [])
+unfolding lists.elem
 adds-insert {ws} {vs} {n} {b} i l room = subst (λ (us : List ℕ). Adds ws us n (b ∷ [])) (sym (i .slice)) (record {
-  kept = keeps-inserted ws (enteredAt n) b (omega arith) (omega (arith, member-word l, row-words-le n));
-  joined = λ j lj. inserted-bit ws (enteredAt n) b (omega (arith, member-word l, row-words-le n)) j
-      ∙ ap (λ (t : Bool). max (has ws (enteredAt n) j) (cond t 1 0)) (sym (or-false (eqb j b)));
+  kept = keeps-inserted ws (enteredRowAt n) b (omega arith) (omega (arith, member-word l, row-words-le n));
+  joined = λ j lj. inserted-bit ws (enteredRowAt n) b (omega (arith, member-word l, row-words-le n)) j
+      ∙ ap (λ (t : Bool). max (has ws (enteredRowAt n) j) (cond t 1 0)) (sym (or-false (eqb j b)));
 })
 
 -- a union, its rows and their width in other words
@@ -123,24 +123,24 @@ union-at {ws} {vs} {to} {to′} {from} {from′} {width} {width′} {t} a b c u 
     subst (λ (w : ℕ). Unioned ws vs to′ from′ w t) c (subst (λ (x : ℕ). Unioned ws vs to′ x width t) b (subst (λ (x : ℕ). Unioned ws vs x from width t) a u))
 
 -- the row e of the matrix joins it
-pub adds-union : {ws vs : List ℕ} {n e : ℕ} {t : Bool} (xs : List ℕ) → Unioned ws vs (enteredAt n) (rowAt n e) (rowWords n) t → e < n → waitingAt n ≤ length ws
-    → ((j : ℕ) → j < n → has ws (rowAt n e) j ≡ cond (lists.has j xs) 1 0) → Adds ws vs n xs
+pub adds-union : {ws vs : List ℕ} {n e : ℕ} {t : Bool} (xs : List ℕ) → Unioned ws vs (enteredRowAt n) (rowAt n e) (rowWords n) t → e < n → solverAt n ≤ length ws
+    → ((j : ℕ) → j < n → has ws (rowAt n e) j ≡ cond (lists.elem j xs) 1 0) → Adds ws vs n xs
 adds-union {ws} {vs} {n} {e} xs u l room holds = subst (λ (us : List ℕ). Adds ws us n xs) (sym (u .slice)) (record {
-  kept = keeps-unioned ws (enteredAt n) (rowAt n e) (rowWords n) (omega arith) (omega (arith, row-words-le n));
+  kept = keeps-unioned ws (enteredRowAt n) (rowAt n e) (rowWords n) (omega arith) (omega (arith, row-words-le n));
   joined = λ j lj.
-      unioned-has ws (enteredAt n) (rowAt n e) (rowWords n) (omega (arith, row-words-le n)) (λ i k a b q. omega (arith, row-fits n l)) j (omega (arith, row-holds n))
-      ∙ ap (max (has ws (enteredAt n) j)) (holds j lj);
+      unioned-has ws (enteredRowAt n) (rowAt n e) (rowWords n) (omega (arith, row-words-le n)) (λ i k a b q. omega (arith, row-fits n l)) j (omega (arith, row-holds n))
+      ∙ ap (max (has ws (enteredRowAt n) j)) (holds j lj);
 })
 
-pub adds-same : {ws vs : List ℕ} {n : ℕ} {xs ys : List ℕ} → Adds ws vs n xs → ((j : ℕ) → lists.has j xs ≡ lists.has j ys) → Adds ws vs n ys
+pub adds-same : {ws vs : List ℕ} {n : ℕ} {xs ys : List ℕ} → Adds ws vs n xs → ((j : ℕ) → lists.elem j xs ≡ lists.elem j ys) → Adds ws vs n ys
 adds-same {ws} {n = n} a e = record {
   kept = a .kept;
-  joined = λ j l. a .joined j l ∙ ap (λ (t : Bool). max (has ws (enteredAt n) j) (cond t 1 0)) (e j);
+  joined = λ j l. a .joined j l ∙ ap (λ (t : Bool). max (has ws (enteredRowAt n) j) (cond t 1 0)) (e j);
 }
 
 -- where the row was empty, it holds what was joined
-pub adds-all : {ws vs : List ℕ} {n : ℕ} {xs : List ℕ} → EmptyEntered ws n → Adds ws vs n xs → (j : ℕ) → j < n → has vs (enteredAt n) j ≡ cond (lists.has j xs) 1 0
+pub adds-all : {ws vs : List ℕ} {n : ℕ} {xs : List ℕ} → EmptyEntered ws n → Adds ws vs n xs → (j : ℕ) → j < n → has vs (enteredRowAt n) j ≡ cond (lists.elem j xs) 1 0
 adds-all {xs = xs} empty a j l =
-    let t : ℕ = cond (lists.has j xs) 1 0 in
+    let t : ℕ = cond (lists.elem j xs) 1 0 in
     let only : max 0 t ≡ t = omega arith in
     a .joined j l ∙ ap (λ (x : ℕ). max x t) (empty j l) ∙ only

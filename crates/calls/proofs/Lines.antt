@@ -9,12 +9,12 @@ use lib.ListN.{length, getD, take}
 use lib.Seq.{take-suc, take-all}
 use Rattle.flow.specs.Flow.{Flow, enters}
 use Rattle.flow.specs.declared.StmtId.{StmtId}
-use Rattle.flow.specs.declared.Entered as E
-use Rattle.flow.specs.Fields.{enteredAt}
+use Rattle.flow.specs.declared.LineEntry as E
+use Rattle.records.specs.contracts.Fields.{lineEntryOf}
 use Rattle.theory.specs.Lists.{In, concatMap, optionList}
 use Rattle.theory.specs.Body.{kind, callLines, entered}
 use Rattle.theory.proofs.Lists.{getD-In, concatMap-In, concatMap-append, optionList-In}
-use Rattle.calls.specs.Joins.{Adds}
+use Rattle.calls.specs.contracts.Joins.{Adds}
 use Rattle.calls.proofs.Checked.{enters-at, enters-nothing}
 use Rattle.calls.proofs.Joined.{adds-none, adds-then}
 
@@ -41,11 +41,11 @@ entered-line f c l b h e =
 -- The row of entered statements, where g says what bodies add to it
 
 module _ (g : List ℕ → List ℕ) where
-  pub adds-entered : (o : Option ℕ) {k : StmtId} {ws vs : List ℕ} {n : ℕ} → enteredAt o ≡ E.the-variants.At k → Adds ws vs n (g (k .0 ∷ [])) → Adds ws vs n (g (optionList o))
+  pub adds-entered : (o : Option ℕ) {k : StmtId} {ws vs : List ℕ} {n : ℕ} → lineEntryOf o ≡ E.the-variants.At k → Adds ws vs n (g (k .0 ∷ [])) → Adds ws vs n (g (optionList o))
   unfolding optionList
   adds-entered o {k} {ws} {vs} {n} e a = subst (λ (x : Option ℕ). Adds ws vs n (g (optionList x))) (sym (enters-at o k e)) a
 
-  pub adds-nothing : (o : Option ℕ) {ws : List ℕ} {n : ℕ} → enteredAt o ≡ E.the-variants.Nothing → g [] ≡ [] → Adds ws ws n (g (optionList o))
+  pub adds-nothing : (o : Option ℕ) {ws : List ℕ} {n : ℕ} → lineEntryOf o ≡ E.the-variants.Nothing → g [] ≡ [] → Adds ws ws n (g (optionList o))
   unfolding optionList
   adds-nothing o {ws} {n} e none = subst (λ (x : Option ℕ). Adds ws ws n (g (optionList x))) (sym (enters-nothing o e)) (subst (λ (xs : List ℕ). Adds ws ws n xs) (sym none) adds-none)
 

@@ -1,5 +1,5 @@
 -- What holds of the edge that a cursor finds: its target is a doubled number, and it carries the touched step only where the summary says that the call is
--- clear. By the slots of each kind of statement.
+-- transparent. By the slots of each kind of statement.
 use Prim.Native.Nat.{ℕ, zero, suc, _+_, _≤_, _<_}
 use mathlib.Core.Bool.{Bool, true, false, cond}
 use mathlib.Core.List.{List, [], _∷_, map, List·Memᴰ·head, List·Memᴰ·tail, List·Memᴰ·not-nil}
@@ -7,17 +7,19 @@ use mathlib.Core.Option.{Option, none, some}
 use mathlib.Core.Path.{_≡_, refl, sym, _∙_, ap, subst}
 use native.Mathlib.Omega.{arith}
 use lib.ListN.{getD, drop}
+use Rattle.flow.specs.declared.Base.{Base}
+use Rattle.flow.specs.declared.Base.the-variants.{Zero, N}
 use Rattle.flow.specs.declared.NodeId.{NodeId}
 use Rattle.flow.specs.Flow.{Flow, size}
 use Rattle.theory.specs.Lists.{In, any, concatMap, optionList, select, upTo}
 use Rattle.theory.specs.Body.{kind, successors, continuationOf, isReturn, opaqueCall}
-use Rattle.theory.specs.WellFormed.{WellFormed}
-use Rattle.theory.specs.Doubled.{Base, Node, Edge, at, plain, offset, number, returnsTo, returnEdges, listedEdges, edgesOf, edges}
+use Rattle.theory.specs.contracts.WellFormed.{WellFormed}
+use Rattle.theory.specs.Doubled.{Node, Edge, at, plain, offset, returnsTo, returnEdges, listedEdges, edgesOf, edges}
 use Rattle.theory.proofs.Lists.{clash, In-map}
 use Rattle.theory.proofs.Edges.{edge-below}
-use Rattle.statements.specs.Layout.{callsAt}
-use Rattle.calls.specs.Held.{Linked, EnteredRow, clear, opaque}
-use Rattle.calls.specs.Slots.{slots, present}
+use Rattle.statements.specs.contracts.Layout.{callsAt}
+use Rattle.calls.specs.contracts.Held.{Linked, EnteredRow, transparent, opaque}
+use Rattle.calls.specs.contracts.Slots.{slots, present}
 use Rattle.calls.proofs.Slots.{slot-edge}
 use Rattle.calls.proofs.Cursor.{NextEdge}
 use Rattle.calls.proofs.Found.{call-opaque}
@@ -40,8 +42,8 @@ module _ {f : Flow} (v : Node) {cursor : ℕ} {t : NodeId} {c : Bool} {next : �
   next-below w = let h = x .target in omega (arith, edge-below f w v next-edge, offset-most f (x .edge .to .base))
     where
       offset-most : (f : Flow) (b : Base) → offset f b ≤ size f
-      offset-most f Base.zero = omega arith
-      offset-most f Base.n = omega arith
+      offset-most f Zero = omega arith
+      offset-most f N = omega arith
 
 -- a statement that is no call, and an opaque call, have no edge that carries the touched step
 
@@ -53,8 +55,8 @@ unfolding edgesOf returnEdges listedEdges
 none-continue f b i {x} none h m = go (isReturn (kind f i)) b m
   where
     go : (r : Bool) (b : Base) → In x (cond r (returnEdges f b i) (listedEdges f b i)) → x .continues ≡ false
-    go true Base.zero m = plain-only (at Base.zero) (select (λ k. any (returnsTo f i k) (upTo (size f))) (upTo (size f))) m
-    go true Base.n m = absurd (List·Memᴰ·not-nil m)
+    go true Zero m = plain-only (at Zero) (select (λ k. any (returnsTo f i k) (upTo (size f))) (upTo (size f))) m
+    go true N m = absurd (List·Memᴰ·not-nil m)
     go false b m = plain-only (at b) (successors f i) m
 none-continue f b i {x} (some k) h m = plain-only (at b) (successors f i) (rw (h k refl) at m)
 
@@ -62,19 +64,19 @@ pub plain-edge : (f : Flow) (v : Node) {x : Edge} → ((k : ℕ) → continuatio
 unfolding edges
 plain-edge f v op m = none-continue f (v .base) (v .stmt) (continuationOf (kind f (v .stmt))) op m
 
--- where an edge carries the touched step, the call is clear
-pub next-clear : {f : Flow} {ws : List ℕ} {n : ℕ} (v : Node) {cursor : ℕ} {t : NodeId} {next : ℕ} → Linked f ws n → v .stmt < n → NextEdge f (slots f v) cursor t true next
-    → getD ws (callsAt n + v .stmt) 0 ≡ clear
-next-clear {f} {ws} {n} v h l x = go (continuationOf (kind f (v .stmt))) refl (opaqueCall f (v .stmt)) refl
+-- where an edge carries the touched step, the call is transparent
+pub next-transparent : {f : Flow} {ws : List ℕ} {n : ℕ} (v : Node) {cursor : ℕ} {t : NodeId} {next : ℕ} → Linked f ws n → v .stmt < n → NextEdge f (slots f v) cursor t true next
+    → getD ws (callsAt n + v .stmt) 0 ≡ transparent
+next-transparent {f} {ws} {n} v h l x = go (continuationOf (kind f (v .stmt))) refl (opaqueCall f (v .stmt)) refl
   where
-    still : ((k : ℕ) → continuationOf (kind f (v .stmt)) ≡ some k → opaqueCall f (v .stmt) ≡ true) → getD ws (callsAt n + v .stmt) 0 ≡ clear
+    still : ((k : ℕ) → continuationOf (kind f (v .stmt)) ≡ some k → opaqueCall f (v .stmt) ≡ true) → getD ws (callsAt n + v .stmt) 0 ≡ transparent
     still op = clash (x .edge .continues) (sym (x .step)) (plain-edge f v op (next-edge v x))
 
-    go : (o : Option ℕ) → continuationOf (kind f (v .stmt)) ≡ o → (b : Bool) → opaqueCall f (v .stmt) ≡ b → getD ws (callsAt n + v .stmt) 0 ≡ clear
+    go : (o : Option ℕ) → continuationOf (kind f (v .stmt)) ≡ o → (b : Bool) → opaqueCall f (v .stmt) ≡ b → getD ws (callsAt n + v .stmt) 0 ≡ transparent
     go none e b q = still (λ k s. let z : _≡_ {A = ℕ} 0 1 = cc in absurd (omega arith))
     go (some k) e true q = still (λ m s. q)
-    go (some k) e false q = h .calls .call (v .stmt) k l e ∙ ap (λ (t : Bool). cond t opaque clear) q
+    go (some k) e false q = h .calls .call (v .stmt) k l e ∙ ap (λ (t : Bool). cond t opaque transparent) q
 
--- a statement that is no clear call needs no row of entered statements
-pub entered-vain : {f : Flow} {ws : List ℕ} {n i : ℕ} → Linked f ws n → i < n → (getD ws (callsAt n + i) 0 ≡ clear → ⊥) → EnteredRow f ws n i
+-- a statement that is no transparent call needs no row of entered statements
+pub entered-vain : {f : Flow} {ws : List ℕ} {n i : ℕ} → Linked f ws n → i < n → (getD ws (callsAt n + i) 0 ≡ transparent → ⊥) → EnteredRow f ws n i
 entered-vain {f} {i = i} h l other = record { row = λ k e o. clash (opaqueCall f i) (call-opaque h l other e) o }

@@ -9,15 +9,17 @@ use native.Mathlib.Omega.{arith}
 use lib.Bits.{bitOr, or-comm, or-self}
 use lib.Dec.{eqb}
 use Rattle.words.proofs.Bit.{bit-or, bits-ext}
+use Rattle.flow.specs.declared.Base.{Base}
+use Rattle.flow.specs.declared.Base.the-variants.{Zero, N}
 use Rattle.flow.specs.Flow.{Flow, enters}
-use Rattle.theory.specs.Lists.{In, has, select, concatMap, optionList}
+use Rattle.theory.specs.Lists.{In, elem, select, concatMap, optionList}
 use Rattle.theory.specs.Body.{kind, successors, callLines, continuationOf, entered, isReturn, opaqueCall}
-use Rattle.theory.specs.Doubled.{Base, Node, Edge, at, plain, number, node, sameNode, returnEdges, listedEdges, callEdges, edgesOf, edges, once, arcsOf, doubled}
+use Rattle.theory.specs.Doubled.{Node, Edge, at, plain, number, node, sameNode, returnEdges, listedEdges, callEdges, edgesOf, edges, once, arcsOf, doubled}
 use Rattle.theory.specs.Queue.{Arc, brings, join, enqueue, stepAll}
-use Rattle.theory.proofs.Lists.{In-has, In-map, select-In, concatMap-append}
+use Rattle.theory.proofs.Lists.{In-elem, In-map, select-In, concatMap-append}
 use Rattle.theory.proofs.Edges.{same-node, in-once}
 use Rattle.theory.proofs.Enqueue.{join-keeps, join-adds}
-use Rattle.calls.specs.Slots.{edgeTo, ifEntered, otherSlots, callSlots, returnSlots, listedSlots, slotsOf, slots, present, toArc}
+use Rattle.calls.specs.contracts.Slots.{edgeTo, ifEntered, otherSlots, callSlots, returnSlots, listedSlots, slotsOf, slots, present, toArc}
 
 -- Present slots
 
@@ -41,7 +43,7 @@ present-select {A} p g (x ∷ l) = go (p x) (present-select p g l)
     go false e = e
 
 present-entered : (f : Flow) (back : Node) (ls : List ℕ)
-    → present (map (λ l. ifEntered back (enters f l)) ls) ≡ map (edgeTo back) (map (at Base.n) (concatMap (λ l. optionList (enters f l)) ls))
+    → present (map (λ l. ifEntered back (enters f l)) ls) ≡ map (edgeTo back) (map (at N) (concatMap (λ l. optionList (enters f l)) ls))
 unfolding present concatMap optionList
 present-entered f back [] = refl
 present-entered f back (l ∷ ls) = go (enters f l) (present-entered f back ls)
@@ -49,14 +51,14 @@ present-entered f back (l ∷ ls) = go (enters f l) (present-entered f back ls)
     rest : List ℕ
     rest = concatMap (λ k. optionList (enters f k)) ls
 
-    go : (o : Option ℕ) → present (map (λ k. ifEntered back (enters f k)) ls) ≡ map (edgeTo back) (map (at Base.n) rest)
-        → optionList (ifEntered back o) ++ present (map (λ k. ifEntered back (enters f k)) ls) ≡ map (edgeTo back) (map (at Base.n) (optionList o ++ rest))
+    go : (o : Option ℕ) → present (map (λ k. ifEntered back (enters f k)) ls) ≡ map (edgeTo back) (map (at N) rest)
+        → optionList (ifEntered back o) ++ present (map (λ k. ifEntered back (enters f k)) ls) ≡ map (edgeTo back) (map (at N) (optionList o ++ rest))
     go none e = e
-    go (some b) e = ap (λ (es : List Edge). edgeTo back (at Base.n b) ∷ es) e
+    go (some b) e = ap (λ (es : List Edge). edgeTo back (at N b) ∷ es) e
 
 -- the targets of a call that is not opaque, repeats included
 targets : Flow → Base → ℕ → ℕ → List Node
-targets f b i k = map (at Base.n) (entered f i) ++ (at b k ∷ map (at b) (select (λ j. not (has j (entered f i) || eqb j k)) (successors f i)))
+targets f b i k = map (at N) (entered f i) ++ (at b k ∷ map (at b) (select (λ j. not (elem j (entered f i) || eqb j k)) (successors f i)))
 
 map-map : {A B C : Type 0} (g : B → C) (h : A → B) (l : List A) → map (λ x. g (h x)) l ≡ map g (map h l)
 map-map g h [] = refl
@@ -68,11 +70,11 @@ call-present f b i k =
     let back = at b k in
     let first = map (λ l. ifEntered back (enters f l)) (callLines (kind f i)) in
     let others = otherSlots f b i k in
-    let left : ℕ → Bool = λ j. not (has j (entered f i) || eqb j k) in
+    let left : ℕ → Bool = λ j. not (elem j (entered f i) || eqb j k) in
     present-append first (some (edgeTo back back) ∷ others)
     ∙ ap₂ (λ (xs ys : List Edge). xs ++ (edgeTo back back ∷ ys)) (present-entered f back (callLines (kind f i)))
     (present-select left (λ j. edgeTo back (at b j)) (successors f i) ∙ map-map (edgeTo back) (at b) (select left (successors f i)))
-    ∙ sym (map-append (edgeTo back) (map (at Base.n) (entered f i)) (back ∷ map (at b) (select left (successors f i))))
+    ∙ sym (map-append (edgeTo back) (map (at N) (entered f i)) (back ∷ map (at b) (select left (successors f i))))
 
 -- edges with the same target are the same
 Alike : List Edge → Type 0
@@ -100,8 +102,8 @@ listed f b i = sym (present-all (λ j. plain (at b j)) (successors f i))
 
 returned : (f : Flow) (b : Base) (r : ℕ) → returnEdges f b r ≡ present (returnSlots f b r)
 unfolding returnEdges returnSlots present concatMap
-returned f Base.zero r = sym (present-select _ _ _)
-returned f Base.n r = refl
+returned f Zero r = sym (present-select _ _ _)
+returned f N r = refl
 
 called : (f : Flow) (b : Base) (i k : ℕ) → callEdges f b i k ≡ once (present (callSlots f b i k))
 unfolding callEdges targets
@@ -147,7 +149,7 @@ slot-edge f v {x} m = go (same-edges f v)
 -- The queue: a number that waits does not join again
 
 join-waiting : {w : List ℕ} {t : ℕ} → In t w → join w t ≡ w
-join-waiting {w} {t} m = rw (In-has m) refl
+join-waiting {w} {t} m = rw (In-elem m) refl
 
 module _ (f : Flow) (i : ℕ) where
   -- without the edges to v, which waits, the same numbers join

@@ -11,19 +11,19 @@ use native.Mathlib.Omega.{arith}
 use borrow.Author.Tests.{eqb-true, eq-eqb, ne-eqb}
 use lib.Dec.{eqb}
 use lib.ListN.{getD}
-use Rattle.words.specs.Row.{bit, has, Words}
+use Rattle.words.specs.contracts.Row.{bit, Words}
 use Rattle.words.proofs.Bit.{bit-lt, bit-of-zero}
 use Rattle.flow.specs.Flow.{Flow, size}
 use Rattle.theory.specs.Lists.{In, sumBelow}
 use Rattle.theory.specs.Body.{kind, continuationOf, entered, ifSome, isReturn, callees, touches, opaqueCall, callTouches}
-use Rattle.theory.specs.WellFormed.{WellFormed}
+use Rattle.theory.specs.contracts.WellFormed.{WellFormed}
 use Rattle.theory.proofs.Lists.{clash, sumBelow-le, sumBelow-lt}
-use Rattle.statements.specs.Layout.{callsAt, callTouchedAt, bodiesAt, touchedAt, matrixAt, rowAt}
-use Rattle.statements.specs.Ready.{MembersWord}
+use Rattle.statements.specs.contracts.Layout.{callsAt, callTouchedAt, bodiesAt, touchedAt, matrixAt, rowAt}
+use Rattle.statements.specs.contracts.Ready.{MembersWord}
 use Rattle.statements.proofs.WorkArea.{member-word, row-from, row-fits}
 use Rattle.statements.proofs.Members.{zero-has}
-use Rattle.calls.specs.Held.{unentered, opened, clear, opaque, EmptyRow, WalkRow, Fresh, Summarized}
-use Rattle.calls.specs.Summing.{body, call, callTouchedBy, Within, Holds, BodyState, CallState, Summing, OnwardBut, Onward, CallSummed}
+use Rattle.calls.specs.contracts.Held.{unentered, opened, transparent, opaque, EmptyRow, WalkRow, NoSummaries, Summarized}
+use Rattle.calls.specs.contracts.Summing.{body, call, callTouchedBy, Within, Holds, BodyState, CallState, Summing, OnwardBut, Onward, CallSummed}
 use Rattle.calls.proofs.Summing.{onward-refl, onward-trans, callee-low}
 
 -- Unentered bodies
@@ -62,7 +62,7 @@ unentered-falls {ws} {vs} {n} {e} p l was now =
 
 -- At first
 
-module _ {ws : List ℕ} {n : ℕ} (z : Fresh ws n) where
+module _ {ws : List ℕ} {n : ℕ} (z : NoSummaries ws n) where
   state-zero : (x : ℕ) → callsAt n ≤ x → x < matrixAt n → getD ws x 0 ≡ 0
   state-zero x l h = z .words x l (omega (arith, row-from n n))
 
@@ -105,7 +105,7 @@ below-next {f} {ws₀} {ws} {vs} {n} {c} p l s = record {
   where
     done : (d k : ℕ) → d < c + 1 → continuationOf (kind f d) ≡ some k → Dec (d ≡ c) → call vs n d ≢ unentered
     done d k h q (yes e) = subst (λ x. call vs n x ≢ unentered) (sym e) (s .done k (subst (λ x. continuationOf (kind f x) ≡ some k) e q))
-    done d k h q (no e) = λ z. let low : d < c = omega (arith, e) in p .done d k low q (s .onward .still-settled d (let b = p .high in omega arith) z)
+    done d k h q (no e) = λ z. let low : d < c = omega (arith, e) in p .done d k low q (s .onward .still-summed d (let b = p .high in omega arith) z)
 
 -- In the end
 
@@ -114,29 +114,29 @@ none-some h q = let z : _≡_ {A = ℕ} 0 1 = cc in omega arith
 
 ordinary : {f : Flow} {ws : List ℕ} {n c : ℕ} → continuationOf (kind f c) ≡ none → CallState f ws n c → call ws n c ≡ unentered
 ordinary h (CallState.is-none e) = e
-ordinary h (CallState.is-clear e d o t) = absurd (none-some h (d .continues))
+ordinary h (CallState.is-transparent e d o t) = absurd (none-some h (d .continues))
 ordinary h (CallState.is-opaque e d o) = absurd (none-some h (d .continues))
 
-settled-is : {f : Flow} {ws : List ℕ} {n c : ℕ} → call ws n c ≢ unentered → CallState f ws n c → call ws n c ≡ cond (opaqueCall f c) opaque clear
-settled-is d (CallState.is-none e) = absurd (d e)
-settled-is d (CallState.is-clear e r o t) = e ∙ ap (λ b. cond b opaque clear) (sym o)
-settled-is d (CallState.is-opaque e r o) = e ∙ ap (λ b. cond b opaque clear) (sym o)
+summary-state-is : {f : Flow} {ws : List ℕ} {n c : ℕ} → call ws n c ≢ unentered → CallState f ws n c → call ws n c ≡ cond (opaqueCall f c) opaque transparent
+summary-state-is d (CallState.is-none e) = absurd (d e)
+summary-state-is d (CallState.is-transparent e r o t) = e ∙ ap (λ b. cond b opaque transparent) (sym o)
+summary-state-is d (CallState.is-opaque e r o) = e ∙ ap (λ b. cond b opaque transparent) (sym o)
 
-clear-touches : {f : Flow} {ws : List ℕ} {n c : ℕ} → call ws n c ≡ clear → CallState f ws n c → Holds (callTouchedBy ws n c) (callTouches f c)
-clear-touches h (CallState.is-none e) = absurd (omega (arith, h, e))
-clear-touches h (CallState.is-clear e r o t) = t
-clear-touches h (CallState.is-opaque e r o) = absurd (omega (arith, h, e))
+transparent-touches : {f : Flow} {ws : List ℕ} {n c : ℕ} → call ws n c ≡ transparent → CallState f ws n c → Holds (callTouchedBy ws n c) (callTouches f c)
+transparent-touches h (CallState.is-none e) = absurd (omega (arith, h, e))
+transparent-touches h (CallState.is-transparent e r o t) = t
+transparent-touches h (CallState.is-opaque e r o) = absurd (omega (arith, h, e))
 
 callee-entered : {f : Flow} {ws : List ℕ} {n c b : ℕ} → call ws n c ≢ unentered → In b (callees f c) → CallState f ws n c → body ws n b ≢ unentered
 callee-entered d m (CallState.is-none e) = absurd (d e)
-callee-entered {b = b} d m (CallState.is-clear e r o t) = r .bodies b m
+callee-entered {b = b} d m (CallState.is-transparent e r o t) = r .bodies b m
 callee-entered {b = b} d m (CallState.is-opaque e r o) = r .bodies b m
 
 -- a body that was entered and is not open has its walk in its row
 entered-row : {f : Flow} {ws : List ℕ} {n b : ℕ} → body ws n b ≢ unentered → isReturn (kind f b) ≡ false → BodyState f ws n b → WalkRow f ws n b
 entered-row d h (BodyState.is-unentered e r) = absurd (d e)
 entered-row d h (BodyState.is-open e r) = r
-entered-row d h (BodyState.is-clear e o t r) = r h
+entered-row d h (BodyState.is-transparent e o t r) = r h
 entered-row d h (BodyState.is-opaque e o r) = r
 
 members : {w : ℕ} {p : ℕ → Bool} → w < 2 ^ 64 → Within w p → Holds w p → MembersWord w p
@@ -163,8 +163,8 @@ pub summarized : {f : Flow} {ws₀ ws : List ℕ} {n c : ℕ} → WellFormed f �
 summarized {f} {ws₀} {ws} {n} {c} w sz words p end = record {
   calls = record {
     ordinary = λ d l h. ordinary h (p .summing .calls d l);
-    call = λ d k l h. settled-is (p .done d k (omega arith) h) (p .summing .calls d l);
-    touched = λ d l h. members (words (callTouchedAt n + d)) (p .summing .callTouched d l) (clear-touches h (p .summing .calls d l));
+    call = λ d k l h. summary-state-is (p .done d k (omega arith) h) (p .summing .calls d l);
+    touched = λ d l h. members (words (callTouchedAt n + d)) (p .summing .callTouched d l) (transparent-touches h (p .summing .calls d l));
   };
   walks = λ d b l m h. let k = callee-continues f d m in entered-row (callee-entered (p .done d (k .0) (omega arith) (k .1)) m (p .summing .calls d l)) h (p .summing .bodies b (callee-low w sz d b m));
   free = λ r l h. p .summing .free r l h;

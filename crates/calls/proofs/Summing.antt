@@ -1,4 +1,4 @@
--- What each write of the summaries makes of them: arrays joined to a set, the state of a call or of a body settled, a body opened with its walk in its row.
+-- What each write of the summaries makes of them: arrays joined to a set, the state of a call or of a body summaryState, a body opened with its walk in its row.
 -- One word of the states and sets changes at a time, so every other body and call says what it said.
 use Prim.Native.Nat.{ℕ, _+_, _/_, _<_, _≤_}
 use mathlib.Core.Bool.{Bool, true, false}
@@ -9,24 +9,24 @@ use native.Mathlib.Decide.{decLt, ℕ-discrete}
 use native.Mathlib.Omega.{arith}
 use lib.ListN.{length, getD, set}
 use lib.Seq.{getD-set-same, getD-set-other}
-use Rattle.words.specs.Row.{bit, has}
-use Rattle.words.specs.Change.{joined}
+use Rattle.words.specs.contracts.Row.{bit, has}
+use Rattle.words.specs.contracts.Change.{joined}
 use Rattle.words.proofs.Bit.{bit-lt, bit-or}
 use Rattle.words.proofs.Row.{has-cong}
 use Rattle.words.proofs.Inserted.{joined-word, joined-other}
 use Rattle.flow.specs.Flow.{Flow, size}
 use Rattle.theory.specs.Lists.{In}
 use Rattle.theory.specs.Body.{kind, isReturn, callees, touches, callTouches, Walks}
-use Rattle.theory.specs.WellFormed.{WellFormed}
+use Rattle.theory.specs.contracts.WellFormed.{WellFormed}
 use Rattle.theory.proofs.Lists.{clash}
 use Rattle.theory.proofs.Reach.{reach-below}
 use Rattle.theory.proofs.Body.{walkNext-below, callees-below}
-use Rattle.statements.specs.Layout.{callsAt, callTouchedAt, bodiesAt, touchedAt, matrixAt, rowAt, enteredAt}
-use Rattle.statements.specs.Ready.{Keeps}
+use Rattle.statements.specs.contracts.Layout.{callsAt, callTouchedAt, bodiesAt, touchedAt, matrixAt, rowAt, enteredRowAt}
+use Rattle.statements.specs.contracts.Ready.{Keeps}
 use Rattle.statements.proofs.WorkArea.{member-word, row-from, row-fits, rows-apart}
 use Rattle.statements.proofs.Keeps.{keeps-trans, keeps-refl, keeps-set, keeps-joined, keeps-widen}
-use Rattle.calls.specs.Held.{unentered, opened, EmptyRow, WalkRow, Walked}
-use Rattle.calls.specs.Summing.{body, call, touchedBy, callTouchedBy, Within, BodyState, Entered, CallState, Summing, OnwardBut, Onward}
+use Rattle.calls.specs.contracts.Held.{unentered, opened, EmptyRow, WalkRow, Walked}
+use Rattle.calls.specs.contracts.Summing.{body, call, touchedBy, callTouchedBy, Within, BodyState, CalleesEntered, CallState, Summing, OnwardBut, Onward}
 use Rattle.calls.proofs.Walking.{only-keeps}
 
 -- Sets
@@ -57,7 +57,7 @@ joined-within {p} ws x bits y l old new a m h = go (ℕ-discrete y x) (ℕ-discr
 -- One word of the states and sets changes
 
 record Change (ws vs : List ℕ) (n x : ℕ) : Type 0 where
-  keeps : Keeps (callsAt n) (enteredAt n) ws vs
+  keeps : Keeps (callsAt n) (enteredRowAt n) ws vs
   other : (y : ℕ) → y < matrixAt n → y ≢ x → getD vs y 0 ≡ getD ws y 0
 
 by-place : {A : Type 0} {ws vs : List ℕ} {n x : ℕ} → Change ws vs n x → (y : ℕ) → y < matrixAt n → (y ≡ x → A) → (getD vs y 0 ≡ getD ws y 0 → A) → A
@@ -88,7 +88,7 @@ onward-refl ws n e = record {
   was-open = λ b l d h. h;
   still-open = λ b l d h. h;
   still-entered = λ b l d h. h;
-  still-settled = λ c l h. h;
+  still-summed = λ c l h. h;
   touched = λ b a l h. h;
   callTouched = λ c a l h. h;
 }
@@ -99,7 +99,7 @@ onward-trans p q = record {
   was-open = λ b l d h. p .was-open b l d (q .was-open b l d h);
   still-open = λ b l d h. q .still-open b l d (p .still-open b l d h);
   still-entered = λ b l d h. p .still-entered b l d (q .still-entered b l d h);
-  still-settled = λ c l h. p .still-settled c l (q .still-settled c l h);
+  still-summed = λ c l h. p .still-summed c l (q .still-summed c l h);
   touched = λ b a l h. q .touched b a l (p .touched b a l h);
   callTouched = λ c a l h. q .callTouched c a l (p .callTouched c a l h);
 }
@@ -111,19 +111,19 @@ onward-but e p = record {
   was-open = λ b l d h. p .was-open b l (λ q. omega arith) h;
   still-open = λ b l d h. p .still-open b l (λ q. omega arith) h;
   still-entered = λ b l d h. p .still-entered b l (λ q. omega arith) h;
-  still-settled = p .still-settled;
+  still-summed = p .still-summed;
   touched = p .touched;
   callTouched = p .callTouched;
 }
 
--- all but e, and e is settled which was unentered: so all
+-- all but e, and e is summaryState which was unentered: so all
 pub onward-all : {ws vs : List ℕ} {n e : ℕ} → OnwardBut e ws vs n → body ws n e ≡ unentered → body vs n e ≢ unentered → body vs n e ≢ opened → Onward ws vs n
 onward-all {ws} {vs} {n} {e} p was now shut = record {
   keeps = p .keeps;
   was-open = λ b l d h. open-before b l h (ℕ-discrete b e);
   still-open = λ b l d h. open-after b l h (ℕ-discrete b e);
   still-entered = λ b l d h. entered b l h (ℕ-discrete b e);
-  still-settled = p .still-settled;
+  still-summed = p .still-summed;
   touched = p .touched;
   callTouched = p .callTouched;
 }
@@ -152,7 +152,7 @@ onward-change {ws} {vs} {n} e s bodies calls touched callTouched = record {
   was-open = λ b l d h. sym (same b l d) ∙ h;
   still-open = λ b l d h. same b l d ∙ h;
   still-entered = λ b l d h. sym (same b l d) ∙ h;
-  still-settled = λ c l h. by-place s (callsAt n + c) (omega arith) (λ q. absurd (calls c l q h)) (λ q. sym q ∙ h);
+  still-summed = λ c l h. by-place s (callsAt n + c) (omega arith) (λ q. absurd (calls c l q h)) (λ q. sym q ∙ h);
   touched = λ b a l h. by-place s (touchedAt n + b) (omega arith) (λ q. touched b a l q h) (λ q. ap (λ w. bit w a) q ∙ h);
   callTouched = λ c a l h. by-place s (callTouchedAt n + c) (omega arith) (λ q. callTouched c a l q h) (λ q. ap (λ w. bit w a) q ∙ h);
 }
@@ -177,16 +177,16 @@ walk-kept low s r = record { sound = λ i m h. r .sound i m (sym (s i m) ∙ h);
 body-kept : {f : Flow} {ws vs : List ℕ} {n b : ℕ} → ((i : ℕ) → Walks f b i → i < n) → SameBody ws vs n b → BodyState f ws n b → BodyState f vs n b
 body-kept low s (BodyState.is-unentered e h) = BodyState.is-unentered (s .state ∙ e) (λ i m. s .row i m ∙ h i m)
 body-kept low s (BodyState.is-open e r) = BodyState.is-open (s .state ∙ e) (walk-kept low (s .row) r)
-body-kept low s (BodyState.is-clear e o t r) = BodyState.is-clear (s .state ∙ e) o (λ a m h. s .grows a (t a m h)) (λ h. walk-kept low (s .row) (r h))
+body-kept low s (BodyState.is-transparent e o t r) = BodyState.is-transparent (s .state ∙ e) o (λ a m h. s .grows a (t a m h)) (λ h. walk-kept low (s .row) (r h))
 body-kept low s (BodyState.is-opaque e o r) = BodyState.is-opaque (s .state ∙ e) o (walk-kept low (s .row) r)
 
-entered-kept : {f : Flow} {ws vs : List ℕ} {n c : ℕ} → ((b : ℕ) → In b (callees f c) → body vs n b ≡ unentered → body ws n b ≡ unentered) → Entered f ws n c → Entered f vs n c
+entered-kept : {f : Flow} {ws vs : List ℕ} {n c : ℕ} → ((b : ℕ) → In b (callees f c) → body vs n b ≡ unentered → body ws n b ≡ unentered) → CalleesEntered f ws n c → CalleesEntered f vs n c
 entered-kept k e = record { continuation = e .continuation; continues = e .continues; bodies = λ b m h. e .bodies b m (k b m h) }
 
 call-kept : {f : Flow} {ws vs : List ℕ} {n c : ℕ} → SameCall ws vs n c → ((b : ℕ) → In b (callees f c) → body vs n b ≡ unentered → body ws n b ≡ unentered)
     → CallState f ws n c → CallState f vs n c
 call-kept s k (CallState.is-none e) = CallState.is-none (s .state ∙ e)
-call-kept s k (CallState.is-clear e n o t) = CallState.is-clear (s .state ∙ e) (entered-kept k n) o (λ a m h. s .grows a (t a m h))
+call-kept s k (CallState.is-transparent e n o t) = CallState.is-transparent (s .state ∙ e) (entered-kept k n) o (λ a m h. s .grows a (t a m h))
 call-kept s k (CallState.is-opaque e n o) = CallState.is-opaque (s .state ∙ e) (entered-kept k n) o
 
 -- The writes

@@ -14,8 +14,8 @@ use borrow.Author.Tests.{eqb-true, eqb-false}
 use lib.Dec.{eqb}
 use lib.ListN.{length, getD, set, take, length-set}
 use lib.Seq.{take-suc, getD-set-same, getD-set-other}
-use Rattle.words.specs.Row.{has}
-use Rattle.words.specs.Change.{Inserted, inserted}
+use Rattle.words.specs.contracts.Row.{has}
+use Rattle.words.specs.contracts.Change.{Inserted, inserted}
 use Rattle.words.proofs.Row.{has-lt, has-cong}
 use Rattle.words.proofs.Tally.{tally-cong, tally-suc, tally-le}
 use Rattle.words.proofs.Inserted.{length-inserted, inserted-other, insert-same, insert-other}
@@ -24,12 +24,12 @@ use Rattle.theory.specs.Lists.{In}
 use Rattle.theory.specs.Reach.{Reach}
 use Rattle.theory.specs.Body.{kind, successors, continuationOf, isReturn, orElse, walkNext, Walks}
 use Rattle.theory.proofs.Reach.{reach-below}
-use Rattle.statements.specs.Layout.{rowAt, matrixAt, queueAt, enteredAt}
-use Rattle.statements.specs.Ready.{Ready, Keeps}
+use Rattle.statements.specs.contracts.Layout.{rowAt, matrixAt, queueAt, enteredRowAt}
+use Rattle.statements.specs.contracts.Ready.{Ready, Keeps}
 use Rattle.statements.proofs.Keeps.{ready-keeps}
 use Rattle.statements.proofs.WorkArea.{member-word, row-from, row-fits, row-below, area-fits}
-use Rattle.calls.specs.Held.{EmptyRow, OnlyRow, Walked}
-use Rattle.calls.specs.Walking.{met, Stack, Stacked, Entry, Met}
+use Rattle.calls.specs.contracts.Held.{EmptyRow, OnlyRow, Walked}
+use Rattle.calls.specs.contracts.Walking.{met, Stack, Stacked, Entry, Met}
 
 -- Words outside the row and the queue
 
@@ -44,7 +44,7 @@ only-trans a b = record {
   above = λ x l. b .above x l ∙ a .above x l;
 }
 
-pub only-keeps : {ws vs : List ℕ} {n e : ℕ} → OnlyRow ws vs n e → Keeps (matrixAt n) (enteredAt n) ws vs
+pub only-keeps : {ws vs : List ℕ} {n e : ℕ} → OnlyRow ws vs n e → Keeps (matrixAt n) (enteredRowAt n) ws vs
 only-keeps {n = n} {e} o = record { size = o .size; below = λ x l. o .below x (omega (arith, row-from n e)); above = o .above }
 
 -- Nothing more, and more after more

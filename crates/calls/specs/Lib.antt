@@ -1,5 +1,1 @@
-pub mod Held
-pub mod Walking
-pub mod Summing
-pub mod Slots
-pub mod Joins
+pub mod contracts

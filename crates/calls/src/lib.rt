@@ -11,7 +11,8 @@ pub const UNENTERED: u64 = 0;
 
 pub const OPEN: u64 = 1;
 
-pub const CLEAR: u64 = 2;
+// Not opaque; the paper has no word of its own for it.
+pub const TRANSPARENT: u64 = 2;
 
 pub const OPAQUE: u64 = 3;
 

@@ -2,34 +2,33 @@
 // walk meets it. A RETURN's own body walk is just itself, so its row is free for this. The walks of the bodies that a call enters
 // are first joined in the row of entered statements, so that a call goes through its RETURNs once, however many lines it names.
 ghost use Prim.Native.Nat.{_<_};
-ghost use mathlib.Core.Path.{_≡_};
 ghost use lib.ListN.{length, getD};
 ghost use Rattle.flow.specs.Flow.{enters};
 ghost use Rattle.flow.specs.Format.{flowOf};
-ghost use Rattle.flow.specs.Answers.{headerOf};
 ghost use Rattle.theory.specs.Lists.{optionList};
 ghost use Rattle.theory.specs.Body.{kind, callLines, entered, walked};
 ghost use Rattle.theory.specs.Doubled.{returnsTo};
-ghost use Rattle.statements.specs.Layout.{matrixAt, queueAt, waitingAt};
-ghost use Rattle.statements.specs.Ready.{Ready, Keeps};
-ghost use Rattle.calls.specs.Held.{Summarized, Linked};
-ghost use Rattle.calls.specs.Joins.{Joins, Adds, Summary, BodyRow, BodyRows, walks, fromReturn, fromEntered, fromBodies};
+ghost use Rattle.statements.specs.contracts.Layout.{matrixAt, queueAt, solverAt};
+ghost use Rattle.statements.specs.contracts.Ready.{Ready, Indexed, Keeps};
+ghost use Rattle.calls.specs.contracts.Held.{Summarized, Linked};
+ghost use Rattle.calls.specs.contracts.Joins.{Joins, Adds, Summary, BodyRow, BodyRows, walks, fromReturn, fromEntered, fromBodies};
 use crate::OPAQUE;
 use crate::edges;
+use flow::StmtId;
 use statements::fields;
 use statements::layout;
 
 // The walk of the body e joins the row of entered statements.
-fn join_walk(file: &[u8], work: &mut [u64], n: usize, e: usize)
-    requires { ⌜ Ready (now file) (now work) n × (e < n) × BodyRow (flowOf (now file)) (now work) n e ⌝ }
-    ensures { λ _. ⌜ Adds (now (work .entry)) (now (work .exit)) n (walked (flowOf (now (file .entry))) e) ⌝ }
+fn join_walk(file: &[u8], work: &mut [u64], n: usize, e: StmtId)
+    requires { ⌜ Ready (now file) (now work) n × (e .0 < n) × BodyRow (flowOf (now file)) (now work) n (e .0) ⌝ }
+    ensures { λ _. ⌜ Adds (now (work .entry)) (now (work .exit)) n (walked (flowOf (now (file .entry))) (e .0)) ⌝ }
 {
     if fields::is_return(file, work, n, e) {
-        words::insert(work, layout::entered(n), e);
+        words::insert(work, layout::entered_row(n), e.0);
     } else {
         words::union(
             work,
-            layout::entered(n),
+            layout::entered_row(n),
             layout::row(n, e),
             layout::row_words(n),
         );
@@ -37,19 +36,19 @@ fn join_walk(file: &[u8], work: &mut [u64], n: usize, e: usize)
 }
 
 // Line l of the call c.
-fn join_line(file: &[u8], h: flow::Header, work: &mut [u64], c: usize, l: usize)
-    requires { ⌜ Ready (now file) (now work) (h .statements) × (h ≡ headerOf (now file)) × (c < h .statements) × (l < length (callLines (kind (flowOf (now file)) c))) × BodyRows (flowOf (now file)) (now work) (h .statements) c ⌝ }
-    ensures { λ _. ⌜ Adds (now (work .entry)) (now (work .exit)) (h .statements) (walks (flowOf (now (file .entry))) (optionList (enters (flowOf (now (file .entry))) (getD (callLines (kind (flowOf (now (file .entry))) c)) l 0)))) ⌝ }
+fn join_line(file: &[u8], h: flow::Header, work: &mut [u64], c: StmtId, l: usize)
+    requires { ⌜ Indexed (now file) h (now work) × (c .0 < h .statements) × (l < length (callLines (kind (flowOf (now file)) (c .0)))) × BodyRows (flowOf (now file)) (now work) (h .statements) (c .0) ⌝ }
+    ensures { λ _. ⌜ Adds (now (work .entry)) (now (work .exit)) (h .statements) (walks (flowOf (now (file .entry))) (optionList (enters (flowOf (now (file .entry))) (getD (callLines (kind (flowOf (now (file .entry))) (c .0))) l 0)))) ⌝ }
 {
     let n = h.statements;
-    if let flow::Entered::At(b) = fields::entered(file, h, work, c, l) {
-        join_walk(file, work, n, b.0);
+    if let flow::LineEntry::At(b) = fields::entered(file, h, work, c, l) {
+        join_walk(file, work, n, b);
     }
 }
 
-fn join_lines(file: &[u8], h: flow::Header, work: &mut [u64], c: usize)
-    requires { ⌜ Ready (now file) (now work) (h .statements) × (h ≡ headerOf (now file)) × (c < h .statements) × BodyRows (flowOf (now file)) (now work) (h .statements) c ⌝ }
-    ensures { λ _. ⌜ Adds (now (work .entry)) (now (work .exit)) (h .statements) (walks (flowOf (now (file .entry))) (entered (flowOf (now (file .entry))) c)) ⌝ }
+fn join_lines(file: &[u8], h: flow::Header, work: &mut [u64], c: StmtId)
+    requires { ⌜ Indexed (now file) h (now work) × (c .0 < h .statements) × BodyRows (flowOf (now file)) (now work) (h .statements) (c .0) ⌝ }
+    ensures { λ _. ⌜ Adds (now (work .entry)) (now (work .exit)) (h .statements) (walks (flowOf (now (file .entry))) (entered (flowOf (now (file .entry))) (c .0))) ⌝ }
 {
     let n = h.statements;
     let count = fields::line_count(file, work, n, c);
@@ -60,63 +59,65 @@ fn join_lines(file: &[u8], h: flow::Header, work: &mut [u64], c: usize)
     }
 }
 
-fn note_return(file: &[u8], work: &mut [u64], n: usize, r: usize, k: usize)
-    requires { ⌜ Ready (now file) (now work) n × (r < n) × (k < n) ⌝ }
-    ensures { λ _. ⌜ Joins (flowOf (now (file .entry))) (now (work .entry)) (now (work .exit)) n (queueAt n) (fromReturn r k) ⌝ }
+fn note_return(file: &[u8], work: &mut [u64], n: usize, r: StmtId, k: StmtId)
+    requires { ⌜ Ready (now file) (now work) n × (r .0 < n) × (k .0 < n) ⌝ }
+    ensures { λ _. ⌜ Joins (flowOf (now (file .entry))) (now (work .entry)) (now (work .exit)) n (queueAt n) (fromReturn (r .0) (k .0)) ⌝ }
 {
     if fields::is_return(file, work, n, r) {
-        words::insert(work, layout::row(n, r), k);
+        words::insert(work, layout::row(n, r), k.0);
     }
 }
 
 // The RETURNs in the row of entered statements go to k.
-fn note_members(file: &[u8], work: &mut [u64], n: usize, k: usize)
-    requires { ⌜ Ready (now file) (now work) n × (k < n) ⌝ }
-    ensures { λ _. ⌜ Joins (flowOf (now (file .entry))) (now (work .entry)) (now (work .exit)) n (queueAt n) (fromEntered (now (work .entry)) n k) ⌝ }
+fn note_members(file: &[u8], work: &mut [u64], n: usize, k: StmtId)
+    requires { ⌜ Ready (now file) (now work) n × (k .0 < n) ⌝ }
+    ensures { λ _. ⌜ Joins (flowOf (now (file .entry))) (now (work .entry)) (now (work .exit)) n (queueAt n) (fromEntered (now (work .entry)) n (k .0)) ⌝ }
 {
-    let row = layout::entered(n);
+    let row = layout::entered_row(n);
     let mut r = words::next(work, row, 0, n);
     while r < n {
-        note_return(file, work, n, r, k);
+        note_return(file, work, n, StmtId(r), k);
         r = words::next(work, row, r + 1, n);
     }
 }
 
 // The RETURNs on the walks of the bodies that the call c enters go to k.
-fn note_bodies(file: &[u8], h: flow::Header, work: &mut [u64], c: usize, k: usize)
-    requires { ⌜ Ready (now file) (now work) (h .statements) × (h ≡ headerOf (now file)) × (c < h .statements) × (k < h .statements) × BodyRows (flowOf (now file)) (now work) (h .statements) c ⌝ }
-    ensures { λ _. ⌜ Joins (flowOf (now (file .entry))) (now (work .entry)) (now (work .exit)) (h .statements) (waitingAt (h .statements)) (fromBodies (flowOf (now (file .entry))) (entered (flowOf (now (file .entry))) c) k) ⌝ }
+fn note_bodies(file: &[u8], h: flow::Header, work: &mut [u64], c: StmtId, k: StmtId)
+    requires { ⌜ Indexed (now file) h (now work) × (c .0 < h .statements) × (k .0 < h .statements) × BodyRows (flowOf (now file)) (now work) (h .statements) (c .0) ⌝ }
+    ensures { λ _. ⌜ Joins (flowOf (now (file .entry))) (now (work .entry)) (now (work .exit)) (h .statements) (solverAt (h .statements)) (fromBodies (flowOf (now (file .entry))) (entered (flowOf (now (file .entry))) (c .0)) (k .0)) ⌝ }
 {
     let n = h.statements;
-    edges::clear_entered(work, n);
+    edges::zero_entered(work, n);
     join_lines(file, h, work, c);
     note_members(file, work, n, k);
 }
 
 // Statement c, if it is an opaque call with a continuation.
-fn note_call(file: &[u8], h: flow::Header, work: &mut [u64], c: usize)
-    requires { ⌜ Ready (now file) (now work) (h .statements) × (h ≡ headerOf (now file)) × (c < h .statements) × Summary (flowOf (now file)) (now work) (h .statements) c ⌝ }
-    ensures { λ _. ⌜ Joins (flowOf (now (file .entry))) (now (work .entry)) (now (work .exit)) (h .statements) (waitingAt (h .statements)) (λ r k. returnsTo (flowOf (now (file .entry))) r k c) ⌝ }
+fn note_call(file: &[u8], h: flow::Header, work: &mut [u64], c: StmtId)
+    requires { ⌜ Indexed (now file) h (now work) × (c .0 < h .statements) × Summary (flowOf (now file)) (now work) (h .statements) (c .0) ⌝ }
+    ensures { λ _. ⌜ Joins (flowOf (now (file .entry))) (now (work .entry)) (now (work .exit)) (h .statements) (solverAt (h .statements)) (λ r k. returnsTo (flowOf (now (file .entry))) r k (c .0)) ⌝ }
 {
     let n = h.statements;
-    if work[layout::calls(n) + c] != OPAQUE {
+    if work[layout::calls(n) + c.0] != OPAQUE {
         return;
     }
+    // A call that has a summary has a continuation, so there is nothing to do otherwise.
     if let flow::Continuation::To(k) = fields::continuation(file, work, n, c) {
-        note_bodies(file, h, work, c, k.0);
+        note_bodies(file, h, work, c, k);
     }
 }
 
-// Once the RETURNs are noted, no walk is needed any more: the rows of the calls that are not opaque then hold the statements that they enter.
-pub fn note_returns(file: &[u8], h: flow::Header, work: &mut [u64])
-    requires { ⌜ Ready (now file) (now work) (h .statements) × (h ≡ headerOf (now file)) × Summarized (flowOf (now file)) (now work) (h .statements) ⌝ }
+// Notes what the edges are made from: first where each RETURN goes, then, since no walk is needed any more, in the row of each call that is not
+// opaque the statements that it enters.
+pub fn note_edges(file: &[u8], h: flow::Header, work: &mut [u64])
+    requires { ⌜ Indexed (now file) h (now work) × Summarized (flowOf (now file)) (now work) (h .statements) ⌝ }
     ensures { λ _. ⌜ Linked (flowOf (now (file .entry))) (now (work .exit)) (h .statements) ⌝ }
-    ensures { λ _. ⌜ Keeps (matrixAt (h .statements)) (waitingAt (h .statements)) (now (work .entry)) (now (work .exit)) ⌝ }
+    ensures { λ _. ⌜ Keeps (matrixAt (h .statements)) (solverAt (h .statements)) (now (work .entry)) (now (work .exit)) ⌝ }
 {
     let n = h.statements;
     let mut c = 0;
     while c < n {
-        note_call(file, h, work, c);
+        note_call(file, h, work, StmtId(c));
         c += 1;
     }
     edges::note_rows(file, h, work);

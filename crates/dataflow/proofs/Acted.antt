@@ -6,26 +6,25 @@ use mathlib.Core.List.{List, [], _∷_, _++_}
 use mathlib.Core.Path.{_≡_, refl, sym, ap, ap₂, subst, _∙_}
 use native.Mathlib.Decide.{decLt}
 use native.Mathlib.Omega.{arith}
-use borrow.Author.Tests.{lt-ltb, le-ltb, eqb-true, ne-eqb}
+use borrow.Author.Tests.{lt-ltb, le-ltb, eqb-true}
 use lib.Dec.{eqb, ltb}
 use Rattle.masks.specs.declared.Effect.{Effect}
-use Rattle.masks.specs.declared.Effect.the-variants.{Reference, Dim, Clear}
+use Rattle.masks.specs.declared.Effect.the-variants.{Reference, Dim, Reset}
 use Rattle.masks.specs.Step.{stepOf}
-use Rattle.flow.specs.Flow.{Flow, Kind, Item, items}
-use Rattle.theory.specs.Lists.{In, any, has}
+use Rattle.flow.specs.Flow.{Flow, Kind, items}
+use Rattle.theory.specs.Lists.{any, elem}
 use Rattle.theory.specs.Body.{kind, references}
-use Rattle.theory.specs.Doubled.{dims, kindEffects, statementEffects}
+use Rattle.theory.specs.Doubled.{dims, resets, kindEffects, statementEffects}
 use Rattle.theory.specs.Queue.{stepAll}
-use Rattle.theory.specs.Runs.{empties}
-use Rattle.theory.specs.WellFormed.{WellFormed}
-use Rattle.theory.proofs.Lists.{clash, not-so, has-In, any-find, and-both}
-use Rattle.words.specs.Row as bits
-use Rattle.words.specs.Byte.{byteAt}
+use Rattle.theory.specs.contracts.WellFormed.{WellFormed}
+use Rattle.theory.proofs.Lists.{clash, not-so, elem-In, any-find, and-both}
+use Rattle.words.specs.contracts.Row as bits
+use Rattle.words.specs.contracts.Byte.{byteAt}
 use Rattle.flow.specs.Limits.{maxArrays}
 use Rattle.statements.proofs.Keeps.{keeps-has}
-use Rattle.solve.specs.Rows.{RowIs, stepWhere, memberBelow}
+use Rattle.solve.specs.contracts.Rows.{RowIs, stepWhere, memberBelow}
 use Rattle.solve.proofs.RowChanges.{row-as, row-step}
-use Rattle.dataflow.specs.Transfer.{acted}
+use Rattle.dataflow.specs.contracts.Transfer.{acted}
 
 pub stepAll-append : (es fs : List Effect) (m : ℕ) → stepAll (es ++ fs) m ≡ stepAll fs (stepAll es m)
 unfolding stepAll
@@ -38,7 +37,7 @@ stepAll-if true e m = refl
 stepAll-if false e m = refl
 
 -- a kind that does not empty the stack steps the arrays of its items with dimensions
-kind-steps : (k : Kind) (a m : ℕ) → empties k ≡ false → cond (any (dims a) (items k)) (stepOf Dim m) m ≡ stepAll (kindEffects k a) m
+kind-steps : (k : Kind) (a m : ℕ) → resets k ≡ false → cond (any (dims a) (items k)) (stepOf Dim m) m ≡ stepAll (kindEffects k a) m
 unfolding any kindEffects stepAll
 kind-steps Kind.other a m e = refl
 kind-steps Kind.return a m e = refl
@@ -48,20 +47,20 @@ kind-steps (Kind.dim is) a m e = sym (stepAll-if (any (dims a) is) Dim m)
 kind-steps (Kind.gosub l c) a m e = refl
 kind-steps (Kind.onGosub ls c) a m e = refl
 
-kind-clears : (k : Kind) (a m : ℕ) → empties k ≡ true → 1 ≡ stepAll (kindEffects k a) m
+kind-resets : (k : Kind) (a m : ℕ) → resets k ≡ true → 1 ≡ stepAll (kindEffects k a) m
 unfolding kindEffects stepAll
-kind-clears Kind.other a m e = clash false e refl
-kind-clears Kind.return a m e = clash false e refl
-kind-clears Kind.clr a m e = refl
-kind-clears Kind.run a m e = refl
-kind-clears (Kind.dim is) a m e = clash false e refl
-kind-clears (Kind.gosub l c) a m e = clash false e refl
-kind-clears (Kind.onGosub ls c) a m e = clash false e refl
+kind-resets Kind.other a m e = clash false e refl
+kind-resets Kind.return a m e = clash false e refl
+kind-resets Kind.clr a m e = refl
+kind-resets Kind.run a m e = refl
+kind-resets (Kind.dim is) a m e = clash false e refl
+kind-resets (Kind.gosub l c) a m e = clash false e refl
+kind-resets (Kind.onGosub ls c) a m e = clash false e refl
 
 -- no reference and no item names an array at or above the count
 
-pub unreferenced : {f : Flow} → WellFormed f → (i a : ℕ) → (a < f .arrays → ⊥) → has a (references f i) ≡ false
-unreferenced {f} wf i a out = not-so (has a (references f i)) (λ e. out (wf .reference i a (has-In a (references f i) e)))
+pub unreferenced : {f : Flow} → WellFormed f → (i a : ℕ) → (a < f .arrays → ⊥) → elem a (references f i) ≡ false
+unreferenced {f} wf i a out = not-so (elem a (references f i)) (λ e. out (wf .reference i a (elem-In a (references f i) e)))
 
 undimmed : {f : Flow} → WellFormed f → (i a : ℕ) → (a < f .arrays → ⊥) → any (dims a) (items (kind f i)) ≡ false
 unfolding any
@@ -81,25 +80,25 @@ undimmed {f} wf i a out = go (kind f i) refl
 
 -- the masks once the references and the items have stepped
 abbrev pub stepped : Flow → ℕ → (ℕ → ℕ) → ℕ → ℕ
-stepped f i m = stepWhere (λ a. any (dims a) (items (kind f i))) Dim (stepWhere (λ a. has a (references f i)) Reference m)
+stepped f i m = stepWhere (λ a. any (dims a) (items (kind f i))) Dim (stepWhere (λ a. elem a (references f i)) Reference m)
 
 module _ {f : Flow} (wf : WellFormed f) (i : ℕ) (m : ℕ → ℕ) (a : ℕ) where
   beyond : (a < f .arrays → ⊥) → stepped f i m a ≡ m a
   unfolding stepWhere
   beyond out = rw (undimmed wf i a out, unreferenced wf i a out)
 
-  effects : stepAll (statementEffects f i a) (m a) ≡ stepAll (kindEffects (kind f i) a) (stepWhere (λ a. has a (references f i)) Reference m a)
+  effects : stepAll (statementEffects f i a) (m a) ≡ stepAll (kindEffects (kind f i) a) (stepWhere (λ a. elem a (references f i)) Reference m a)
   unfolding statementEffects stepWhere
   effects =
-      stepAll-append (cond (has a (references f i)) (Reference ∷ []) []) (kindEffects (kind f i) a) (m a)
-      ∙ ap (stepAll (kindEffects (kind f i) a)) (stepAll-if (has a (references f i)) Reference (m a))
+      stepAll-append (cond (elem a (references f i)) (Reference ∷ []) []) (kindEffects (kind f i) a) (m a)
+      ∙ ap (stepAll (kindEffects (kind f i) a)) (stepAll-if (elem a (references f i)) Reference (m a))
 
-  within : empties (kind f i) ≡ false
-      → stepped f i m a ≡ stepAll (kindEffects (kind f i) a) (stepWhere (λ a. has a (references f i)) Reference m a)
+  within : resets (kind f i) ≡ false
+      → stepped f i m a ≡ stepAll (kindEffects (kind f i) a) (stepWhere (λ a. elem a (references f i)) Reference m a)
   unfolding stepWhere
-  within e = kind-steps (kind f i) a (stepWhere (λ a. has a (references f i)) Reference m a) e
+  within e = kind-steps (kind f i) a (stepWhere (λ a. elem a (references f i)) Reference m a) e
 
-  acted-stays : empties (kind f i) ≡ false → stepped f i m a ≡ acted (f .arrays) (statementEffects f i) m a
+  acted-stays : resets (kind f i) ≡ false → stepped f i m a ≡ acted (f .arrays) (statementEffects f i) m a
   unfolding acted
   acted-stays e = at (decLt a (f .arrays))
     where
@@ -107,12 +106,12 @@ module _ {f : Flow} (wf : WellFormed f) (i : ℕ) (m : ℕ → ℕ) (a : ℕ) wh
       at (yes l) = rw (lt-ltb a (f .arrays) l) (within e ∙ sym effects)
       at (no l) = rw (le-ltb a (f .arrays) (omega (arith, l))) (beyond l)
 
-  acted-clears : empties (kind f i) ≡ true → stepWhere (λ b. ltb b (f .arrays)) Clear (stepped f i m) a ≡ acted (f .arrays) (statementEffects f i) m a
+  acted-resets : resets (kind f i) ≡ true → stepWhere (λ b. ltb b (f .arrays)) Reset (stepped f i m) a ≡ acted (f .arrays) (statementEffects f i) m a
   unfolding acted stepWhere
-  acted-clears e = at (decLt a (f .arrays))
+  acted-resets e = at (decLt a (f .arrays))
     where
       at : Dec (a < f .arrays) → cond (ltb a (f .arrays)) 1 (stepped f i m a) ≡ cond (ltb a (f .arrays)) (stepAll (statementEffects f i a) (m a)) (m a)
-      at (yes l) = rw (lt-ltb a (f .arrays) l) (kind-clears (kind f i) a (stepWhere (λ a. has a (references f i)) Reference m a) e ∙ sym effects)
+      at (yes l) = rw (lt-ltb a (f .arrays) l) (kind-resets (kind f i) a (stepWhere (λ a. elem a (references f i)) Reference m a) e ∙ sym effects)
       at (no l) = rw (le-ltb a (f .arrays) (omega (arith, l))) (beyond l)
 
 -- the row of the statement at hand, by its place and the place of the row that it was copied from
@@ -123,14 +122,14 @@ module _ {f : Flow} (wf : WellFormed f) (i count row from : ℕ) (all : count �
       subst (λ (r : ℕ). RowIs ws vs r (acted count (statementEffects f i) (byteAt ws from))) at
       (row-as x (λ a l. h a ∙ ap₂ (λ (k p : ℕ). acted k (statementEffects f i) (byteAt ws p) a) (sym all) of))
 
-  pub stays-row : empties (kind f i) ≡ false → RowIs ws vs row′ (stepped f i (byteAt ws from′)) → RowIs ws vs row (acted count (statementEffects f i) (byteAt ws from))
+  pub stays-row : resets (kind f i) ≡ false → RowIs ws vs row′ (stepped f i (byteAt ws from′)) → RowIs ws vs row (acted count (statementEffects f i) (byteAt ws from))
   stays-row e x = placed x (λ a. acted-stays wf i (byteAt ws from′) a e)
 
-  pub clears-row : empties (kind f i) ≡ true → RowIs ws vs row′ (stepWhere (λ b. ltb b count) Clear (stepped f i (byteAt ws from′)))
+  pub resets-row : resets (kind f i) ≡ true → RowIs ws vs row′ (stepWhere (λ b. ltb b count) Reset (stepped f i (byteAt ws from′)))
       → RowIs ws vs row (acted count (statementEffects f i) (byteAt ws from))
-  clears-row e x =
-      placed (subst (λ (k : ℕ). RowIs ws vs row′ (stepWhere (λ b. ltb b k) Clear (stepped f i (byteAt ws from′)))) all x)
-      (λ a. acted-clears wf i (byteAt ws from′) a e)
+  resets-row e x =
+      placed (subst (λ (k : ℕ). RowIs ws vs row′ (stepWhere (λ b. ltb b k) Reset (stepped f i (byteAt ws from′)))) all x)
+      (λ a. acted-resets wf i (byteAt ws from′) a e)
 
 -- a set below the row has the members that it had
 pub touched-row : {ws vs us : List ℕ} {row set count from row′ set′ from′ : ℕ} (e : Effect) → row′ ≡ row → set′ ≡ set → from′ ≡ from → set < row → count ≤ maxArrays

@@ -4,19 +4,20 @@ use Prim.Native.Nat.{ℕ, _+_, _*_, _/_, _<_, _≤_}
 use mathlib.Core.List.{List}
 use mathlib.Core.Path.{_≡_, refl, _∙_}
 use native.Mathlib.Omega.{arith}
-use lib.ListN.{length, getD}
+use lib.ListN.{getD}
 use Rattle.words.proofs.Bytes.{byte-cong}
 use Rattle.flow.specs.Limits.{maxArrays}
-use Rattle.statements.specs.Layout.{maskWords, queueAt, enteredAt, waitingAt, visitedAt, grownAt, maskRowAt, outRow, areaEnd}
-use Rattle.statements.specs.Ready.{Keeps}
+use Rattle.statements.specs.contracts.Layout.{queueAt, enteredRowAt, areaEnd}
+use Rattle.statements.specs.contracts.Ready.{Keeps}
 use Rattle.statements.proofs.Keeps.{keeps-refl, keeps-trans, keeps-widen}
 use Rattle.solve.specs.declared.Queue.{Queue}
-use Rattle.solve.specs.Waiting.{Waits}
-use Rattle.solve.specs.Pushed.{masksAt}
+use Rattle.solve.specs.contracts.Layout.{maskWords, waitingAt, visitedAt, grownAt, maskRowAt, outRow}
+use Rattle.solve.specs.contracts.Waiting.{Waits}
+use Rattle.solve.specs.contracts.Pushed.{masksAt}
 use Rattle.solve.proofs.Waiting.{waits-kept}
 
 pub record Aside (n : ℕ) (ws vs : List ℕ) : Type 0 where
-  pub queue : (x : ℕ) → queueAt n ≤ x → x < enteredAt n → getD vs x 0 ≡ getD ws x 0
+  pub queue : (x : ℕ) → queueAt n ≤ x → x < enteredRowAt n → getD vs x 0 ≡ getD ws x 0
   pub solver : (x : ℕ) → waitingAt n ≤ x → x < outRow n → getD vs x 0 ≡ getD ws x 0
   pub keeps : Keeps (queueAt n) (areaEnd n) ws vs
 
@@ -39,7 +40,7 @@ aside-row low high k = record {
 }
 
 -- the row of entered statements is written
-pub aside-entered : {n : ℕ} {ws vs : List ℕ} → Keeps (enteredAt n) (waitingAt n) ws vs → Aside n ws vs
+pub aside-entered : {n : ℕ} {ws vs : List ℕ} → Keeps (enteredRowAt n) (waitingAt n) ws vs → Aside n ws vs
 aside-entered k = record {
   queue = λ i l h. k .below i h;
   solver = λ i l h. k .above i l;

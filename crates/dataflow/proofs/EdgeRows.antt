@@ -1,51 +1,31 @@
 -- The rows of a number's edges: that of the statement's act, and for the edge to the continuation of a call that is not opaque the one with the touched
 -- step. What the edges carry of these rows is what the doubled graph's edges bring of the number's masks.
-use Prim.Native.Nat.{ℕ, _+_, _-_, _*_, _/_, _%_, _<_, _≤_}
+use Prim.Native.Nat.{ℕ, _+_, _/_, _%_, _<_}
 use mathlib.Core.Bool.{Bool, true, false, cond, _&&_}
 use mathlib.Core.List.{List, [], _∷_, _++_, map, List·Memᴰ·head, List·Memᴰ·tail}
 use mathlib.Core.Path.{_≡_, refl, sym, ap, ap₂, _∙_}
-use native.Mathlib.Decide.{decLt}
 use native.Mathlib.Omega.{arith}
-use borrow.Author.Tests.{lt-ltb, le-ltb}
 use lib.Bits.{bitOr}
 use lib.Dec.{eqb, ltb}
-use lib.ListN.{length, getD}
-use Rattle.words.specs.Row as bits
-use Rattle.masks.specs.declared.Effect.{Effect}
+use lib.ListN.{getD}
+use Rattle.words.specs.contracts.Row as bits
+use Rattle.words.specs.contracts.Byte.{byteAt}
 use Rattle.masks.specs.declared.Effect.the-variants.{Touched}
 use Rattle.masks.specs.Step.{stepOf}
-use Rattle.flow.specs.Flow.{Flow, size}
+use Rattle.flow.specs.Flow.{Flow}
 use Rattle.flow.specs.Limits.{maxArrays}
 use Rattle.theory.specs.Lists.{In}
 use Rattle.theory.specs.Body.{callTouches}
-use Rattle.theory.specs.Doubled.{Base, Edge, at, node, number, edges, statementEffects, edgeEffects, doubled}
+use Rattle.theory.specs.Doubled.{Edge, number, statementEffects, edgeEffects}
 use Rattle.theory.specs.Queue.{stepAll, brings}
 use Rattle.theory.proofs.Lists.{says-one}
-use Rattle.statements.specs.Layout.{callTouchedAt, outRow, backRow}
-use Rattle.statements.specs.Ready.{MembersWord}
-use Rattle.calls.specs.Slots.{slots, present, toArc}
-use Rattle.calls.proofs.Slots.{slot-edge, brings-slots}
-use Rattle.solve.specs.Rows.{stepWhere, memberBelow}
-use Rattle.solve.specs.Pushed.{masksAt}
-use Rattle.dataflow.specs.Transfer.{acted}
-use Rattle.dataflow.specs.Sent.{edgeRow, carried, masksBelow}
+use Rattle.statements.specs.contracts.Ready.{MembersWord}
+use Rattle.calls.specs.contracts.Slots.{toArc}
+use Rattle.solve.specs.contracts.Rows.{stepWhere, memberBelow}
+use Rattle.dataflow.specs.contracts.Transfer.{acted}
+use Rattle.dataflow.specs.contracts.Sent.{edgeRow, carried, masksBelow}
 use Rattle.dataflow.proofs.Unions.{cond-zero}
 use Rattle.dataflow.proofs.Acted.{stepAll-append, stepAll-if}
-
--- the statement of a doubled number
-pub node-stmt : (f : Flow) {n : ℕ} (d : ℕ) → size f ≡ n → node f d .stmt ≡ cond (ltb d n) d (d - n)
-node-stmt f {n} d e = pick (ltb d (size f)) ∙ ap (λ (k : ℕ). cond (ltb d k) d (d - k)) e
-  where
-    pick : (b : Bool) → (cond b (at Base.zero d) (at Base.n (d - size f))) .stmt ≡ cond b d (d - size f)
-    pick true = refl
-    pick false = refl
-
-pub statement-below : {n d : ℕ} → d < 2 * n → cond (ltb d n) d (d - n) < n
-statement-below {n} {d} l = at (decLt d n)
-  where
-    at : Dec (d < n) → cond (ltb d n) d (d - n) < n
-    at (yes h) = rw (lt-ltb d n h) h
-    at (no h) = rw (le-ltb d n (omega (arith, h))) (omega (arith, h))
 
 -- a set of one word
 word-has : (ws : List ℕ) (set a : ℕ) → a < maxArrays → bits.has ws set a ≡ bits.bit (getD ws set 0) a
@@ -96,7 +76,7 @@ back-row f ws i count set m row x a l is e touched = at (ltb a count) is
 module _ (f : Flow) (ws : List ℕ) (n i : ℕ) (m : ℕ → ℕ) (t : ℕ) where
   -- what the edges carry is what they bring of the masks
   pub carried-brings : (es : List Edge)
-      → ((x : Edge) → In x es → (a : ℕ) → a < maxArrays → masksAt ws n (edgeRow n (x .continues)) a ≡ masksBelow (f .arrays) (λ b. stepAll (edgeEffects f i x b) (m b)) a)
+      → ((x : Edge) → In x es → (a : ℕ) → a < maxArrays → byteAt ws (edgeRow n (x .continues)) a ≡ masksBelow (f .arrays) (λ b. stepAll (edgeEffects f i x b) (m b)) a)
       → (a : ℕ) → a < maxArrays → carried f ws n es t a ≡ masksBelow (f .arrays) (λ b. brings t b (m b) (map (toArc f i) es)) a
   unfolding carried brings masksBelow
   carried-brings [] h a l = cond-zero (ltb a (f .arrays))

@@ -1,31 +1,32 @@
 -- The visits of a fit file's flow can be counted in a word: every list of the file lies within it, so a number has few edges, and the visits are within
 -- Term 1's bound.
-use Prim.Native.Nat.{ℕ, zero, _+_, _-_, _*_, _^_, _≤_, _<_, zero-le}
+use Prim.Native.Nat.{ℕ, _+_, _-_, _*_, _^_, _≤_, _<_, zero-le}
 use mathlib.Core.Bool.{Bool, true, false, cond, not, _||_}
 use mathlib.Core.List.{List, [], _∷_, _++_, map}
 use mathlib.Core.Option.{Option, none, some}
-use mathlib.Core.Path.{_≡_, sym, ap, subst}
+use mathlib.Core.Path.{_≡_, sym, subst}
 use native.Mathlib.Decide.{decLt}
-use native.Mathlib.Nat.{mul-le-mul-left, mul-le-mul-right, le-trans}
+use native.Mathlib.Nat.{mul-le-mul-right}
 use native.Mathlib.Omega.{arith}
-use lib.Dec.{eqb, ltb}
+use lib.Dec.{eqb}
 use lib.ListN.{length, length-append, length-map}
-use Rattle.flow.specs.Flow.{Flow, size, enters, statement}
-use Rattle.flow.specs.Format.{flowOf, statementsOf, successorCount, kindAt, dataPlace}
-use Rattle.flow.specs.Fields.{FitFile}
+use Rattle.flow.specs.declared.Base.{Base}
+use Rattle.flow.specs.declared.Base.the-variants.{Zero, N}
+use Rattle.flow.specs.Flow.{Flow, size, enters}
+use Rattle.flow.specs.Format.{flowOf}
 use Rattle.flow.specs.Limits.{maxFile, maxStatements, maxArrays}
 use Rattle.records.proofs.Files.{limited}
-use Rattle.theory.specs.Lists.{any, has, select, concatMap, optionList, upTo, sumBelow}
+use Rattle.theory.specs.Lists.{any, elem, select, concatMap, optionList, upTo, sumBelow}
 use Rattle.theory.specs.Body.{kind, successors, callLines, continuationOf, isReturn, entered, opaqueCall}
-use Rattle.theory.specs.Doubled.{Base, Node, Edge, at, plain, node, sameNode, once, edges, edgesOf, listedEdges, returnEdges, callEdges, returnsTo, number, edgeEffects, arcsOf, doubled}
-use Rattle.theory.specs.Queue.{Graph, Arc, arcCount, visitBound}
+use Rattle.theory.specs.Doubled.{Node, Edge, at, plain, node, sameNode, once, edges, edgesOf, listedEdges, returnEdges, callEdges, returnsTo, number, edgeEffects, arcsOf, doubled}
+use Rattle.theory.specs.Queue.{Arc, arcCount, visitBound}
 use Rattle.theory.proofs.Lists.{length-upTo, sumBelow-le}
 use Rattle.theory.proofs.Below.{sumBelow-const}
-use Rattle.statements.specs.Ready.{Ready}
+use Rattle.statements.specs.contracts.Ready.{Ready}
 use Rattle.statements.proofs.WellFormed.{arrays-is}
+use Rattle.statements.proofs.Copies.{node-low, node-high}
 use Rattle.statements.proofs.Keeps.{ready-size, ready-most}
 use Rattle.calls.proofs.Checked.{successors-few, lines-few}
-use Rattle.calls.proofs.Found.{node-low, node-high}
 
 -- Lengths
 
@@ -69,25 +70,25 @@ module _ (f : Flow) (b : Base) (i most : ℕ) (sized : size f ≤ most) (next : 
       continuations = select (λ k. any (returnsTo f i k) (upTo (size f))) (upTo (size f))
 
       go : (c : Base) → length (returnEdges f c i) ≤ most
-      go Base.zero =
+      go Zero =
           let h = length-select (λ k. any (returnsTo f i k) (upTo (size f))) (upTo (size f)) in
-          omega (arith, length-map continuations (λ k. plain (at Base.zero k)), length-upTo (size f))
-      go Base.n = zero-le
+          omega (arith, length-map continuations (λ k. plain (at Zero k)), length-upTo (size f))
+      go N = zero-le
 
   call-few : (k : ℕ) → length (callEdges f b i k) ≤ most + most + 1
   unfolding callEdges entered
   call-few k =
-      let others : List ℕ = select (λ j. not (has j (entered f i) || eqb j k)) (successors f i) in
-      let nodes : List Node = map (at Base.n) (entered f i) ++ (at b k ∷ map (at b) others) in
+      let others : List ℕ = select (λ j. not (elem j (entered f i) || eqb j k)) (successors f i) in
+      let nodes : List Node = map (at N) (entered f i) ++ (at b k ∷ map (at b) others) in
       let e : List Edge = map (λ v. record { to = v; continues = sameNode v (at b k) }) nodes in
       let p = length-once e in
-      let q = length-select (λ j. not (has j (entered f i) || eqb j k)) (successors f i) in
+      let q = length-select (λ j. not (elem j (entered f i) || eqb j k)) (successors f i) in
       let r = length-options f (callLines (kind f i)) in
       omega (
         arith,
         length-map {B = Edge} nodes (λ v. record { to = v; continues = sameNode v (at b k) }),
-        length-append (map (at Base.n) (entered f i)) (at b k ∷ map (at b) others),
-        length-map (entered f i) (at Base.n),
+        length-append (map (at N) (entered f i)) (at b k ∷ map (at b) others),
+        length-map (entered f i) (at N),
         length-map others (at b),
       )
 
@@ -118,11 +119,11 @@ module _ {s ws : List ℕ} {n : ℕ} (r : Ready s ws n) where
 
       go : Dec (d < size (flowOf s)) → length (edges (flowOf s) (node (flowOf s) d)) ≤ maxFile + maxFile + 1
       go (yes h) =
-          subst (λ (v : Node). length (edges (flowOf s) v) ≤ maxFile + maxFile + 1) (sym (node-low (flowOf s) d h))
-          (edges-few (flowOf s) Base.zero d maxFile sized (successors-few r (omega (arith, ready-size r))) (lines-few r (omega (arith, ready-size r))))
+          subst (λ (v : Node). length (edges (flowOf s) v) ≤ maxFile + maxFile + 1) (sym (node-low (size (flowOf s)) d h))
+          (edges-few (flowOf s) Zero d maxFile sized (successors-few r (omega (arith, ready-size r))) (lines-few r (omega (arith, ready-size r))))
       go (no h) =
-          subst (λ (v : Node). length (edges (flowOf s) v) ≤ maxFile + maxFile + 1) (sym (node-high (flowOf s) d (omega (arith, h))))
-          (edges-few (flowOf s) Base.n (d - size (flowOf s)) maxFile sized (successors-few r (omega (arith, ready-size r, h))) (lines-few r (omega (arith, ready-size r, h))))
+          subst (λ (v : Node). length (edges (flowOf s) v) ≤ maxFile + maxFile + 1) (sym (node-high (size (flowOf s)) d (omega (arith, h))))
+          (edges-few (flowOf s) N (d - size (flowOf s)) maxFile sized (successors-few r (omega (arith, ready-size r, h))) (lines-few r (omega (arith, ready-size r, h))))
 
   -- Term 1's bound is a word, and so is one more
   pub visits-few : visitBound (doubled (flowOf s)) < 2 ^ 63

@@ -3,55 +3,51 @@
 use Prim.Native.Nat.{ℕ, zero, suc, _*_, _≤_}
 use native.Mathlib.Omega.{arith}
 use mathlib.Core.Bool.{Bool, true, false, cond, _&&_}
-use mathlib.Core.List.{List, _++_}
+use mathlib.Core.List.{List}
 use mathlib.Core.Path.{_≡_, refl, ap, sym, _∙_, subst}
-use lib.Dec.{leb, leb→le, T}
+use lib.Dec.{leb}
 use lib.ListN.{length, getD, replicate}
 use borrow.Author.Tests.{leb-true}
-use Rattle.words.specs.Change.{cleared}
-use Rattle.words.proofs.Cleared.{cleared-all}
+use Rattle.words.specs.contracts.Change.{zeroed}
+use Rattle.words.proofs.Zeroed.{zeroed-all}
 use Rattle.flow.specs.declared.Refusal.{Refusal}
 use Rattle.flow.specs.declared.Refusal.the-variants.{Areas}
 use Rattle.flow.specs.declared.Header.{Header}
 use Rattle.flow.specs.declared.Checked.{Checked}
 use Rattle.flow.specs.declared.Checked.the-variants.{Fit, Unfit}
 use Rattle.flow.specs.Limits.{workWords}
-use Rattle.flow.specs.Flow.{Flow, size}
+use Rattle.flow.specs.Flow.{size}
 use Rattle.flow.specs.Format.{Verdict, fit, unfit, verdict, fileChecks, areaChecks, flowOf, statementsOf, arraysOf}
-use Rattle.flow.specs.Fields.{FitFile, isFit}
-use Rattle.flow.specs.Answers.{headerOf, checkedOf}
+use Rattle.flow.specs.contracts.Answers.{FitFile, isFit}
+use Rattle.flow.specs.contracts.Answers.{headerOf, checkedOf}
 use Rattle.flow.proofs.Verdicts.{fit-append, unfit-append}
-use Rattle.records.proofs.AreaVerdict.{longEnough, area-verdict, areas-fit}
+use Rattle.flow.proofs.AreaVerdict.{area-verdict, areas-fit}
 use Rattle.flow.proofs.Reading.{fit-answer, unfit-answer, accepts}
 use Rattle.records.proofs.Statements.{size-is}
-use Rattle.theory.specs.Masks.{visitsOf}
-use Rattle.theory.specs.Live.{liveInWord, liveOutWord}
+use Rattle.theory.specs.Doubled.{doubled}
+use Rattle.theory.specs.Queue.{initial}
 use Rattle.theory.proofs.Terms.{term-1-empty}
 use Rattle.statements.proofs.WellFormed.{arrays-is, well-formed}
 use Rattle.dataflow.specs.declared.Answer.{Answer}
 use Rattle.dataflow.specs.declared.Answer.the-variants.{Accepted, Refused}
-use Rattle.dataflow.specs.Promise.{Promise, Answered, Untouched, Written, Door, judged, answerBy, answerOf, numberOfAnswer, placeOfAnswer, visitsOfAnswer}
-use Rattle.dataflow.specs.Phases.{Solved}
+use Rattle.dataflow.specs.Promise.{Promise, Door, judged, numberOfAnswer, placeOfAnswer, visitsOfAnswer}
+use Rattle.dataflow.specs.contracts.Phases.{Findings}
 use Rattle.dataflow.proofs.Promised.{promised}
 
--- an accepted answer is no refusal
-not-accepted : {r : Refusal} {v : ℕ} → Refused r ≡ Accepted v → ⊥
-not-accepted e = let z : _≡_ {A = ℕ} 0 1 = cc in omega arith
+-- a verdict is one of the two, and names one refusal
+not-both : {r : Refusal} {v : Verdict} → v ≡ fit → v ≡ unfit r → ⊥
+not-both e h = let z : _≡_ {A = ℕ} 0 1 = cc in omega arith
 
-not-refused : {r : Refusal} {v : ℕ} → Accepted v ≡ Refused r → ⊥
-not-refused e = let z : _≡_ {A = ℕ} 0 1 = cc in omega arith
-
-accepted-count : {v w : ℕ} → Accepted v ≡ Accepted w → v ≡ w
-accepted-count e = cc
+same-refusal : {r x : Refusal} {v : Verdict} → v ≡ unfit r → v ≡ unfit x → Refused r ≡ Refused x
+same-refusal e h = cc
 
 module _ (s masks liveIn liveOut work : List ℕ) where
   -- a refusal changes nothing
   pub refusing : {work′ : List ℕ} (r : Refusal) → work′ ≡ work → judged s (length masks) (length liveIn) (length liveOut) (length work) ≡ unfit r
       → Promise s masks masks liveIn liveIn liveOut liveOut work work′ (Refused r)
   refusing r same e = record {
-    answer = ap (answerBy (flowOf s)) (sym e);
-    refused = λ x _. record { same-masks = refl; same-live-in = refl; same-live-out = refl; same-work = same };
-    accepted = λ v h. absurd (not-accepted h);
+    refused = λ x h. (same-refusal e h, record { same-masks = refl; same-live-in = refl; same-live-out = refl; same-work = same });
+    accepted = λ h. absurd (not-both h e);
   }
 
   pub file-refused : {c : Checked} (r : Refusal) → c ≡ checkedOf (verdict (fileChecks s)) (headerOf s) → c ≡ Unfit r
@@ -118,27 +114,26 @@ rooms n arrays masks liveIn liveOut work e =
 -- an accepted flow keeps the promise from what the phases left
 pub accepting : (s masks masks′ liveIn liveIn′ liveOut liveOut′ work work′ : List ℕ) (v : ℕ) → FitFile s
     → judged s (length masks) (length liveIn) (length liveOut) (length work) ≡ fit
-    → Solved (flowOf s) masks masks′ liveIn liveIn′ liveOut liveOut′ v
+    → Findings (flowOf s) masks masks′ liveIn liveIn′ liveOut liveOut′ v
     → work′ ≡ replicate (length work) 0
     → Promise s masks masks′ liveIn liveIn′ liveOut liveOut′ work work′ (Accepted v)
 accepting s masks masks′ liveIn liveIn′ liveOut liveOut′ work work′ v h e solved empty = record {
-  answer = ap Accepted (solved .count) ∙ ap (answerBy (flowOf s)) (sym e);
-  refused = λ x r. absurd (not-refused r);
-  accepted = λ u r. subst (λ k. Answered (flowOf s) masks masks′ liveIn liveIn′ liveOut liveOut′ work work′ k) (accepted-count r)
-      (promised (flowOf s) (well-formed h) masks masks′ liveIn liveIn′ liveOut liveOut′ work work′ v solved empty);
+  refused = λ x r. absurd (not-both e r);
+  accepted = λ _. (v, refl, promised (flowOf s) (well-formed h) masks masks′ liveIn liveIn′ liveOut liveOut′ work work′ v solved empty);
 }
 
 -- with no statements the phases have nothing to do
-pub nothing-solved : (s masks liveIn liveOut : List ℕ) → statementsOf s ≡ 0 → Solved (flowOf s) masks masks liveIn liveIn liveOut liveOut 0
+pub nothing-solved : (s masks liveIn liveOut : List ℕ) → statementsOf s ≡ 0 → Findings (flowOf s) masks masks liveIn liveIn liveOut liveOut 0
 nothing-solved s masks liveIn liveOut z =
     let none : size (flowOf s) ≡ 0 = size-is s ∙ z in
     record {
+      left = initial (doubled (flowOf s));
+      over = term-1-empty (flowOf s) none;
       mask-bytes = λ i a l m. absurd (omega arith);
       masks-size = refl;
       masks-kept = λ x l. refl;
       live-in = record { size = refl; written = λ i l. absurd (omega arith); kept = λ x l. refl };
       live-out = record { size = refl; written = λ i l. absurd (omega arith); kept = λ x l. refl };
-      count = sym (term-1-empty (flowOf s) none);
     }
 
 -- the door says the answer as numbers
@@ -146,12 +141,7 @@ pub doored : {s masks masks′ liveIn liveIn′ liveOut liveOut′ work work′ 
     → Promise s masks masks′ liveIn liveIn′ liveOut liveOut′ work work′ r
     → number ≡ numberOfAnswer r → place ≡ placeOfAnswer r → visits ≡ visitsOfAnswer r
     → Door s masks masks′ liveIn liveIn′ liveOut liveOut′ work work′ place visits number
-doored {s} {masks} {masks′} {liveIn} {liveIn′} {liveOut} {liveOut′} {work} {work′} r p n l v = record {
-  number = n ∙ ap numberOfAnswer (p .answer);
-  place-is = l ∙ ap placeOfAnswer (p .answer);
-  visits-is = v ∙ ap visitsOfAnswer (p .answer);
-  promise = subst (λ a. Promise s masks masks′ liveIn liveIn′ liveOut liveOut′ work work′ a) (p .answer) p;
-}
+doored r p n l v = record { answer = r; number = n; place-is = l; visits-is = v; promise = p }
 
 -- what the reader's answer says of a file that it found fit
 module _ (s : List ℕ) {c : Checked} (h : Header) (e : c ≡ checkedOf (verdict (fileChecks s)) (headerOf s)) (told : c ≡ Fit h) where
@@ -172,14 +162,14 @@ zeros zero x = refl
 zeros (suc n) zero = refl
 zeros (suc n) (suc x) = zeros n x
 
--- a list that was cleared whole, by its length before
-pub cleared-whole : (ws : List ℕ) (n : ℕ) → length ws ≡ n → cleared ws 0 n ≡ replicate n 0
-cleared-whole ws n e = subst (λ k. cleared ws 0 k ≡ replicate k 0) e (cleared-all ws)
+-- a list that was zeroed whole, by its length before
+pub zeroed-whole : (ws : List ℕ) (n : ℕ) → length ws ≡ n → zeroed ws 0 n ≡ replicate n 0
+zeroed-whole ws n e = subst (λ k. zeroed ws 0 k ≡ replicate k 0) e (zeroed-all ws)
 
--- the work area where it is cleared only if b
+-- the work area where it is zeroed only if b
 
-pub unfit-kept : (ws : List ℕ) (b : Bool) → b ≡ false → cond b (cleared ws 0 (length ws)) ws ≡ ws
-unfit-kept ws b e = ap (λ (b : Bool). cond b (cleared ws 0 (length ws)) ws) e
+pub unfit-kept : (ws : List ℕ) (b : Bool) → b ≡ false → cond b (zeroed ws 0 (length ws)) ws ≡ ws
+unfit-kept ws b e = ap (λ (b : Bool). cond b (zeroed ws 0 (length ws)) ws) e
 
-pub fit-zero : (ws : List ℕ) (b : Bool) → b ≡ true → cond b (cleared ws 0 (length ws)) ws ≡ replicate (length ws) 0
-fit-zero ws b e = ap (λ (b : Bool). cond b (cleared ws 0 (length ws)) ws) e ∙ cleared-whole ws (length ws) refl
+pub fit-zero : (ws : List ℕ) (b : Bool) → b ≡ true → cond b (zeroed ws 0 (length ws)) ws ≡ replicate (length ws) 0
+fit-zero ws b e = ap (λ (b : Bool). cond b (zeroed ws 0 (length ws)) ws) e ∙ zeroed-whole ws (length ws) refl

@@ -2,27 +2,29 @@
 -- By the layout of the work area.
 use Prim.Native.Nat.{ℕ, _+_, _/_, _<_, _≤_}
 use mathlib.Core.List.{List}
-use mathlib.Core.Path.{_≡_, sym, ap, _∙_}
+use mathlib.Core.Path.{_≡_, sym, _∙_}
 use native.Mathlib.Omega.{arith}
-use lib.ListN.{length, getD}
-use Rattle.words.specs.Row.{has}
+use lib.ListN.{getD}
+use Rattle.words.specs.contracts.Row.{has}
 use Rattle.words.proofs.Row.{has-cong}
+use Rattle.flow.specs.declared.Header.{Header}
 use Rattle.flow.specs.Flow.{Flow}
-use Rattle.statements.specs.Layout.{callsAt, rowAt, rowWords, queueAt, enteredAt, waitingAt, areaEnd}
-use Rattle.statements.specs.Ready.{Ready, Keeps}
+use Rattle.statements.specs.contracts.Layout.{callsAt, rowAt, queueAt, enteredRowAt}
+use Rattle.statements.specs.contracts.Ready.{Indexed, Keeps}
 use Rattle.statements.proofs.WorkArea.{row-from, row-fits, row-words-le, member-word}
-use Rattle.statements.proofs.Keeps.{keeps-has, ready-keeps}
-use Rattle.calls.specs.Held.{Linked, EnteredRow, EmptyEntered}
+use Rattle.statements.proofs.Keeps.{keeps-has, indexed-keeps}
+use Rattle.calls.specs.contracts.Held.{Linked, EnteredRow, EmptyEntered}
 use Rattle.calls.proofs.Gathered.{summaries-kept}
+use Rattle.solve.specs.contracts.Layout.{waitingAt}
 
 -- the words from the queue on are the solver's
 pub queue-above : (n : ℕ) → n + n + n + n + n ≤ queueAt n
 queue-above n = let h = row-from n n in omega arith
 
-module _ {ws vs : List ℕ} {n hi : ℕ} (k : Keeps (queueAt n) hi ws vs) where
-  pub ready-stays : {s : List ℕ} → Ready s ws n → Ready s vs n
-  ready-stays r = let h = queue-above n in ready-keeps r k (omega arith)
+pub indexed-stays : {s ws vs : List ℕ} {h : Header} {hi : ℕ} → Keeps (queueAt (h .statements)) hi ws vs → Indexed s h ws → Indexed s h vs
+indexed-stays {h = h} k x = let above = queue-above (h .statements) in indexed-keeps x k (omega arith)
 
+module _ {ws vs : List ℕ} {n hi : ℕ} (k : Keeps (queueAt n) hi ws vs) where
   pub linked-stays : {f : Flow} → Linked f ws n → Linked f vs n
   linked-stays {f} x =
       let h = queue-above n in
@@ -35,10 +37,10 @@ module _ {ws vs : List ℕ} {n hi : ℕ} (k : Keeps (queueAt n) hi ws vs) where
       }
 
 -- the row of entered statements goes by its words
-module _ (ws vs : List ℕ) (n : ℕ) (k : (x : ℕ) → enteredAt n ≤ x → x < waitingAt n → getD vs x 0 ≡ getD ws x 0) where
-  entered-has : (j : ℕ) → j < n → has vs (enteredAt n) j ≡ has ws (enteredAt n) j
+module _ (ws vs : List ℕ) (n : ℕ) (k : (x : ℕ) → enteredRowAt n ≤ x → x < waitingAt n → getD vs x 0 ≡ getD ws x 0) where
+  entered-has : (j : ℕ) → j < n → has vs (enteredRowAt n) j ≡ has ws (enteredRowAt n) j
   entered-has j l =
-      has-cong vs ws (enteredAt n) j (k (enteredAt n + j / 64) (omega arith) (let word = member-word l in let few = row-words-le n in omega arith))
+      has-cong vs ws (enteredRowAt n) j (k (enteredRowAt n + j / 64) (omega arith) (let word = member-word l in let few = row-words-le n in omega arith))
 
   pub entered-stays : {f : Flow} {i : ℕ} → EnteredRow f ws n i → EnteredRow f vs n i
   entered-stays x = record { row = λ j e o m l. entered-has m l ∙ x .row j e o m l }

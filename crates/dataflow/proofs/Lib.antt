@@ -12,4 +12,5 @@ pub mod Running
 pub mod NotedRows
 pub mod Phases
 pub mod Promised
+pub mod Told
 pub mod Judging

@@ -8,12 +8,12 @@ use mathlib.Core.Logic.{⊎-elim}
 use mathlib.Core.Path.{_≡_, refl, sym, ap, ap₂, _∙_}
 use lib.Bits.{bitOr}
 use lib.ListN.{length, getD, set}
-use Rattle.words.specs.Byte.{byteOf, byteAt}
+use Rattle.words.specs.contracts.Byte.{byteOf, byteAt}
 use Rattle.words.proofs.Bytes.{byteOf-or}
-use Rattle.flow.specs.Fields.{noted}
+use Rattle.words.specs.contracts.Change.{noted}
 use Rattle.records.proofs.Noting.{length-noted, noted-at, noted-other}
-use Rattle.statements.specs.Layout.{maskRowAt}
-use Rattle.dataflow.specs.Bytes.{bothCopies, joinedWord, notedRows}
+use Rattle.solve.specs.contracts.Layout.{maskRowAt}
+use Rattle.dataflow.specs.contracts.Bytes.{bothCopies, joinedWord, notedRows}
 
 -- m elements noted behind k are k + m elements noted
 pub noted-on : (ws : List ℕ) (base k m : ℕ) (f g : ℕ → ℕ) → ((j : ℕ) → j < m → g j ≡ f (k + j))

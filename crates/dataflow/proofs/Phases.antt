@@ -1,109 +1,102 @@
 -- What each phase hands to the next: the places noted make the area ready, the summaries and the solver keep what the next phase needs, and together they leave what
--- the definitions say. By the laws of what is kept and of what was noted, written and cleared.
+-- the definitions say. By the laws of what is kept and of what was noted, written and zeroed.
 use Prim.Native.Nat.{ℕ, _+_, _-_, _*_, _<_, _≤_}
 use native.Mathlib.Omega.{arith}
 use native.Mathlib.Nat.{zero-add}
 use native.Mathlib.Decide.{decLt}
 use mathlib.Core.List.{List}
-use mathlib.Core.Path.{_≡_, refl, ap, ap₂, sym, _∙_, subst}
+use mathlib.Core.Path.{_≡_, ap, ap₂, sym, _∙_, subst}
 use lib.Bits.{bitOr}
 use lib.ListN.{length, getD}
-use Rattle.words.specs.Byte.{byteAt}
-use Rattle.words.specs.Change.{cleared}
-use Rattle.words.proofs.Cleared.{cleared-word, cleared-other}
+use Rattle.words.specs.contracts.Change.{zeroed}
+use Rattle.words.proofs.Zeroed.{zeroed-word, zeroed-other}
 use Rattle.flow.specs.declared.Header.{Header}
-use Rattle.flow.specs.Limits.{workWords, maxStatements, maxArrays}
-use Rattle.flow.specs.Flow.{Flow, size}
-use Rattle.flow.specs.Format.{flowOf, recordPlace, statementsOf, arraysOf}
-use Rattle.flow.specs.Fields.{noted}
-use Rattle.flow.specs.Answers.{headerOf}
-use Rattle.records.proofs.Files.{limited}
-use Rattle.records.proofs.Noting.{length-noted, noted-at, noted-other}
+use Rattle.flow.specs.Flow.{size}
+use Rattle.flow.specs.Format.{flowOf, recordPlace}
+use Rattle.words.specs.contracts.Change.{noted}
+use Rattle.flow.specs.contracts.Answers.{headerOf}
+use Rattle.records.proofs.Noting.{noted-other}
 use Rattle.records.proofs.Statements.{size-is}
-use Rattle.theory.specs.Masks.{nodeMask, maskOf, visitsOf}
+use Rattle.theory.specs.Masks.{maskLeft}
 use Rattle.theory.specs.Live.{liveInWord, liveOutWord}
-use Rattle.statements.specs.Layout.{callsAt, callTouchedAt, matrixAt, rowAt, queueAt, enteredAt, waitingAt, maskRowAt, areaEnd}
-use Rattle.theory.specs.Body.{callTouches}
-use Rattle.statements.specs.Ready.{Ready, Keeps, MembersWord}
-use Rattle.statements.proofs.Keeps.{keeps-word, keeps-has, keeps-cleared, ready-keeps, ready-most, ready-room}
-use Rattle.statements.proofs.WorkArea.{row-from, row-fits, member-word}
+use Rattle.statements.specs.contracts.Layout.{callsAt, matrixAt, queueAt, enteredRowAt, solverAt, areaEnd}
+use Rattle.statements.specs.contracts.Ready.{Ready, Indexed, Keeps}
+use Rattle.statements.proofs.Noted.{ready-noted}
+use Rattle.statements.proofs.Keeps.{keeps-zeroed, ready-keeps, ready-room, indexed-keeps}
+use Rattle.statements.proofs.WorkArea.{row-from}
 use Rattle.statements.proofs.WellFormed.{arrays-is}
-use Rattle.calls.specs.Held as held
-use Rattle.calls.specs.Held.{Summarized, Linked}
+use Rattle.calls.specs.contracts.Held as held
+use Rattle.calls.specs.contracts.Held.{Summarized, Linked}
 use Rattle.dataflow.specs.Promise.{Written}
-use Rattle.dataflow.specs.Phases.{Fresh, Begun, SolverBlank, Masked, Solved}
-use Rattle.dataflow.specs.Solving as solver
-use Rattle.solve.specs.Pushed.{masksAt}
-use Rattle.dataflow.specs.Bytes.{bothCopies, notedRows}
-use Rattle.dataflow.proofs.Kept.{linked-stays}
+use Rattle.dataflow.specs.contracts.Phases.{FitFlow, SummariesMade, SolverStart, Masked, Findings}
+use Rattle.dataflow.specs.contracts.Solving as solver
+use Rattle.dataflow.specs.contracts.Bytes.{bothCopies, notedRows}
+use Rattle.dataflow.proofs.Kept.{indexed-stays, linked-stays}
 use Rattle.dataflow.proofs.NotedRows.{length-rows, rows-past, rows-at}
 
 module _ {s : List ℕ} {h : Header} where
-  module _ {ws : List ℕ} (fresh : Fresh s h ws) where
+  module _ {ws : List ℕ} (flow-fit : FitFlow s h ws) where
     -- what is noted stands below the calls
     past : (x : ℕ) → h .statements ≤ x → getD (noted ws 0 (h .statements) (recordPlace s)) x 0 ≡ 0
-    past x l = noted-other ws 0 (recordPlace s) (h .statements) x 0 (λ i m e. omega (arith, zero-add i)) ∙ fresh .zero x
+    past x l = noted-other ws 0 (recordPlace s) (h .statements) x 0 (λ i m e. omega (arith, zero-add i)) ∙ flow-fit .zero x
 
     pub room-fits : 0 + h .statements ≤ length ws
-    room-fits = omega (arith, fresh .work-room)
+    room-fits = omega (arith, flow-fit .work-room)
 
-    pub noted-ready : {vs : List ℕ} → vs ≡ noted ws 0 (h .statements) (recordPlace s) → Ready s vs (h .statements)
-    noted-ready {vs} e = record {
-      fit = fresh .fit;
-      count = ap (λ (x : Header). x .statements) (fresh .header);
-      room = subst (λ l. workWords (h .statements) ≤ length l) (sym e)
-          (subst (λ k. workWords (h .statements) ≤ k) (sym (length-noted ws 0 (recordPlace s) (h .statements))) (fresh .work-room));
-      offsets = λ i l. ap (λ v. getD v (0 + i) 0) e ∙ noted-at ws 0 (recordPlace s) (h .statements) i 0 l room-fits;
-    }
+    noted-ready : {vs : List ℕ} → vs ≡ noted ws 0 (h .statements) (recordPlace s) → Ready s vs (h .statements)
+    noted-ready = ready-noted ws (flow-fit .fit) (ap (λ (x : Header). x .statements) (flow-fit .header)) (flow-fit .work-room)
 
-    pub noted-fresh : {vs : List ℕ} → vs ≡ noted ws 0 (h .statements) (recordPlace s) → held.Fresh vs (h .statements)
-    noted-fresh e = record { words = λ x l m. ap (λ v. getD v x 0) e ∙ past x l }
+    pub noted-indexed : {vs : List ℕ} → vs ≡ noted ws 0 (h .statements) (recordPlace s) → Indexed s h vs
+    noted-indexed e = record { ready = noted-ready e; header = flow-fit .header }
+
+    pub no-summaries : {vs : List ℕ} → vs ≡ noted ws 0 (h .statements) (recordPlace s) → held.NoSummaries vs (h .statements)
+    no-summaries e = record { words = λ x l m. ap (λ v. getD v x 0) e ∙ past x l }
 
     pub summed : {vs us : List ℕ} → vs ≡ noted ws 0 (h .statements) (recordPlace s) → Summarized (flowOf s) us (h .statements)
-        → Keeps (callsAt (h .statements)) (enteredAt (h .statements)) vs us → Begun s h us
+        → Keeps (callsAt (h .statements)) (enteredRowAt (h .statements)) vs us → SummariesMade s h us
     summed e m k = record {
-      ready = ready-keeps (noted-ready e) k (omega arith);
+      indexed = indexed-keeps (noted-indexed e) k (omega arith);
       summarized = m;
       zero = λ x l b. k .above x l ∙ ap (λ v. getD v x 0) e ∙ past x (omega (arith, row-from (h .statements) (h .statements)));
     }
 
--- with the words of the queue and of the row of entered statements cleared, the forward solver can begin
-pub linked : {s : List ℕ} {h : Header} {ws vs us : List ℕ} → Begun s h ws → h ≡ headerOf s → 0 < h .statements
-    → Linked (flowOf s) vs (h .statements) → Keeps (matrixAt (h .statements)) (waitingAt (h .statements)) ws vs
-    → us ≡ cleared vs (queueAt (h .statements)) (3 * h .statements) → SolverBlank s h us
-linked {s} {h} {ws} {vs} {us} begun e some l k c =
-    subst (SolverBlank s h) (sym c)
+-- with the words of the queue and of the row of entered statements zeroed, the forward solver can begin
+pub linked : {s : List ℕ} {h : Header} {ws vs us : List ℕ} → SummariesMade s h ws → 0 < h .statements
+    → Linked (flowOf s) vs (h .statements) → Keeps (matrixAt (h .statements)) (solverAt (h .statements)) ws vs
+    → us ≡ zeroed vs (queueAt (h .statements)) (solverAt (h .statements) - queueAt (h .statements)) → SolverStart s h us
+linked {s} {h} {ws} {vs} {us} begun some l k c =
+    subst (SolverStart s h) (sym c)
     (record {
-      ready = ready-keeps ready′ clears (omega (arith, row-from (h .statements) (h .statements)));
-      header = e;
-      linked = linked-stays clears l;
+      indexed = indexed-stays resets indexed′;
+      linked = linked-stays resets l;
       some = some;
-      zero = λ x a b. zeros x a b (decLt x (waitingAt (h .statements)));
+      zero = λ x a b. zeros x a b (decLt x (solverAt (h .statements)));
     })
   where
-    ready′ : Ready s vs (h .statements)
-    ready′ = ready-keeps (begun .ready) k (omega arith)
+    indexed′ : Indexed s h vs
+    indexed′ = indexed-keeps (begun .indexed) k (omega arith)
 
-    clears : Keeps (queueAt (h .statements)) (waitingAt (h .statements)) vs (cleared vs (queueAt (h .statements)) (3 * h .statements))
-    clears = keeps-cleared vs (queueAt (h .statements)) (3 * h .statements) (omega arith) (omega arith)
+    resets : Keeps (queueAt (h .statements)) (solverAt (h .statements)) vs (zeroed vs (queueAt (h .statements)) (solverAt (h .statements) - queueAt (h .statements)))
+    resets = keeps-zeroed vs (queueAt (h .statements)) (solverAt (h .statements) - queueAt (h .statements)) (omega arith) (omega arith)
 
-    zeros : (x : ℕ) → queueAt (h .statements) ≤ x → x < areaEnd (h .statements) → Dec (x < waitingAt (h .statements)) → getD (cleared vs (queueAt (h .statements)) (3 * h .statements)) x 0 ≡ 0
+    zeros : (x : ℕ) → queueAt (h .statements) ≤ x → x < areaEnd (h .statements) → Dec (x < solverAt (h .statements)) → getD (zeroed vs (queueAt (h .statements)) (solverAt (h .statements) - queueAt (h .statements))) x 0 ≡ 0
     zeros x a b (yes m) =
-        subst (λ y. getD (cleared vs (queueAt (h .statements)) (3 * h .statements)) y 0 ≡ 0) (omega arith)
-        (cleared-word vs (queueAt (h .statements)) (3 * h .statements) (omega (arith, ready-room ready′ some)) (x - queueAt (h .statements)) (omega arith))
+        subst (λ y. getD (zeroed vs (queueAt (h .statements)) (solverAt (h .statements) - queueAt (h .statements))) y 0 ≡ 0) (omega arith)
+        (zeroed-word vs (queueAt (h .statements)) (solverAt (h .statements) - queueAt (h .statements)) (omega (arith, ready-room (indexed′ .ready) some)) (x - queueAt (h .statements)) (omega arith))
     zeros x a b (no m) =
-        cleared-other vs (queueAt (h .statements)) (3 * h .statements) x (λ j y z. m (omega arith)) ∙ k .above x (omega (arith, m)) ∙ begun .zero x (omega (arith, m)) b
+        zeroed-other vs (queueAt (h .statements)) (solverAt (h .statements) - queueAt (h .statements)) x (λ j y z. m (omega arith)) ∙ k .above x (omega (arith, m)) ∙ begun .zero x (omega (arith, m)) b
 
 -- the rows of the two copies are the masks of the statement
-pub masked : {s : List ℕ} {h : Header} {ws vs masks masks′ : List ℕ} {visits : ℕ} → SolverBlank s h ws
+pub masked : {s : List ℕ} {h : Header} {ws vs masks masks′ : List ℕ} {visits : ℕ} → SolverStart s h ws
     → h .statements * h .arrays ≤ length masks
-    → solver.Solved (flowOf s) ws vs (h .statements) visits
+    → solver.RuleResult (flowOf s) ws vs (h .statements) visits
     → masks′ ≡ notedRows masks (h .arrays) (bothCopies vs (h .statements)) (h .statements)
     → Masked s h masks masks′ vs visits
-unfolding bothCopies maskOf
+unfolding bothCopies maskLeft
 masked {s} {h} {ws} {vs} {masks} {masks′} {visits} blank room solved e = record {
-  ready = ready-keeps (blank .ready) (solved .keeps) (omega (arith, row-from (h .statements) (h .statements)));
-  visited = solved .count;
+  ready = ready-keeps (blank .indexed .ready) (solved .keeps) (omega (arith, row-from (h .statements) (h .statements)));
+  left = solved .left;
+  over = solved .over;
   bytes = λ i a l m.
       ap (λ v. getD v (i * h .arrays + a) 0) e
       ∙ rows-at masks (h .arrays) (bothCopies vs (h .statements)) (h .statements) i a l m room
@@ -113,17 +106,17 @@ masked {s} {h} {ws} {vs} {masks} {masks′} {visits} blank room solved e = recor
 }
   where
     sizes : size (flowOf s) ≡ h .statements
-    sizes = size-is s ∙ ap (λ (x : Header). x .statements) (sym (blank .header))
+    sizes = size-is s ∙ ap (λ (x : Header). x .statements) (sym (blank .indexed .header))
 
     arrays′ : h .arrays ≡ flowOf s .arrays
-    arrays′ = ap (λ (x : Header). x .arrays) (blank .header) ∙ sym (arrays-is s)
+    arrays′ = ap (λ (x : Header). x .arrays) (blank .indexed .header) ∙ sym (arrays-is s)
 
-    joined : (i a : ℕ) → i < h .statements → a < h .arrays → bothCopies vs (h .statements) i a ≡ maskOf (flowOf s) i a
+    joined : (i a : ℕ) → i < h .statements → a < h .arrays → bothCopies vs (h .statements) i a ≡ maskLeft (flowOf s) (solved .left) i a
     joined i a l m =
         let b : a < flowOf s .arrays = omega (arith, arrays′) in
         ap₂ bitOr
-        (solved .masks i a (omega arith) b ∙ ap (λ d. nodeMask (flowOf s) d a) (sym (zero-add i)))
-        (solved .masks (h .statements + i) a (omega arith) b ∙ ap (λ k. nodeMask (flowOf s) (k + i) a) (sym sizes))
+        (solved .masks i a (omega arith) b ∙ ap (λ d. solved .left .masks d a) (sym (zero-add i)))
+        (solved .masks (h .statements + i) a (omega arith) b ∙ ap (λ k. solved .left .masks (k + i) a) (sym sizes))
 
 pub wrote : {n : ℕ} {f : ℕ → ℕ} {ws vs : List ℕ} → ((i : ℕ) → i < n → getD vs i 0 ≡ f i) → Keeps 0 n ws vs → Written n f ws vs
 wrote w k = record { size = k .size; written = w; kept = k .above }
@@ -133,14 +126,15 @@ pub solved : {s : List ℕ} {h : Header} {masks masks′ liveIn liveIn′ liveOu
     → Masked s h masks masks′ vs visits
     → Written (h .statements) (liveInWord (flowOf s)) liveIn liveIn′
     → Written (h .statements) (liveOutWord (flowOf s)) liveOut liveOut′
-    → Solved (flowOf s) masks masks′ liveIn liveIn′ liveOut liveOut′ visits
+    → Findings (flowOf s) masks masks′ liveIn liveIn′ liveOut liveOut′ visits
 solved {s} {h} {masks} {masks′} {liveIn} {liveIn′} {liveOut} {liveOut′} e m i o = record {
+  left = m .left;
+  over = m .over;
   mask-bytes = λ j a l b. ap (λ k. getD masks′ (j * k + a) 0) arrays′ ∙ m .bytes j a (omega (arith, sizes)) (omega (arith, arrays′));
   masks-size = m .masks-size;
   masks-kept = λ x l. m .masks-kept x (subst (λ k. k * h .arrays ≤ x) sizes (subst (λ k. size (flowOf s) * k ≤ x) arrays′ l));
   live-in = subst (λ k. Written k (liveInWord (flowOf s)) liveIn liveIn′) (sym sizes) i;
   live-out = subst (λ k. Written k (liveOutWord (flowOf s)) liveOut liveOut′) (sym sizes) o;
-  count = m .visited;
 }
   where
     sizes : size (flowOf s) ≡ h .statements

@@ -3,7 +3,6 @@
 use Prim.Native.Nat.{ℕ, _+_, _*_, _/_, _%_, _^_, _<_, _≤_}
 use mathlib.Core.Bool.{Bool, false, cond}
 use mathlib.Core.List.{List, [], _∷_}
-use mathlib.Core.Logic.{_≢_}
 use mathlib.Core.Path.{_≡_, refl, sym, ap, ap₂, subst, _∙_}
 use native.Mathlib.Decide.{decLt, ℕ-discrete}
 use native.Mathlib.Nat.{zero-add, zero-div}
@@ -11,40 +10,40 @@ use native.Mathlib.Omega.{arith}
 use borrow.Author.Tests.{eq-eqb, ne-eqb}
 use lib.Dec.{eqb, ltb}
 use lib.ListN.{length, getD}
-use Rattle.words.specs.Byte.{byteAt, byteOf}
+use Rattle.words.specs.contracts.Byte.{byteAt, byteOf}
 use Rattle.words.proofs.Bytes.{byte-cong}
-use Rattle.masks.specs.declared.Effect.the-variants.{Clear}
+use Rattle.masks.specs.declared.Effect.the-variants.{Reset}
 use Rattle.flow.specs.Flow.{Flow, size}
 use Rattle.flow.specs.Limits.{maxArrays}
-use Rattle.theory.specs.Lists.{has}
+use Rattle.theory.specs.Lists.{elem}
 use Rattle.theory.specs.Doubled.{doubled, boundary}
-use Rattle.theory.specs.Queue.{Graph, Solver, join, pulled, initial, visit, visitBound, solved}
-use Rattle.theory.specs.Masks.{nodeMask, visitsOf}
-use Rattle.theory.specs.WellFormed.{WellFormed}
+use Rattle.theory.specs.Queue.{Graph, begins, next-visit, Over, pulled, initial, visit, visitBound}
+use Rattle.theory.specs.contracts.WellFormed.{WellFormed}
 use Rattle.theory.proofs.Lists.{clash}
 use Rattle.theory.proofs.Terms.{doubled-well-formed}
-use Rattle.theory.proofs.Ends.{RuleState, rule-starts, rule-visits, rule-keeps, rule-bound, rule-ends, potential}
+use Rattle.theory.proofs.Ends.{course-keeps, course-bound, potential}
 use Rattle.theory.proofs.Exact.{pulled-held}
 use Rattle.theory.proofs.Push.{pulled-first}
-use Rattle.statements.specs.Layout.{maskWords, queueAt, enteredAt, waitingAt, visitedAt, grownAt, maskRowAt, areaEnd}
-use Rattle.statements.specs.Ready.{Keeps}
+use Rattle.statements.specs.contracts.Layout.{queueAt, enteredRowAt, areaEnd}
+use Rattle.statements.specs.contracts.Ready.{Keeps}
 use Rattle.statements.proofs.WorkArea.{member-word, row-words-le}
 use Rattle.statements.proofs.Keeps.{keeps-refl, keeps-trans, keeps-widen}
 use Rattle.statements.proofs.Members.{zero-has}
-use Rattle.calls.specs.Held.{EmptyEntered}
+use Rattle.calls.specs.contracts.Held.{EmptyEntered}
 use Rattle.solve.specs.declared.Queue.{Queue}
-use Rattle.solve.specs.Rows.{RowIs, stepWhere}
-use Rattle.solve.specs.Waiting.{Waits, Enqueued}
-use Rattle.solve.specs.Pushed.{masksAt}
+use Rattle.solve.specs.contracts.Layout.{visitedAt, maskRowAt}
+use Rattle.solve.specs.contracts.Rows.{RowIs, stepWhere}
+use Rattle.solve.specs.contracts.Waiting.{Waits, Enqueued}
+use Rattle.solve.specs.contracts.Pushed.{masksAt}
 use Rattle.solve.proofs.Waiting.{rest-keeps, waits-none}
-use Rattle.dataflow.specs.Sent.{masksBelow}
-use Rattle.dataflow.specs.Solving.{Solving, Underway, VisitsFront, Unused, Solved}
+use Rattle.dataflow.specs.contracts.Sent.{masksBelow}
+use Rattle.dataflow.specs.contracts.Solving.{Underway, VisitsFront, Unused, RuleResult}
 use Rattle.dataflow.proofs.Unions.{cond-zero}
 use Rattle.dataflow.proofs.Visiting.{nodes-are, arrays-are, below-at}
 
 pub record Running (f : Flow) (n : ℕ) (ws₀ ws : List ℕ) (queue : Queue) (visits : ℕ) : Type 0 where
   pub underway : Underway f ws n queue
-  pub counted : visits ≡ underway .state .visits
+  pub counted : visits ≡ underway .count
   pub keeps : Keeps (queueAt n) (areaEnd n) ws₀ ws
 
 -- The start
@@ -61,7 +60,7 @@ abbrev pub nothing : Queue
 nothing = record { head = 0; len = 0 }
 
 module _ (f : Flow) (n : ℕ) (ws us : List ℕ) (entry count row : ℕ) (sized : size f ≡ n) (some : 0 < n) (unused : Unused ws n) (first : entry ≡ f .entry) (below : entry < n)
-    (all : count ≡ f .arrays) (place : row ≡ maskRowAt n entry) (entered : RowIs ws us row (stepWhere (λ b. ltb b count) Clear (byteAt ws row))) where
+    (all : count ≡ f .arrays) (place : row ≡ maskRowAt n entry) (entered : RowIs ws us row (stepWhere (λ b. ltb b count) Reset (byteAt ws row))) where
   abbrev g : Graph
   g = doubled f
 
@@ -80,7 +79,7 @@ module _ (f : Flow) (n : ℕ) (ws us : List ℕ) (entry count row : ℕ) (sized 
     entry-is = zero-add (f .entry) ∙ sym first
 
     waits : Waits vs n r (initial g .waiting)
-    unfolding initial doubled has
+    unfolding initial doubled elem
     waits =
         subst (λ (l : List ℕ). Waits vs n r l)
         (ap (λ (e : ℕ). e ∷ []) (sym entry-is) ∙ sym (ap (λ (b : Bool). cond b [] (g .entry ∷ [])) (ne-eqb (size f + size f) 0 (λ e. omega arith))))
@@ -116,23 +115,24 @@ module _ (f : Flow) (n : ℕ) (ws us : List ℕ) (entry count row : ℕ) (sized 
 
     empty : EmptyEntered vs n
     empty j l =
-        zero-has vs (enteredAt n) j
+        zero-has vs (enteredRowAt n) j
         (let word = member-word l in
         let few = row-words-le n in
-        q .kept .between (enteredAt n + j / 64) (omega arith) (omega arith) ∙ low (enteredAt n + j / 64) (omega arith) ∙ unused (enteredAt n + j / 64) (omega arith) (omega arith))
+        q .kept .between (enteredRowAt n + j / 64) (omega arith) (omega arith) ∙ low (enteredRowAt n + j / 64) (omega arith) ∙ unused (enteredRowAt n + j / 64) (omega arith) (omega arith))
 
     pub starts : Running f n vs vs r 0
     unfolding initial
     starts = record {
       underway = record {
+        count = 0;
         state = initial g;
-        rule = rule-starts g;
+        course = begins;
         solving = record {
           waits = waits;
           visited = λ d l. zero-below (visitedAt n + d) (omega arith) (omega arith);
           masks = masks;
           grown = λ d l v. clash false v refl;
-          entered = empty;
+          entered-row = empty;
         };
       };
       counted = refl;
@@ -148,7 +148,12 @@ pub running-on : {f : Flow} {n : ℕ} {ws₀ ws vs : List ℕ} {queue r : Queue}
     → Keeps (queueAt n) (areaEnd n) ws vs → Running f n ws₀ vs r (visits + 1)
 unfolding visit
 running-on visits x y k = record {
-  underway = record { state = visit (doubled _) (x .underway .state) (y .front) (y .behind); rule = rule-visits (x .underway .rule) (y .waiting); solving = y .solving };
+  underway = record {
+    count = x .underway .count + 1;
+    state = visit (doubled _) (x .underway .state) (y .front) (y .behind);
+    course = next-visit (x .underway .course) (y .waiting);
+    solving = y .solving;
+  };
   counted = ap (λ (v : ℕ). v + 1) (x .counted);
   keeps = keeps-trans (x .keeps) k;
 }
@@ -158,19 +163,18 @@ module _ {f : Flow} (wf : WellFormed f) {n : ℕ} (sized : size f ≡ n) (some :
   pub running-bound : visits + queue .len ≤ visitBound (doubled f)
   unfolding potential
   running-bound =
-      let bound = rule-bound (doubled-well-formed f wf) (x .underway .rule) in
+      let bound = course-bound (doubled-well-formed f wf) (x .underway .course) in
       let count = x .underway .solving .waits .count in
       let counted = x .counted in
       omega arith
 
-  pub running-ends : queue .len ≡ 0 → Solved f ws₀ ws n visits
-  unfolding visitsOf nodeMask
+  pub running-ends : queue .len ≡ 0 → RuleResult f ws₀ ws n visits
   running-ends e = record {
-    count = x .counted ∙ ap (λ (s : Solver). s .visits) last;
+    left = x .underway .state;
+    over = subst (λ (k : ℕ). Over (doubled f) k (x .underway .state)) (sym (x .counted)) (record { course = x .underway .course; nothing-waits = still });
     masks = λ d a l m.
         x .underway .solving .masks d a l (omega arith) ∙ below-at (f .arrays) (pulled (doubled f) (x .underway .state) d) m
-        ∙ pulled-held (doubled f) (x .underway .state) (rule-keeps (doubled-well-formed f wf) (x .underway .rule)) still nodes (doubled-well-formed f wf) d a (subst (λ (k : ℕ). a < k) (sym (arrays-are f)) m)
-        ∙ ap (λ (s : Solver). s .masks d a) last;
+        ∙ pulled-held (doubled f) (x .underway .state) (course-keeps (doubled-well-formed f wf) (x .underway .course)) still nodes (doubled-well-formed f wf) d a (subst (λ (k : ℕ). a < k) (sym (arrays-are f)) m);
     keeps = x .keeps;
   }
     where
@@ -180,9 +184,6 @@ module _ {f : Flow} (wf : WellFormed f) {n : ℕ} (sized : size f ≡ n) (some :
 
       still : x .underway .state .waiting ≡ []
       still = empty (x .underway .state .waiting) (sym e ∙ x .underway .solving .waits .count)
-
-      last : x .underway .state ≡ solved (doubled f)
-      last = rule-ends (doubled-well-formed f wf) (x .underway .rule) still
 
       nodes : 0 < doubled f .nodes
       nodes = omega (arith, nodes-are f)

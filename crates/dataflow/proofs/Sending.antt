@@ -1,38 +1,38 @@
 -- The edges of a number gone through one after the other: what is left to push, with what was pushed, is what there was to push.
 -- A union taken edge by edge is the union of all; the rows of the edges are not written on the way.
-use Prim.Native.Nat.{ℕ, _+_, _*_, _/_, _≤_, _<_}
-use mathlib.Core.Bool.{Bool, true, false, cond, _||_}
-use mathlib.Core.List.{List, [], map, List·Memᴰ·tail, List·Memᴰ·not-nil}
-use mathlib.Core.Logic.{_≢_}
-use mathlib.Core.Option.{none, some}
+use Prim.Native.Nat.{ℕ, _+_, _*_, _≤_, _<_}
+use mathlib.Core.Bool.{Bool, true, false, cond}
+use mathlib.Core.List.{List, [], map}
 use mathlib.Core.Path.{_≡_, refl, sym, ap, ap₂, subst, _∙_}
 use native.Mathlib.Decide.{ℕ-discrete}
 use native.Mathlib.Omega.{arith}
 use borrow.Author.Tests.{eq-eqb, ne-eqb}
-use lib.Bits.{bitOr, or-self, or-zero-l, or-zero-r}
+use lib.Bits.{bitOr, or-self, or-zero-r}
 use lib.Dec.{eqb}
-use lib.ListN.{length, getD, drop}
-use Rattle.words.specs.Byte.{byteAt}
+use lib.ListN.{getD, drop}
+use Rattle.words.specs.contracts.Byte.{byteAt}
+use Rattle.words.proofs.Bytes.{byte-cong}
 use Rattle.flow.specs.declared.NodeId.{NodeId}
 use Rattle.flow.specs.Flow.{Flow, size}
 use Rattle.flow.specs.Limits.{maxArrays}
-use Rattle.theory.specs.Lists.{has}
-use Rattle.theory.specs.Queue.{Arc, join, enqueue, brings}
-use Rattle.theory.specs.Doubled.{Node, Edge, node, number, doubled}
-use Rattle.theory.specs.WellFormed.{WellFormed}
-use Rattle.theory.proofs.Push.{differ, differ-chain}
-use Rattle.statements.specs.Layout.{queueAt, enteredAt, waitingAt, visitedAt, grownAt, areaEnd}
-use Rattle.statements.specs.Ready.{Keeps}
+use Rattle.theory.specs.Lists.{differ}
+use Rattle.theory.specs.Queue.{Arc, join, enqueue}
+use Rattle.theory.specs.Doubled.{Edge, node, number}
+use Rattle.theory.specs.contracts.WellFormed.{WellFormed}
+use Rattle.theory.proofs.Push.{differ-chain}
+use Rattle.statements.specs.contracts.Layout.{queueAt, enteredRowAt, areaEnd}
+use Rattle.statements.specs.contracts.Ready.{Keeps}
 use Rattle.statements.proofs.Keeps.{keeps-refl, keeps-trans}
-use Rattle.calls.specs.Slots.{slots, present, toArc}
+use Rattle.calls.specs.contracts.Slots.{slots, present, toArc}
 use Rattle.calls.proofs.Cursor.{NextEdge}
 use Rattle.calls.proofs.Slots.{enqueue-slots, or-assoc}
 use Rattle.calls.proofs.Next.{next-below}
 use Rattle.solve.specs.declared.Queue.{Queue}
-use Rattle.solve.specs.Waiting.{Waits}
-use Rattle.solve.specs.Pushed.{masksAt, Pushed}
+use Rattle.solve.specs.contracts.Layout.{waitingAt, grownAt, outRow}
+use Rattle.solve.specs.contracts.Waiting.{Waits}
+use Rattle.solve.specs.contracts.Pushed.{masksAt, Pushed}
 use Rattle.solve.proofs.Growing.{differ-as}
-use Rattle.dataflow.specs.Sent.{edgeRow, carried, GrownWords, SameVisited, Sent}
+use Rattle.dataflow.specs.contracts.Sent.{edgeRow, carried, GrownWords, SameVisited, Sent}
 use Rattle.dataflow.proofs.Unions.{or-between, differ-self, cond-or}
 
 -- the edges of d from a cursor on
@@ -51,10 +51,10 @@ pub record Sending (f : Flow) (ws₀ : List ℕ) (n : ℕ) (queue₀ : Queue) (d
   pub masks : (t a : ℕ) → t < 2 * n → a < maxArrays
       → bitOr (masksAt ws n t a) (carried f ws₀ n (edgesFrom f d cursor) t a) ≡ bitOr (masksAt ws₀ n t a) (carried f ws₀ n (edgesFrom f d 0) t a)
   pub grows : (t a : ℕ) → t < 2 * n → a < maxArrays → bitOr (masksAt ws₀ n t a) (masksAt ws n t a) ≡ masksAt ws n t a
-  pub rows : (c : Bool) (a : ℕ) → a < maxArrays → masksAt ws n (edgeRow n c) a ≡ masksAt ws₀ n (edgeRow n c) a
+  pub rows : (x : ℕ) → outRow n ≤ x → getD ws x 0 ≡ getD ws₀ x 0
   pub grown : GrownWords n ws₀ ws
   pub visited : SameVisited n ws₀ ws
-  pub entered : (x : ℕ) → enteredAt n ≤ x → x < waitingAt n → getD ws x 0 ≡ getD ws₀ x 0
+  pub entered-row : (x : ℕ) → enteredRowAt n ≤ x → x < waitingAt n → getD ws x 0 ≡ getD ws₀ x 0
   pub keeps : Keeps (queueAt n) (areaEnd n) ws₀ ws
 
 pub sending-none : (f : Flow) (ws : List ℕ) (n : ℕ) (queue : Queue) (d : ℕ) → Sending f ws n queue d ws queue 0
@@ -62,10 +62,10 @@ sending-none f ws n queue d = record {
   waits = λ w h. (w, h, refl);
   masks = λ t a l m. refl;
   grows = λ t a l m. or-self (masksAt ws n t a);
-  rows = λ c a l. refl;
+  rows = λ x l. refl;
   grown = λ t l. sym (ap (λ (b : Bool). cond b 1 (getD ws (grownAt n + t) 0)) (differ-self maxArrays (masksAt ws n t)));
   visited = λ x l h. refl;
-  entered = λ x l h. refl;
+  entered-row = λ x l h. refl;
   keeps = keeps-refl;
 }
 
@@ -73,11 +73,11 @@ module _ {f : Flow} {ws₀ : List ℕ} {n : ℕ} {queue₀ : Queue} {d : ℕ} {w
     (s : Sending f ws₀ n queue₀ d ws queue cursor) (x : NextEdge f (slots f (node f d)) cursor t c next) (below : t .0 < 2 * n) (p : Pushed ws vs n queue (edgeRow n c) (t .0) r) where
   -- what this edge brings to u
   abbrev one : ℕ → ℕ → ℕ
-  one u a = cond (eqb (number f (x .edge .to)) u) (masksAt ws₀ n (edgeRow n (x .edge .continues)) a) 0
+  one u a = cond (eqb (number f (x .edge .to)) u) (byteAt ws₀ (edgeRow n (x .edge .continues)) a) 0
 
-  apart : (b : Bool) → edgeRow n b ≢ t .0
-  apart true e = omega arith
-  apart false e = omega arith
+  same-row : (b : Bool) (a : ℕ) → byteAt ws (edgeRow n b) a ≡ byteAt ws₀ (edgeRow n b) a
+  same-row true a = byte-cong ws ws₀ (edgeRow n true) a (s .rows _ (omega arith))
+  same-row false a = byte-cong ws ws₀ (edgeRow n false) a (s .rows _ (omega arith))
 
   joined-mask : (u a : ℕ) → a < maxArrays → masksAt vs n u a ≡ bitOr (masksAt ws n u a) (one u a)
   joined-mask u a l = at (ℕ-discrete u (t .0))
@@ -86,11 +86,11 @@ module _ {f : Flow} {ws₀ : List ℕ} {n : ℕ} {queue₀ : Queue} {d : ℕ} {w
       at (yes e) =
           ap (λ (y : ℕ). masksAt vs n y a) e ∙ p .grown .masks a l
           ∙ ap₂ bitOr (ap (λ (y : ℕ). masksAt ws n y a) (sym e))
-          (ap (λ (b : Bool). masksAt ws n (edgeRow n b) a) (x .step) ∙ s .rows (x .edge .continues) a l
-          ∙ sym (ap (λ (b : Bool). cond b (masksAt ws₀ n (edgeRow n (x .edge .continues)) a) 0) (eq-eqb (number f (x .edge .to)) u (sym (x .target) ∙ sym e))))
+          (ap (λ (b : Bool). byteAt ws (edgeRow n b) a) (x .step) ∙ same-row (x .edge .continues) a
+          ∙ sym (ap (λ (b : Bool). cond b (byteAt ws₀ (edgeRow n (x .edge .continues)) a) 0) (eq-eqb (number f (x .edge .to)) u (sym (x .target) ∙ sym e))))
       at (no ne) =
           p .grown .others u a ne l ∙ sym (or-zero-r (masksAt ws n u a))
-          ∙ sym (ap (λ (b : Bool). bitOr (masksAt ws n u a) (cond b (masksAt ws₀ n (edgeRow n (x .edge .continues)) a) 0)) (ne-eqb (number f (x .edge .to)) u (λ e. ne (sym e ∙ sym (x .target)))))
+          ∙ sym (ap (λ (b : Bool). bitOr (masksAt ws n u a) (cond b (byteAt ws₀ (edgeRow n (x .edge .continues)) a) 0)) (ne-eqb (number f (x .edge .to)) u (λ e. ne (sym e ∙ sym (x .target)))))
 
   carried-first : (u a : ℕ) → carried f ws₀ n (edgesFrom f d cursor) u a ≡ bitOr (one u a) (carried f ws₀ n (edgesFrom f d next) u a)
   unfolding carried
@@ -147,10 +147,10 @@ module _ {f : Flow} {ws₀ : List ℕ} {n : ℕ} {queue₀ : Queue} {d : ℕ} {w
     waits = waits-more;
     masks = masks-more;
     grows = grows-more;
-    rows = λ b a l. p .grown .others (edgeRow n b) a (apart b) l ∙ s .rows b a l;
+    rows = λ y l. p .grown .edge-rows y l ∙ s .rows y l;
     grown = grown-more;
     visited = λ y l h. p .visited y l h ∙ s .visited y l h;
-    entered = λ y l h. p .entered y l h ∙ s .entered y l h;
+    entered-row = λ y l h. p .entered-row y l h ∙ s .entered-row y l h;
     keeps = keeps-trans (s .keeps) (p .keeps);
   }
 
@@ -166,6 +166,6 @@ sending-all {f} {ws₀} {n} {queue₀} {d} {ws} {queue} {cursor} s e = record {
       sym (or-zero-r (masksAt ws n t a)) ∙ sym (ap (λ (l : List Edge). bitOr (masksAt ws n t a) (carried f ws₀ n l t a)) e) ∙ s .masks t a l m;
   grown = s .grown;
   visited = s .visited;
-  entered = s .entered;
+  entered-row = s .entered-row;
   keeps = s .keeps;
 }

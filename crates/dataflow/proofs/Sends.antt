@@ -1,6 +1,6 @@
 -- One number sends its masks on: its edges' rows are made, pushed along the edges, and the row of entered statements is empty again.
 -- What is beside the solver's state does not count, so what was pushed is what the doubled graph's edges bring.
-use Prim.Native.Nat.{ℕ, _+_, _*_, _<_, _≤_}
+use Prim.Native.Nat.{ℕ, _+_, _*_, _<_}
 use mathlib.Core.Bool.{Bool, true, false, cond}
 use mathlib.Core.List.{List}
 use mathlib.Core.Option.{some}
@@ -8,7 +8,7 @@ use mathlib.Core.Path.{_≡_, refl, sym, ap, ap₂, subst, _∙_}
 use native.Mathlib.Omega.{arith}
 use lib.Bits.{bitOr}
 use lib.Dec.{ltb}
-use lib.ListN.{length, getD}
+use lib.ListN.{getD}
 use Rattle.masks.specs.declared.Effect.the-variants.{Touched}
 use Rattle.flow.specs.Flow.{Flow}
 use Rattle.flow.specs.Limits.{maxArrays}
@@ -16,22 +16,22 @@ use Rattle.theory.specs.Lists.{In}
 use Rattle.theory.specs.Body.{kind, continuationOf, opaqueCall, callTouches}
 use Rattle.theory.specs.Doubled.{Edge, node, edges, statementEffects, edgeEffects, doubled}
 use Rattle.theory.specs.Queue.{stepAll, brings}
-use Rattle.theory.proofs.Push.{differ}
-use Rattle.statements.specs.Layout.{enteredAt, waitingAt, visitedAt, grownAt, callTouchedAt, maskRowAt, outRow, backRow, areaEnd}
-use Rattle.statements.specs.Ready.{Keeps, MembersWord}
+use Rattle.statements.specs.contracts.Layout.{enteredRowAt, callTouchedAt}
+use Rattle.statements.specs.contracts.Ready.{Keeps, MembersWord}
 use Rattle.statements.proofs.Keeps.{keeps-trans}
-use Rattle.words.specs.Byte.{byteAt}
+use Rattle.words.specs.contracts.Byte.{byteAt}
 use Rattle.words.proofs.Bytes.{byte-cong}
-use Rattle.calls.specs.Held.{EmptyEntered}
-use Rattle.calls.specs.Slots.{slots, present}
+use Rattle.calls.specs.contracts.Held.{EmptyEntered}
+use Rattle.calls.specs.contracts.Slots.{slots, present}
 use Rattle.calls.proofs.Slots.{slot-edge, brings-slots}
 use Rattle.calls.proofs.Next.{plain-edge}
 use Rattle.solve.specs.declared.Queue.{Queue}
-use Rattle.solve.specs.Rows.{RowIs, stepWhere, memberBelow}
-use Rattle.solve.specs.Pushed.{masksAt}
+use Rattle.solve.specs.contracts.Layout.{waitingAt, maskRowAt, outRow, backRow}
+use Rattle.solve.specs.contracts.Rows.{RowIs, stepWhere, memberBelow}
+use Rattle.solve.specs.contracts.Pushed.{masksAt}
 use Rattle.solve.proofs.Growing.{differ-as}
-use Rattle.dataflow.specs.Transfer.{acted}
-use Rattle.dataflow.specs.Sent.{edgeRow, carried, masksBelow, Sent, Sends}
+use Rattle.dataflow.specs.contracts.Transfer.{acted}
+use Rattle.dataflow.specs.contracts.Sent.{edgeRow, masksBelow, Sent, Sends}
 use Rattle.dataflow.proofs.Aside.{Aside, aside-trans, aside-row, aside-entered, aside-waits, aside-masks, aside-visited, aside-grown}
 use Rattle.dataflow.proofs.EdgeRows.{act-row, back-row, carried-brings}
 
@@ -39,12 +39,12 @@ use Rattle.dataflow.proofs.EdgeRows.{act-row, back-row, carried-brings}
 pub record Prepared (f : Flow) (ws us : List ℕ) (n d : ℕ) : Type 0 where
   pub aside : Aside n ws us
   pub rows : (m : ℕ → ℕ) → ((a : ℕ) → a < maxArrays → masksAt ws n d a ≡ masksBelow (f .arrays) m a) → (x : Edge) → In x (edges f (node f d)) → (a : ℕ) → a < maxArrays
-      → masksAt us n (edgeRow n (x .continues)) a ≡ masksBelow (f .arrays) (λ b. stepAll (edgeEffects f (node f d .stmt) x b) (m b)) a
+      → byteAt us (edgeRow n (x .continues)) a ≡ masksBelow (f .arrays) (λ b. stepAll (edgeEffects f (node f d .stmt) x b) (m b)) a
 
 module _ (f : Flow) (ws us : List ℕ) (n d i count : ℕ) (stmt : i ≡ node f d .stmt) (all : count ≡ f .arrays)
     (act : RowIs ws us (outRow n) (acted count (statementEffects f i) (byteAt ws (maskRowAt n d)))) where
   -- the act of the statement, said of the flow
-  acts : (a : ℕ) → a < maxArrays → masksAt us n (2 * n) a ≡ acted (f .arrays) (statementEffects f (node f d .stmt)) (masksAt ws n d) a
+  acts : (a : ℕ) → a < maxArrays → byteAt us (outRow n) a ≡ acted (f .arrays) (statementEffects f (node f d .stmt)) (masksAt ws n d) a
   acts a l = act .bytes a l ∙ ap₂ (λ (k j : ℕ). acted k (statementEffects f j) (masksAt ws n d) a) all stmt
 
   pub act-aside : Aside n ws us
@@ -56,21 +56,22 @@ module _ (f : Flow) (ws us : List ℕ) (n d i count : ℕ) (stmt : i ≡ node f 
     aside = act-aside;
     rows = λ m h x e a l.
         let none : x .continues ≡ false = plain-edge f (node f d) op e in
-        ap (λ (c : Bool). masksAt us n (edgeRow n c) a) none ∙ acts a l ∙ act-row f (node f d .stmt) (f .arrays) m (masksAt ws n d) x a (h a l) none;
+        ap (λ (c : Bool). byteAt us (edgeRow n c) a) none ∙ acts a l ∙ act-row f (node f d .stmt) (f .arrays) m (masksAt ws n d) x a (h a l) none;
   }
 
   -- a call that is not opaque
   module _ (vs os : List ℕ) (touched : MembersWord (getD us (callTouchedAt n + i) 0) (callTouches f i))
-      (back : RowIs us vs (backRow n) (stepWhere (memberBelow us (callTouchedAt n + i) count) Touched (byteAt us (outRow n)))) (noted : Keeps (enteredAt n) (waitingAt n) vs os) where
+      (back : RowIs us vs (backRow n) (stepWhere (memberBelow us (callTouchedAt n + i) count) Touched (byteAt us (outRow n)))) (noted : Keeps (enteredRowAt n) (waitingAt n) vs os) where
     -- the rows for edges lie above the row of entered statements
-    row-noted : (c : Bool) (a : ℕ) → masksAt os n (edgeRow n c) a ≡ masksAt vs n (edgeRow n c) a
-    row-noted c a = byte-cong os vs (maskRowAt n (edgeRow n c)) a (noted .above _ (omega arith))
+    row-noted : (c : Bool) (a : ℕ) → byteAt os (edgeRow n c) a ≡ byteAt vs (edgeRow n c) a
+    row-noted true a = byte-cong os vs (backRow n) a (noted .above _ (omega arith))
+    row-noted false a = byte-cong os vs (outRow n) a (noted .above _ (omega arith))
 
-    out : (a : ℕ) → a < maxArrays → masksAt os n (edgeRow n false) a ≡ acted (f .arrays) (statementEffects f (node f d .stmt)) (masksAt ws n d) a
-    out a l = row-noted false a ∙ byte-cong vs us (maskRowAt n (2 * n)) a (back .keeps .below _ (omega arith)) ∙ acts a l
+    out : (a : ℕ) → a < maxArrays → byteAt os (edgeRow n false) a ≡ acted (f .arrays) (statementEffects f (node f d .stmt)) (masksAt ws n d) a
+    out a l = row-noted false a ∙ byte-cong vs us (outRow n) a (back .keeps .below _ (omega arith)) ∙ acts a l
 
     in-back : (a : ℕ) → a < maxArrays
-        → masksAt os n (edgeRow n true) a
+        → byteAt os (edgeRow n true) a
         ≡ stepWhere (memberBelow us (callTouchedAt n + i) (f .arrays)) Touched (acted (f .arrays) (statementEffects f (node f d .stmt)) (masksAt ws n d)) a
     unfolding stepWhere
     in-back a l =
@@ -84,7 +85,7 @@ module _ (f : Flow) (ws us : List ℕ) (n d i count : ℕ) (stmt : i ≡ node f 
     }
       where
         at : (m : ℕ → ℕ) → ((a : ℕ) → a < maxArrays → masksAt ws n d a ≡ masksBelow (f .arrays) m a) → (x : Edge) (a : ℕ) → a < maxArrays → (c : Bool) → x .continues ≡ c
-            → masksAt os n (edgeRow n c) a ≡ masksBelow (f .arrays) (λ b. stepAll (edgeEffects f (node f d .stmt) x b) (m b)) a
+            → byteAt os (edgeRow n c) a ≡ masksBelow (f .arrays) (λ b. stepAll (edgeEffects f (node f d .stmt) x b) (m b)) a
         at m h x a l true e =
             in-back a l
             ∙ back-row f us (node f d .stmt) (f .arrays) (callTouchedAt n + i) m (masksAt ws n d) x a l (h a l) e
@@ -104,7 +105,7 @@ sends {f} {ws} {us} {vs} {os} {n} {d} {queue} {r} l p s c empty = record {
       (differ-as maxArrays (masksAt vs n t) (masksAt os n t) (masksAt us n t) (masksAt ws n t) (λ a m. sym (aside-masks c t a b m)) (λ a m. aside-masks (p .aside) t a b m))
       (aside-grown (p .aside) t b);
   visited = λ x b h. aside-visited c x b h ∙ s .visited x b h ∙ aside-visited (p .aside) x b h;
-  entered = empty;
+  entered-row = empty;
   keeps = keeps-trans (p .aside .keeps) (keeps-trans (s .keeps) (c .keeps));
 }
   where

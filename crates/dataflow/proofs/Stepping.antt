@@ -8,12 +8,12 @@ use native.Mathlib.Numerals.{add-one}
 use native.Mathlib.Omega.{arith}
 use lib.ListN.{length, getD, take}
 use lib.Seq.{take-suc, take-length}
-use Rattle.words.specs.Byte.{byteAt}
+use Rattle.words.specs.contracts.Byte.{byteAt}
 use Rattle.masks.specs.declared.Effect.{Effect}
 use Rattle.masks.specs.Step.{stepOf}
 use Rattle.theory.specs.Lists.{any}
 use Rattle.theory.proofs.Lists.{any-append}
-use Rattle.solve.specs.Rows.{RowIs, stepWhere}
+use Rattle.solve.specs.contracts.Rows.{RowIs, stepWhere}
 use Rattle.solve.proofs.RowChanges.{row-as, none-stepped, more-stepped}
 
 any-next : {A : Type 0} (p : A → Bool) (l : List A) (k : ℕ) (d : A) → k < length l → (any p (take k l) || p (getD l k d)) ≡ any p (take (k + 1) l)

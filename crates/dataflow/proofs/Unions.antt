@@ -4,7 +4,8 @@ use Prim.Native.Nat.{ℕ}
 use mathlib.Core.Bool.{Bool, true, false, cond, _||_}
 use mathlib.Core.Path.{_≡_, refl, sym, ap, _∙_}
 use lib.Bits.{bitOr, or-comm}
-use Rattle.theory.proofs.Push.{differ, no-differ}
+use Rattle.theory.specs.Lists.{differ}
+use Rattle.theory.proofs.Push.{no-differ}
 
 pub differ-self : (n : ℕ) (x : ℕ → ℕ) → differ n x x ≡ false
 differ-self n x = no-differ n x x (λ a l. refl)

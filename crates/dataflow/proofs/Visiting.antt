@@ -1,6 +1,6 @@
--- One visit of the solver is one visit of the queue rule. Where the number is settled nothing is sent, and a visit would bring nothing new; else what its
+-- One visit of the solver is one visit of the queue rule. Where the number is unchanged nothing is sent, and a visit would bring nothing new; else what its
 -- edges bring of its masks is joined to every number's, which is what the rule would pull after the visit.
-use Prim.Native.Nat.{ℕ, zero, suc, _+_, _*_, _/_, _<_, _≤_}
+use Prim.Native.Nat.{ℕ, _+_, _*_, _/_, _<_, _≤_}
 use mathlib.Core.Bool.{Bool, true, false, cond, not, _&&_, _||_, or-false}
 use mathlib.Core.List.{List, [], _∷_, List·Memᴰ·head}
 use mathlib.Core.Logic.{_≢_}
@@ -15,25 +15,27 @@ use lib.Seq.{getD-set-same, getD-set-other}
 use Rattle.words.proofs.Bytes.{byte-cong}
 use Rattle.flow.specs.Flow.{Flow, size}
 use Rattle.flow.specs.Limits.{maxArrays}
+use Rattle.theory.specs.Lists.{differ}
 use Rattle.theory.specs.Doubled.{doubled}
 use Rattle.theory.specs.Queue.{Graph, Solver, pulled, changed, visit, enqueue, brings}
-use Rattle.theory.specs.WellFormed.{WellFormed}
+use Rattle.theory.specs.contracts.WellFormed.{WellFormed}
 use Rattle.theory.proofs.Lists.{clash, or-second}
 use Rattle.theory.proofs.Terms.{doubled-well-formed}
-use Rattle.theory.proofs.Invariant.{WellFormedGraph, Invariant, grew, queue, front-below, visited-at, visited-other, waiting-next, was-visited}
-use Rattle.theory.proofs.Ends.{RuleState, rule-keeps}
-use Rattle.theory.proofs.Push.{differ, alike, no-differ, pulled-next, pulled-same, changed-front, changed-other}
-use Rattle.statements.specs.Layout.{queueAt, enteredAt, waitingAt, visitedAt, grownAt, maskRowAt, areaEnd}
-use Rattle.statements.specs.Ready.{Keeps}
-use Rattle.statements.proofs.Keeps.{keeps-set, keeps-trans, keeps-widen}
-use Rattle.calls.specs.Held.{EmptyEntered}
+use Rattle.theory.proofs.Invariant.{WellFormedGraph, Invariant, queue, visited-at, visited-other, waiting-next, was-visited}
+use Rattle.theory.proofs.Ends.{course-keeps}
+use Rattle.theory.proofs.Push.{alike, no-differ, pulled-next, pulled-same, changed-front, changed-other}
+use Rattle.statements.specs.contracts.Layout.{areaEnd}
+use Rattle.statements.specs.contracts.Ready.{Keeps}
+use Rattle.statements.proofs.Keeps.{keeps-set, keeps-trans}
+use Rattle.calls.specs.contracts.Held.{EmptyEntered}
 use Rattle.solve.specs.declared.Queue.{Queue}
-use Rattle.solve.specs.Waiting.{Waits, Taken, KeepsRest, restOf}
-use Rattle.solve.specs.Pushed.{masksAt}
-use Rattle.solve.proofs.Waiting.{rest-keeps, waits-kept}
+use Rattle.solve.specs.contracts.Layout.{visitedAt, grownAt, maskRowAt}
+use Rattle.solve.specs.contracts.Waiting.{Waits, Taken, restOf}
+use Rattle.solve.specs.contracts.Pushed.{masksAt}
+use Rattle.solve.proofs.Waiting.{waits-kept}
 use Rattle.solve.proofs.Growing.{differ-as}
-use Rattle.dataflow.specs.Sent.{masksBelow, Sends}
-use Rattle.dataflow.specs.Solving.{Solving, Underway, VisitsFront}
+use Rattle.dataflow.specs.contracts.Sent.{masksBelow, Sends}
+use Rattle.dataflow.specs.contracts.Solving.{Underway, VisitsFront}
 use Rattle.dataflow.proofs.Kept.{empty-stays}
 use Rattle.dataflow.proofs.Unions.{cond-or}
 
@@ -104,7 +106,7 @@ module _ {f : Flow} (wf : WellFormed f) {n : ℕ} (sized : size f ≡ n) (few : 
   gwf = doubled-well-formed f wf
 
   inv : Invariant (doubled f) (u .state)
-  inv = rule-keeps gwf (u .rule)
+  inv = course-keeps gwf (u .course)
 
   -- the visit brings something new
   unfoldable pub news : Bool
@@ -134,12 +136,12 @@ module _ {f : Flow} (wf : WellFormed f) {n : ℕ} (sized : size f ≡ n) (few : 
   took-grown t l v = taken .kept .above (grownAt n + t) (omega arith) ∙ u .solving .grown t l v
 
   pub took-entered : EmptyEntered vs n
-  took-entered = empty-stays ws vs n (taken .kept .between) (u .solving .entered)
+  took-entered = empty-stays ws vs n (taken .kept .between) (u .solving .entered-row)
 
-  -- the test for a settled number
-  settled-is : (eqb (getD vs (visitedAt n + x) 0) 1 && eqb (getD vs (grownAt n + x) 0) 0) ≡ not news
+  -- the test for a unchanged number
+  unchanged-is : (eqb (getD vs (visitedAt n + x) 0) 1 && eqb (getD vs (grownAt n + x) 0) 0) ≡ not news
   unfolding news
-  settled-is = ap (λ (k : ℕ). eqb k 1 && eqb (getD vs (grownAt n + x) 0) 0) (took-visited x front-in) ∙ at (st .visited x) refl
+  unchanged-is = ap (λ (k : ℕ). eqb k 1 && eqb (getD vs (grownAt n + x) 0) 0) (took-visited x front-in) ∙ at (st .visited x) refl
     where
       at : (v : Bool) → st .visited x ≡ v → (eqb (cond v 1 0) 1 && eqb (getD vs (grownAt n + x) 0) 0) ≡ not (not v || changed g st x)
       at true e = ap (λ (k : ℕ). eqb k 0) (took-grown x front-in e) ∙ is (changed g st x)
@@ -150,8 +152,8 @@ module _ {f : Flow} (wf : WellFormed f) {n : ℕ} (sized : size f ≡ n) (few : 
       at false e = refl
 
   -- the test at the number taken
-  pub settled-at : {r : Bool} → r ≡ (eqb (getD vs (visitedAt n + d) 0) 1 && eqb (getD vs (grownAt n + d) 0) 0) → r ≡ not news
-  settled-at e = e ∙ ap (λ (y : ℕ). eqb (getD vs (visitedAt n + y) 0) 1 && eqb (getD vs (grownAt n + y) 0) 0) is-front ∙ settled-is
+  pub unchanged-at : {r : Bool} → r ≡ (eqb (getD vs (visitedAt n + d) 0) 1 && eqb (getD vs (grownAt n + d) 0) 0) → r ≡ not news
+  unchanged-at e = e ∙ ap (λ (y : ℕ). eqb (getD vs (visitedAt n + y) 0) 1 && eqb (getD vs (grownAt n + y) 0) 0) is-front ∙ unchanged-is
 
   -- the numbers visited
   visited-is : (t : ℕ) → next .visited t ≡ cond (eqb t x) true (st .visited t)
@@ -161,7 +163,7 @@ module _ {f : Flow} (wf : WellFormed f) {n : ℕ} (sized : size f ≡ n) (few : 
       at (yes e) = visited-at g gwf st inv x w front e ∙ sym (ap (λ (b : Bool). cond b true (st .visited t)) (eq-eqb t x e))
       at (no e) = visited-other g gwf st inv x w front e ∙ sym (ap (λ (b : Bool). cond b true (st .visited t)) (ne-eqb t x e))
 
-  -- a number that is settled: the area stays as it is behind the front
+  -- a number that is unchanged: the area stays as it is behind the front
   module _ (still : news ≡ false) where
     was : st .visited x ≡ true
     unfolding news
@@ -194,9 +196,9 @@ module _ {f : Flow} (wf : WellFormed f) {n : ℕ} (sized : size f ≡ n) (few : 
         at (no e) =
             changed-other g gwf st inv x w front t e ∙ ap (λ (b : Bool). changed g st t || b) (same-differ t) ∙ or-false (changed g st t)
 
-    pub visits-settled : VisitsFront f ws vs n q (restOf n q) u
+    pub visits-unchanged : VisitsFront f ws vs n q (restOf n q) u
     unfolding queue news
-    visits-settled = record {
+    visits-unchanged = record {
       front = x;
       behind = w;
       waiting = front;
@@ -205,7 +207,7 @@ module _ {f : Flow} (wf : WellFormed f) {n : ℕ} (sized : size f ≡ n) (few : 
         visited = λ t l. took-visited t l ∙ ap (λ (b : Bool). cond b 1 0) (sym (same-visited t));
         masks = λ t a l m. took-masks t a l m ∙ below-as (f .arrays) (pulled g st t) (pulled g next t) a (λ b. sym (same-pulled t a b));
         grown = λ t l v. took-grown t l (sym (same-visited t) ∙ v) ∙ ap (λ (b : Bool). cond b 1 0) (sym (same-changed t));
-        entered = took-entered;
+        entered-row = took-entered;
       };
     }
 
@@ -286,7 +288,7 @@ module _ {f : Flow} (wf : WellFormed f) {n : ℕ} (sized : size f ≡ n) (few : 
         visited = λ t l. sent .visited (visitedAt n + t) (omega arith) (omega arith) ∙ noted-visited t l;
         masks = next-masks;
         grown = next-grown;
-        entered = sent .entered;
+        entered-row = sent .entered-row;
       };
     }
 

@@ -1,6 +1,2 @@
-pub mod Transfer
-pub mod Sent
-pub mod Solving
 pub mod Promise
-pub mod Phases
-pub mod Bytes
+pub mod contracts

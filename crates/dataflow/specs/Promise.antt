@@ -1,5 +1,5 @@
--- What the call that answers a flow file promises, for every byte string and every set of lent areas: the answer is that of the definitions; a refusal changes no
--- lent area; an accepted call writes the masks of term 2 and the live sets, leaves the work area zero and every other byte as it was, within term 1's bound, and term 3 holds of the bytes that it wrote.
+-- What the call that answers a flow file promises, for every byte string and every set of lent areas: it refuses what the definitions refuse, and then changes no lent area; else
+-- it writes the masks that the queue rule leaves when it is over and the live sets, leaves the work area zero and every other byte as it was, and terms 1 to 3 hold of the bytes that it wrote.
 use Prim.Native.Nat.{ℕ, _+_, _*_, _<_, _≤_}
 use mathlib.Core.Bool.{true}
 use mathlib.Core.List.{List, _++_}
@@ -11,8 +11,8 @@ use Rattle.flow.specs.Flow.{Flow, size}
 use Rattle.flow.specs.Format.{Verdict, fit, unfit, verdict, fileChecks, areaChecks, flowOf}
 use Rattle.flow.specs.Refusals.{numberOf, placeOf}
 use Rattle.theory.specs.Doubled.{doubled}
-use Rattle.theory.specs.Queue.{visitBound}
-use Rattle.theory.specs.Masks.{BringsTo, maskOf, visitsOf}
+use Rattle.theory.specs.Queue.{Solver, Over, visitBound}
+use Rattle.theory.specs.Masks.{BringsTo, maskLeft}
 use Rattle.theory.specs.Live.{LiveIn, LiveOut, member, liveInWord, liveOutWord}
 use Rattle.theory.specs.Runs.{Config, Run, Listed}
 use Rattle.dataflow.specs.declared.Answer.{Answer}
@@ -35,14 +35,6 @@ visitsOfAnswer (Refused r) = 0
 abbrev pub judged : List ℕ → ℕ → ℕ → ℕ → ℕ → Verdict
 judged s masks liveIn liveOut work = verdict (fileChecks s ++ areaChecks (size (flowOf s)) (flowOf s .arrays) masks liveIn liveOut work)
 
-abbrev pub answerBy : Flow → Verdict → Answer
-answerBy f fit = Accepted (visitsOf f)
-answerBy f (unfit r) = Refused r
-
--- the answer of the definitions for a file and the areas' lengths
-abbrev pub answerOf : List ℕ → ℕ → ℕ → ℕ → ℕ → Answer
-answerOf s masks liveIn liveOut work = answerBy (flowOf s) (judged s masks liveIn liveOut work)
-
 -- an area of words before and after: the first n are what f gives, the others as they were
 pub record Written (n : ℕ) (f : ℕ → ℕ) (before after : List ℕ) : Type 0 where
   pub size : length after ≡ length before
@@ -51,18 +43,22 @@ pub record Written (n : ℕ) (f : ℕ → ℕ) (before after : List ℕ) : Type 
 
 -- what an accepted call has written
 pub record Answered (f : Flow) (masks masks′ liveIn liveIn′ liveOut liveOut′ work work′ : List ℕ) (visits : ℕ) : Type 0 where
-  pub mask-bytes : (i a : ℕ) → i < size f → a < f .arrays → getD masks′ (i * (f .arrays) + a) 0 ≡ maskOf f i a
+  -- term 1: the queue rule's course is over after so many visits, within the bound
+  pub left : Solver
+  pub over : Over (doubled f) visits left
+  pub bound : visits ≤ visitBound (doubled f)
+  -- the masks that it leaves, and all other bytes
+  pub mask-bytes : (i a : ℕ) → i < size f → a < f .arrays → getD masks′ (i * (f .arrays) + a) 0 ≡ maskLeft f left i a
   pub masks-size : length masks′ ≡ length masks
   pub masks-kept : (x : ℕ) → size f * (f .arrays) ≤ x → getD masks′ x 0 ≡ getD masks x 0
   pub live-in : Written (size f) (liveInWord f) liveIn liveIn′
   pub live-out : Written (size f) (liveOutWord f) liveOut liveOut′
   pub work-zero : work′ ≡ replicate (length work) 0
-  -- term 1
-  pub count : visits ≡ visitsOf f
-  pub bound : visits ≤ visitBound (doubled f)
-  -- term 2: a state is in the byte written for a statement and an array exactly when a walk brings it there
+  -- term 2: a state is in the byte written for a statement and an array exactly when a walk brings it there; 0 to 7; unreached: 0
   pub sound : (i a : ℕ) (s : State) → i < size f → a < f .arrays → holds (getD masks′ (i * (f .arrays) + a) 0) s ≡ true → BringsTo f a i s
   pub complete : (i a : ℕ) (s : State) → i < size f → a < f .arrays → BringsTo f a i s → holds (getD masks′ (i * (f .arrays) + a) 0) s ≡ true
+  pub below : (i a : ℕ) → i < size f → a < f .arrays → getD masks′ (i * (f .arrays) + a) 0 < 8
+  pub unreached : (i a : ℕ) → i < size f → a < f .arrays → ((s : State) → BringsTo f a i s → ⊥) → getD masks′ (i * (f .arrays) + a) 0 ≡ 0
   pub live-in-sound : (i x : ℕ) → i < size f → x < f .names → member (getD liveIn′ i 0) x ≡ true → LiveIn f x i
   pub live-in-complete : (i x : ℕ) → i < size f → x < f .names → LiveIn f x i → member (getD liveIn′ i 0) x ≡ true
   pub live-out-sound : (i x : ℕ) → i < size f → x < f .names → member (getD liveOut′ i 0) x ≡ true → LiveOut f x i
@@ -77,14 +73,17 @@ pub record Untouched (masks masks′ liveIn liveIn′ liveOut liveOut′ work wo
   pub same-live-out : liveOut′ ≡ liveOut
   pub same-work : work′ ≡ work
 
+-- refused exactly where a field or an area is unfit, and by that refusal
 pub record Promise (s masks masks′ liveIn liveIn′ liveOut liveOut′ work work′ : List ℕ) (r : Answer) : Type 0 where
-  pub answer : r ≡ answerOf s (length masks) (length liveIn) (length liveOut) (length work)
-  pub refused : (x : Refusal) → r ≡ Refused x → Untouched masks masks′ liveIn liveIn′ liveOut liveOut′ work work′
-  pub accepted : (v : ℕ) → r ≡ Accepted v → Answered (flowOf s) masks masks′ liveIn liveIn′ liveOut liveOut′ work work′ v
+  pub refused : (x : Refusal) → judged s (length masks) (length liveIn) (length liveOut) (length work) ≡ unfit x
+      → (r ≡ Refused x) × Untouched masks masks′ liveIn liveIn′ liveOut liveOut′ work work′
+  pub accepted : judged s (length masks) (length liveIn) (length liveOut) (length work) ≡ fit
+      → (v : ℕ) × (r ≡ Accepted v) × Answered (flowOf s) masks masks′ liveIn liveIn′ liveOut liveOut′ work work′ v
 
--- the door: the answer of the definitions as numbers, and the same promise
+-- the door: an answer that keeps the promise, as this paper's numbers
 pub record Door (s masks masks′ liveIn liveIn′ liveOut liveOut′ work work′ : List ℕ) (place visits r : ℕ) : Type 0 where
-  pub number : r ≡ numberOfAnswer (answerOf s (length masks) (length liveIn) (length liveOut) (length work))
-  pub place-is : place ≡ placeOfAnswer (answerOf s (length masks) (length liveIn) (length liveOut) (length work))
-  pub visits-is : visits ≡ visitsOfAnswer (answerOf s (length masks) (length liveIn) (length liveOut) (length work))
-  pub promise : Promise s masks masks′ liveIn liveIn′ liveOut liveOut′ work work′ (answerOf s (length masks) (length liveIn) (length liveOut) (length work))
+  pub answer : Answer
+  pub number : r ≡ numberOfAnswer answer
+  pub place-is : place ≡ placeOfAnswer answer
+  pub visits-is : visits ≡ visitsOfAnswer answer
+  pub promise : Promise s masks masks′ liveIn liveIn′ liveOut liveOut′ work work′ answer

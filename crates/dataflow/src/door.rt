@@ -3,13 +3,12 @@ ghost use Prim.Native.Nat.{_*_, _<_, _≤_};
 ghost use mathlib.Core.Bool.{cond};
 ghost use mathlib.Core.Path.{_≡_};
 ghost use lib.ListN.{length};
-ghost use Rattle.words.specs.Change.{cleared};
+ghost use Rattle.words.specs.contracts.Change.{zeroed};
 ghost use Rattle.flow.specs.Format.{flowOf};
-ghost use Rattle.flow.specs.Answers.{headerOf};
 ghost use Rattle.theory.specs.Live.{liveInWord, liveOutWord};
-ghost use Rattle.statements.specs.Ready.{Ready};
+ghost use Rattle.statements.specs.contracts.Ready.{Ready};
 ghost use Rattle.dataflow.specs.Promise.{Promise, Door, Written};
-ghost use Rattle.dataflow.specs.Phases.{Fresh, Begun, SolverBlank, Masked, Blank, Solved};
+ghost use Rattle.dataflow.specs.contracts.Phases.{FitFlow, SummariesMade, SolverStart, Masked, FitAreas, Findings};
 use crate::Answer;
 use crate::arrays;
 use crate::write;
@@ -17,26 +16,27 @@ use statements::layout;
 
 // The places of the records and the summaries of the calls. The work area is zero before.
 fn summarize(file: &[u8], h: flow::Header, work: &mut [u64])
-    requires { ⌜ Fresh (now file) h (now work) ⌝ }
-    ensures { λ _. ⌜ Begun (now (file .entry)) h (now (work .exit)) ⌝ }
+    requires { ⌜ FitFlow (now file) h (now work) ⌝ }
+    ensures { λ _. ⌜ SummariesMade (now (file .entry)) h (now (work .exit)) ⌝ }
 {
     let n = h.statements;
     records::offsets::note_offsets(file, work, 0, n);
     calls::summary::summarize_calls(file, h, work);
 }
 
-// The edges of the RETURNs. The queue's words served as a stack, and the row after them was used: both are cleared for the solver.
+// What the edges are made from. The queue's words served as a stack, and the row of entered statements was used: both are zeroed for the solver.
 fn link(file: &[u8], h: flow::Header, work: &mut [u64])
-    requires { ⌜ Begun (now file) h (now work) × (h ≡ headerOf (now file)) × (0 < h .statements) ⌝ }
-    ensures { λ _. ⌜ SolverBlank (now (file .entry)) h (now (work .exit)) ⌝ }
+    requires { ⌜ SummariesMade (now file) h (now work) × (0 < h .statements) ⌝ }
+    ensures { λ _. ⌜ SolverStart (now (file .entry)) h (now (work .exit)) ⌝ }
 {
     let n = h.statements;
-    calls::returns::note_returns(file, h, work);
-    words::clear(work, layout::queue(n), 3 * n);
+    calls::returns::note_edges(file, h, work);
+    let queue = layout::queue(n);
+    words::zero_row(work, queue, layout::solver(n) - queue);
 }
 
 fn solve_arrays(file: &[u8], h: flow::Header, masks: &mut [u8], work: &mut [u64]) -> u64
-    requires { ⌜ SolverBlank (now file) h (now work) × (h .statements * h .arrays ≤ length (now masks)) ⌝ }
+    requires { ⌜ SolverStart (now file) h (now work) × (h .statements * h .arrays ≤ length (now masks)) ⌝ }
     ensures { λ r. ⌜ Masked (now (file .entry)) h (now (masks .entry)) (now (masks .exit)) (now (work .exit)) r ⌝ }
 {
     let n = h.statements;
@@ -51,8 +51,8 @@ fn solve_names(file: &[u8], n: usize, live_in: &mut [u64], live_out: &mut [u64],
     requires { ⌜ Ready (now file) (now work) n × (0 < n) × (n ≤ length (now «live_in»)) × (n ≤ length (now «live_out»)) ⌝ }
     ensures { λ _. ⌜ Written n (liveInWord (flowOf (now (file .entry)))) (now («live_in» .entry)) (now («live_in» .exit)) × Written n (liveOutWord (flowOf (now (file .entry)))) (now («live_out» .entry)) (now («live_out» .exit)) ⌝ }
 {
-    let matrix = layout::row(n, 0);
-    words::clear(work, matrix, layout::visited(n) - matrix);
+    let matrix = layout::matrix(n);
+    words::zero_row(work, matrix, solve::layout::visited(n) - matrix);
     live::live_names(file, work, live_in, live_out, n);
 }
 
@@ -65,8 +65,8 @@ fn solve_flow(
     live_out: &mut [u64],
     work: &mut [u64],
 ) -> u64
-    requires { ⌜ Blank (now file) h (now masks) (now «live_in») (now «live_out») (now work) ⌝ }
-    ensures { λ r. ⌜ Solved (flowOf (now (file .entry))) (now (masks .entry)) (now (masks .exit)) (now («live_in» .entry)) (now («live_in» .exit)) (now («live_out» .entry)) (now («live_out» .exit)) r ⌝ }
+    requires { ⌜ FitAreas (now file) h (now masks) (now «live_in») (now «live_out») (now work) ⌝ }
+    ensures { λ r. ⌜ Findings (flowOf (now (file .entry))) (now (masks .entry)) (now (masks .exit)) (now («live_in» .entry)) (now («live_in» .exit)) (now («live_out» .entry)) (now («live_out» .exit)) r ⌝ }
 {
     let n = h.statements;
     summarize(file, h, work);
@@ -76,16 +76,18 @@ fn solve_flow(
     visits
 }
 
-// The first `size` words are cleared where the areas are fit; else nothing is written.
-fn clear_if(work: &mut [u64], size: usize, fit: bool)
+// The first `size` words are zeroed where the areas are fit; else nothing is written.
+fn zero_if(work: &mut [u64], size: usize, fit: bool)
     requires { ⌜ size ≤ length (now work) ⌝ }
-    ensures { λ _. ⌜ now (work .exit) ≡ cond fit (cleared (now (work .entry)) 0 size) (now (work .entry)) ⌝ }
+    ensures { λ _. ⌜ now (work .exit) ≡ cond fit (zeroed (now (work .entry)) 0 size) (now (work .entry)) ⌝ }
 {
     if fit {
-        words::clear(work, 0, size);
+        words::zero_row(work, 0, size);
     }
 }
 
+// The answer to every file and all lent areas. Nothing is written before both are judged, so that a refusal changes nothing; the work area
+// is zeroed before the phases, which count on it, and after them, for the caller.
 pub fn states(
     file: &[u8],
     masks: &mut [u8],
@@ -103,7 +105,7 @@ pub fn states(
     };
     let n = h.statements;
     let arrays = h.arrays;
-    let fit = records::areas::areas_fit(
+    let fit = flow::areas::areas_fit(
         n,
         arrays,
         masks.len(),
@@ -112,15 +114,18 @@ pub fn states(
         work.len(),
     );
     let size = work.len();
-    clear_if(work, size, fit);
+    // Before the refusal is returned: this is the one write that short areas could meet, and `zero_if` is told not to make it. A wrong program that
+    // makes it is thus a single change of this line, and is tried.
+    zero_if(work, size, fit);
     if !fit {
         return Answer::Refused(flow::Refusal::Areas);
     }
+    // With no statements there is no entry, and nothing to visit.
     if n == 0 {
         return Answer::Accepted(0);
     }
     let visits = solve_flow(file, h, masks, live_in, live_out, work);
-    words::clear(work, 0, size);
+    words::zero_row(work, 0, size);
     Answer::Accepted(visits)
 }
 

@@ -2,19 +2,25 @@
 ghost use Prim.Native.Nat.{_+_, _*_, _<_, _≤_};
 ghost use mathlib.Core.Path.{_≡_};
 ghost use lib.ListN.{length};
-ghost use Rattle.words.specs.Byte.{byteOf};
+ghost use Rattle.words.specs.contracts.Byte.{byteOf};
 ghost use Rattle.flow.specs.Limits.{maxStatements, maxArrays};
-ghost use Rattle.flow.specs.Fields.{noted};
-ghost use Rattle.statements.specs.Layout.{maskWords, areaEnd};
-ghost use Rattle.dataflow.specs.Bytes.{joinedWord, bothCopies, notedRows};
-use statements::layout;
+ghost use Rattle.words.specs.contracts.Change.{noted};
+ghost use Rattle.statements.specs.contracts.Layout.{areaEnd};
+ghost use Rattle.solve.specs.contracts.Layout.{maskWords};
+ghost use Rattle.dataflow.specs.contracts.Bytes.{joinedWord, bothCopies, notedRows};
+use flow::Base;
+use flow::StmtId;
+use solve::layout;
+use statements::doubled;
 
 // Word k of the masks of statement i, both copies joined.
-fn joined_word(work: &[u64], n: usize, i: usize, k: usize) -> u64
-    requires { ⌜ (n ≤ maxStatements) × (i < n) × (k ≤ maskWords) × (areaEnd n ≤ length (now work)) ⌝ }
-    ensures { λ r. ⌜ r ≡ joinedWord (now (work .entry)) n i k ⌝ }
+fn joined_word(work: &[u64], n: usize, i: StmtId, k: usize) -> u64
+    requires { ⌜ (n ≤ maxStatements) × (i .0 < n) × (k ≤ maskWords) × (areaEnd n ≤ length (now work)) ⌝ }
+    ensures { λ r. ⌜ r ≡ joinedWord (now (work .entry)) n (i .0) k ⌝ }
 {
-    work[layout::mask_row(n, i) + k] | work[layout::mask_row(n, n + i) + k]
+    let zero = layout::mask_row(n, doubled::node(n, Base::Zero, i));
+    let other = layout::mask_row(n, doubled::node(n, Base::N, i));
+    work[zero + k] | work[other + k]
 }
 
 // The lowest bytes of a word, from the byte at `at` on.
@@ -30,9 +36,9 @@ fn write_bytes(masks: &mut [u8], at: usize, word: u64, count: usize)
 }
 
 // The masks of statement i, from the byte at `at` on. Eight bytes of a word become one store, so the last, short word stands apart.
-fn write_row(masks: &mut [u8], at: usize, work: &[u64], n: usize, arrays: usize, i: usize)
-    requires { ⌜ (n ≤ maxStatements) × (arrays ≤ maxArrays) × (i < n) × (at + arrays ≤ length (now masks)) × (areaEnd n ≤ length (now work)) ⌝ }
-    ensures { λ _. ⌜ now (masks .exit) ≡ noted (now (masks .entry)) at arrays (bothCopies (now (work .entry)) n i) ⌝ }
+fn write_row(masks: &mut [u8], at: usize, work: &[u64], n: usize, arrays: usize, i: StmtId)
+    requires { ⌜ (n ≤ maxStatements) × (arrays ≤ maxArrays) × (i .0 < n) × (at + arrays ≤ length (now masks)) × (areaEnd n ≤ length (now work)) ⌝ }
+    ensures { λ _. ⌜ now (masks .exit) ≡ noted (now (masks .entry)) at arrays (bothCopies (now (work .entry)) n (i .0)) ⌝ }
 {
     let mut k = 0;
     while k < arrays / 8 {
@@ -49,7 +55,7 @@ pub fn write_masks(masks: &mut [u8], work: &[u64], n: usize, arrays: usize)
     let mut at = 0;
     let mut i = 0;
     while i < n {
-        write_row(masks, at, work, n, arrays, i);
+        write_row(masks, at, work, n, arrays, StmtId(i));
         at += arrays;
         i += 1;
     }

@@ -8,3 +8,5 @@ pub mod FileVerdict
 pub mod Reading
 pub mod Cases
 pub mod Held
+pub mod Lent
+pub mod AreaVerdict

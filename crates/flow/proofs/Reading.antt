@@ -10,8 +10,8 @@ use Rattle.flow.specs.declared.Header.{Header}
 use Rattle.flow.specs.declared.Checked.{Checked}
 use Rattle.flow.specs.declared.Checked.the-variants.{Fit, Unfit}
 use Rattle.flow.specs.Flow.{Flow}
-use Rattle.flow.specs.Format.{Verdict, fit, unfit, verdict, fileChecks, flowOf, Reading, accepted, refused, readingOf, readFlow}
-use Rattle.flow.specs.Answers.{checkedOf, headerOf}
+use Rattle.flow.specs.Format.{Verdict, fit, unfit, verdict, fileChecks, flowOf, accepted, refused, readingOf, readFlow}
+use Rattle.flow.specs.contracts.Answers.{checkedOf, headerOf}
 
 -- what `check_file` answers
 abbrev pub answer : List ℕ → Checked

@@ -1,12 +1,12 @@
--- Flow files and how each is read: document 01's P5 and P10, and a file for each row of the refusal table that a small file can meet.
--- A file is put together from its records.
+-- Flow files and how each is read: files with every kind of field, and a file for each row of the refusal table that a small file can meet. Document 01's own cases
+-- stand in the table of the theory crate. A file is put together from its records.
 use Prim.Native.Nat.{ℕ, zero, suc, _+_, _/_, _%_, _^_}
 use mathlib.Core.List.{List, [], _∷_, _++_}
-use mathlib.Core.Option.{Option, none, some}
+use mathlib.Core.Option.{none, some}
 use lib.ListN.{length}
 use Rattle.flow.specs.declared.Refusal.the-variants.{Record, Header, Kind, Target, Member, ReturnReference, Order, Trailing}
 use Rattle.flow.specs.Flow as F
-use Rattle.flow.specs.Flow.{Flow, Statement, Item, Line}
+use Rattle.flow.specs.Flow.{Flow}
 use Rattle.flow.specs.Format.{Reading, accepted, refused}
 
 -- Records as bytes
@@ -37,33 +37,29 @@ FL line first = 70 ∷ 76 ∷ u16s (line ∷ first ∷ [])
 abbrev pub FE : List ℕ
 FE = 70 ∷ 69 ∷ []
 
--- P5: lines 10, 20, 30, 40 at statements 0 to 3; 0 is GOSUB 30, continuation 1, successor 2; 1 reads name 0 and references array 0;
--- 2 references array 0, successor 3; 3 RETURN; 1 array, 1 name, entry 0
+-- calls with a continuation, RETURN, and a statement that is none of the kinds
 
-abbrev pub p5Bytes : List ℕ
-p5Bytes =
-    FH 4 1 1 0
+abbrev pub callsBytes : List ℕ
+callsBytes =
+    FH 4 0 0 0
     ++ FN 10 5 (2 ∷ []) [] 0 0 ++ u16s (30 ∷ 1 ∷ [])
-    ++ FN 20 0 [] (0 ∷ []) 0 1
-    ++ FN 30 0 (3 ∷ []) (0 ∷ []) 0 0
-    ++ FN 40 1 [] [] 0 0
-    ++ FL 10 0 ++ FL 20 1 ++ FL 30 2 ++ FL 40 3
+    ++ FN 20 6 [] [] 0 0 ++ (2 ∷ u16s (7 ∷ 30 ∷ 3 ∷ []))
+    ++ FN 30 1 [] [] 0 0
+    ++ FN 40 0 [] [] 0 0
     ++ FE
 
-abbrev pub p5 : Flow
-p5 = record {
-  arrays = 1;
-  names = 1;
+abbrev pub calls : Flow
+calls = record {
+  arrays = 0;
+  names = 0;
   entry = 0;
   statements =
       record { line = 10; kind = F.Kind.gosub 30 (some 1); successors = 2 ∷ []; references = []; written = 0; read = 0 }
-      ∷ record { line = 20; kind = F.Kind.other; successors = []; references = 0 ∷ []; written = 0; read = 1 }
-      ∷ record { line = 30; kind = F.Kind.other; successors = 3 ∷ []; references = 0 ∷ []; written = 0; read = 0 }
-      ∷ record { line = 40; kind = F.Kind.return; successors = []; references = []; written = 0; read = 0 }
+      ∷ record { line = 20; kind = F.Kind.onGosub (7 ∷ 30 ∷ []) (some 3); successors = []; references = []; written = 0; read = 0 }
+      ∷ record { line = 30; kind = F.Kind.return; successors = []; references = []; written = 0; read = 0 }
+      ∷ record { line = 40; kind = F.Kind.other; successors = []; references = []; written = 0; read = 0 }
       ∷ [];
-  lines =
-      record { number = 10; first = 0 } ∷ record { number = 20; first = 1 } ∷ record { number = 30; first = 2 }
-      ∷ record { number = 40; first = 3 } ∷ [];
+  lines = [];
 }
 
 -- numbers of more than one byte, name 63, several references and successors, CLR and RUN
@@ -113,9 +109,9 @@ one arrays names record′ = FH 1 arrays names 0 ++ record′
 
 abbrev pub readCases : List Case
 readCases =
-    accept p5Bytes p5
+    accept callsBytes calls
     ∷ accept wideBytes wide
-    -- P10, and an entry that is not looked at
+    -- with no statements the entry is not looked at
     ∷ accept (FH 0 64 64 9 ++ FE) (record { arrays = 64; names = 64; entry = 9; statements = []; lines = [] })
     -- the other kinds that have data
     ∷ accept (one 2 0 (FN 10 4 [] [] 0 0 ++ (2 ∷ 1 ∷ 0 ∷ 0 ∷ 1 ∷ [])) ++ FE)

@@ -1,6 +1,6 @@
 -- Document 01, "The flow file" and "What a refused flow gets". The file length is judged first, then every field in file order; the first
 -- unfit field is the answer. So a file's judgement is a list of checks in that order, and its answer is the first check that fails.
-use Prim.Native.Nat.{ℕ, zero, suc, _+_, _-_, _*_, _/_, _^_}
+use Prim.Native.Nat.{ℕ, zero, suc, _+_, _-_, _*_, _^_}
 use mathlib.Core.Bool.{Bool, true, false, cond, not, _&&_, _||_}
 use mathlib.Core.List.{List, [], _∷_, _++_}
 use mathlib.Core.Option.{Option, none, some}
@@ -9,8 +9,9 @@ use lib.Dec.{leb, ltb, eqb}
 use Rattle.flow.specs.declared.Refusal.{Refusal}
 use Rattle.flow.specs.declared.Refusal.the-variants.{TooLong, Record, Header, Kind, Target, Member, ReturnReference, Order, Trailing, Areas}
 use Rattle.flow.specs.Limits.{maxFile, maxStatements, maxArrays, maxNames, maxKind, noContinuation, workWords}
+use Rattle.flow.specs.Refusals.{numberOf, placeOf}
 use Rattle.flow.specs.Flow as F
-use Rattle.flow.specs.Flow.{Flow, Statement, Item, Line, size}
+use Rattle.flow.specs.Flow.{Flow, Statement, Item}
 
 -- the little-endian number of w bytes at a place
 unfoldable pub leAt : ℕ → List ℕ → ℕ → ℕ
@@ -77,9 +78,10 @@ entryOf s = u16At s 6
 abbrev pub present : List ℕ → ℕ → ℕ → Check
 present s p e = check (leb e (length s)) (Record p)
 
--- `F` and the letter x stand at p, within the file
-abbrev pub marked : List ℕ → ℕ → ℕ → Bool
-marked s p x = leb (p + 2) (length s) && (eqb (u8At s p) 70 && eqb (u8At s (p + 1)) x)
+-- the letters of the marks: FH, FN, FL, FE
+
+abbrev pub letterF : ℕ
+letterF = 70
 
 abbrev pub letterH : ℕ
 letterH = 72
@@ -92,6 +94,10 @@ letterL = 76
 
 abbrev pub letterE : ℕ
 letterE = 69
+
+-- `F` and the letter x stand at p, within the file
+abbrev pub marked : List ℕ → ℕ → ℕ → Bool
+marked s p x = leb (p + 2) (length s) && (eqb (u8At s p) letterF && eqb (u8At s (p + 1)) x)
 
 unfoldable pub headerChecks : List ℕ → List Check
 headerChecks s =
@@ -115,6 +121,26 @@ lineAt s p = u16At s (p + 2)
 
 abbrev pub kindAt : List ℕ → ℕ → ℕ
 kindAt s p = u8At s (p + 4)
+
+-- the kinds by their numbers; 0 is any other statement
+
+abbrev pub kindReturn : ℕ
+kindReturn = 1
+
+abbrev pub kindClr : ℕ
+kindClr = 2
+
+abbrev pub kindRun : ℕ
+kindRun = 3
+
+abbrev pub kindDim : ℕ
+kindDim = 4
+
+abbrev pub kindGosub : ℕ
+kindGosub = 5
+
+abbrev pub kindOnGosub : ℕ
+kindOnGosub = 6
 
 abbrev pub successorCount : List ℕ → ℕ → ℕ
 successorCount s p = u8At s (p + 5)
@@ -160,7 +186,7 @@ elementsEnd s p = elementPlace s p (dataCount s p)
 
 -- what a kind's number has: d for DIM, g for GOSUB, o for ON GOSUB, x for the others
 abbrev pub byData : {A : Type 0} → ℕ → A → A → A → A → A
-byData k d g o x = cond (eqb k 4) d (cond (eqb k 5) g (cond (eqb k 6) o x))
+byData k d g o x = cond (eqb k kindDim) d (cond (eqb k kindGosub) g (cond (eqb k kindOnGosub) o x))
 
 -- the place after the record
 unfoldable pub recordEnd : List ℕ → ℕ → ℕ
@@ -199,7 +225,7 @@ successorChecks s p k =
 unfoldable pub referenceCountChecks : List ℕ → ℕ → List Check
 referenceCountChecks s p =
     present s p (referencesPlace s p + 1)
-    ∷ check (not (eqb (kindAt s p) 1) || eqb (referenceCount s p) 0) (ReturnReference p)
+    ∷ check (not (eqb (kindAt s p) kindReturn) || eqb (referenceCount s p) 0) (ReturnReference p)
     ∷ []
 
 -- range before rising order
@@ -309,19 +335,19 @@ fileChecks s =
 
 -- What an accepted file says
 
-abbrev pub continuationOf : ℕ → Bool → Option ℕ
-continuationOf t true = none
-continuationOf t false = some t
+abbrev pub continuationFrom : ℕ → Bool → Option ℕ
+continuationFrom t true = none
+continuationFrom t false = some t
 
 abbrev pub continuationAt : List ℕ → ℕ → Option ℕ
-continuationAt s at = continuationOf (u16At s at) (eqb (u16At s at) noContinuation)
+continuationAt s at = continuationFrom (u16At s at) (eqb (u16At s at) noContinuation)
 
 abbrev pub itemAt : List ℕ → ℕ → ℕ → Item
 itemAt s p k = record { array = u8At s (elementPlace s p k); flag = u8At s (elementPlace s p k + 1) }
 
--- 0 other, 1 RETURN, 2 CLR, 3 RUN
+-- a kind that has no data
 abbrev pub plainKind : ℕ → F.Kind
-plainKind k = cond (eqb k 1) F.Kind.return (cond (eqb k 2) F.Kind.clr (cond (eqb k 3) F.Kind.run F.Kind.other))
+plainKind k = cond (eqb k kindReturn) F.Kind.return (cond (eqb k kindClr) F.Kind.clr (cond (eqb k kindRun) F.Kind.run F.Kind.other))
 
 unfoldable pub kindOf : List ℕ → ℕ → F.Kind
 kindOf s p =
@@ -370,3 +396,12 @@ areaCheck need have = check (leb need have) Areas
 unfoldable pub areaChecks : ℕ → ℕ → ℕ → ℕ → ℕ → ℕ → List Check
 areaChecks n arrays masks liveIn liveOut work =
     areaCheck (n * arrays) masks ∷ areaCheck n liveIn ∷ areaCheck n liveOut ∷ areaCheck (workWords n) work ∷ []
+
+-- a verdict's number and place as the outside sees them: 0 and 0 where the file is fit
+abbrev pub verdictNumber : Verdict → ℕ
+verdictNumber fit = 0
+verdictNumber (unfit r) = numberOf r
+
+abbrev pub verdictPlace : Verdict → ℕ
+verdictPlace fit = 0
+verdictPlace (unfit r) = placeOf r

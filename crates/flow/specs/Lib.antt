@@ -2,7 +2,5 @@ pub mod Limits
 pub mod Flow
 pub mod Refusals
 pub mod Format
-pub mod Answers
-pub mod Parts
-pub mod Fields
 pub mod Cases
+pub mod contracts

@@ -6,11 +6,16 @@ ghost use lib.ListN.{length};
 ghost use lib.Dec.{ltb};
 ghost use Rattle.flow.specs.Format as format;
 ghost use Rattle.flow.specs.Format.{verdict, each, headerChecks, startChecks, referenceCountChecks, referenceChecks, nameChecks, dimChecks, gosubChecks, onGosubChecks, continuationChecks, dataChecks, restChecks, statementChecks, lineRecordChecks, endChecks, fileChecks, successorsPlace, referencesPlace, referenceCount, namesPlace, dataPlace, elementsEnd, recordEnd, linesPlace, lineCount, endPlace};
-ghost use Rattle.flow.specs.Answers.{Reached, passedOf, checkedOf, headerOf, verdictNumber, verdictPlace};
-ghost use Rattle.flow.specs.Parts.{Due, partAnswer, placeAfter};
+ghost use Rattle.flow.specs.contracts.Answers.{Reached, passedOf, checkedOf, headerOf};
+ghost use Rattle.flow.specs.Format.{verdictNumber, verdictPlace};
+ghost use Rattle.flow.specs.contracts.Parts.{Due, Judged, Ended, partAnswer, answerThrough, placeAfter};
 ghost use Rattle.flow.specs.Refusals.{numberOf, placeOf};
 use crate::Checked;
 use crate::Header;
+use crate::KIND_DIM;
+use crate::KIND_GOSUB;
+use crate::KIND_ON_GOSUB;
+use crate::KIND_RETURN;
 use crate::MAX_ARRAYS;
 use crate::MAX_FILE;
 use crate::MAX_KIND;
@@ -20,10 +25,12 @@ use crate::NO_CONTINUATION;
 use crate::Part;
 use crate::Passed;
 use crate::Refusal;
+use crate::StmtId;
 use crate::bytes::u8_at;
 use crate::bytes::u16_at;
 use crate::bytes::u64_at;
-use crate::reader::read_part;
+use crate::reader::new;
+use crate::reader::next;
 
 // The letters of the marks: FH, FN, FL, FE.
 const LETTER_F: usize = 70;
@@ -123,7 +130,7 @@ fn check_references(file: &[u8], p: usize, at: usize) -> Passed
     if count == 0 {
         return Passed::To(at + 1);
     }
-    if u8_at(file, p + 4) == 1 {
+    if u8_at(file, p + 4) == KIND_RETURN {
         return Passed::Unfit(Refusal::ReturnReference(p));
     }
     let arrays = u8_at(file, 4);
@@ -258,9 +265,9 @@ fn check_data(file: &[u8], p: usize, at: usize) -> Passed
     ensures { λ r. ⌜ r ≡ passedOf (verdict (dataChecks (now (file .entry)) p)) (recordEnd (now (file .entry)) p) ⌝ }
 {
     match u8_at(file, p + 4) {
-        4 => check_items(file, p, at),
-        5 => check_gosub(file, p, at),
-        6 => check_call_lines(file, p, at),
+        KIND_DIM => check_items(file, p, at),
+        KIND_GOSUB => check_gosub(file, p, at),
+        KIND_ON_GOSUB => check_call_lines(file, p, at),
         _ => Passed::To(at),
     }
 }
@@ -289,6 +296,7 @@ fn check_statements(file: &[u8]) -> Passed
     let n = u16_at(file, 2);
     let mut p = 8;
     let mut i = 0;
+    // Given out only where the loop is left early, and then set before.
     let mut refusal = Refusal::Record(8);
     'records: while i < n {
         let successors = match check_start(file, p) {
@@ -365,7 +373,7 @@ fn check_end(file: &[u8], at: usize) -> Passed
 }
 
 // One part of the file, which begins at `at`.
-pub fn check_part(file: &[u8], part: Part, at: usize) -> Passed
+fn check_part(file: &[u8], part: Part, at: usize) -> Passed
     requires { ⌜ Due (now file) part at ⌝ }
     ensures { λ r. ⌜ r ≡ partAnswer (now (file .entry)) part ⌝ }
 {
@@ -374,6 +382,17 @@ pub fn check_part(file: &[u8], part: Part, at: usize) -> Passed
         Part::Statements => check_statements(file),
         Part::Lines => check_lines(file, at),
         Part::End => check_end(file, at),
+    }
+}
+
+// One part of the file, which begins at `at`, unless a part before it was refused: the first refusal is the answer.
+pub fn check_after(file: &[u8], before: Passed, part: Part, at: usize) -> Passed
+    requires { ⌜ Judged (now file) part before at ⌝ }
+    ensures { λ r. ⌜ r ≡ answerThrough (now (file .entry)) part ⌝ }
+{
+    match before {
+        Passed::To(_) => check_part(file, part, at),
+        Passed::Unfit(r) => Passed::Unfit(r),
     }
 }
 
@@ -387,33 +406,37 @@ pub fn place_after(passed: Passed, at: usize) -> usize
     }
 }
 
-// A whole file, part by part: its header, or why it is refused.
+// What is found of a file whose parts were judged, the last with the answer `end`: its header, or why it is refused. The lines were looked
+// for at `lines_at`, and the end at `end_at`.
+fn checked(file: &[u8], lines_at: usize, end_at: usize, end: Passed) -> Checked
+    requires { ⌜ Ended (now file) «lines_at» «end_at» end ⌝ }
+    ensures { λ c. ⌜ c ≡ checkedOf (verdict (fileChecks (now (file .entry)))) (headerOf (now (file .entry))) ⌝ }
+{
+    match end {
+        Passed::Unfit(r) => Checked::Unfit(r),
+        Passed::To(_) => Checked::Fit(Header {
+            statements: u16_at(file, 2),
+            arrays: u8_at(file, 4),
+            names: u8_at(file, 5),
+            entry: StmtId(u16_at(file, 6)),
+            lines_at,
+            lines: (end_at - lines_at) / 6,
+        }),
+    }
+}
+
+// A whole file: one reader goes through its parts, and each begins where the reader stands.
 pub fn check_file(file: &[u8]) -> Checked
     ensures { λ r. ⌜ r ≡ checkedOf (verdict (fileChecks (now (file .entry)))) (headerOf (now (file .entry))) ⌝ }
 {
-    let statements_at = match read_part(file, Part::Header, 0) {
-        Passed::To(q) => q,
-        Passed::Unfit(r) => return Checked::Unfit(r),
-    };
-    let lines_at = match read_part(file, Part::Statements, statements_at) {
-        Passed::To(q) => q,
-        Passed::Unfit(r) => return Checked::Unfit(r),
-    };
-    let end = match read_part(file, Part::Lines, lines_at) {
-        Passed::To(q) => q,
-        Passed::Unfit(r) => return Checked::Unfit(r),
-    };
-    if let Passed::Unfit(r) = read_part(file, Part::End, end) {
-        return Checked::Unfit(r);
-    }
-    Checked::Fit(Header {
-        statements: u16_at(file, 2),
-        arrays: u8_at(file, 4),
-        names: u8_at(file, 5),
-        entry: u16_at(file, 6),
-        lines_at,
-        lines: (end - lines_at) / 6,
-    })
+    let mut r = new(file);
+    let header = next(&mut r, Passed::To(0), Part::Header);
+    let statements = next(&mut r, header, Part::Statements);
+    let lines_at = r.at;
+    let lines = next(&mut r, statements, Part::Lines);
+    let end_at = r.at;
+    let end = next(&mut r, lines, Part::End);
+    checked(file, lines_at, end_at, end)
 }
 
 // The number of a refusal in the refusal table.

@@ -1,5 +1,4 @@
 // The flow file: what it may hold, which file is refused and why, and the fields of a statement's record.
-ghost use mathlib.Core.Path.{_≡_};
 
 // The limits of a flow file.
 pub const MAX_FILE: usize = 262144;
@@ -12,6 +11,19 @@ pub const MAX_NAMES: usize = 64;
 
 pub const MAX_KIND: usize = 6;
 
+// The kinds of statements by their numbers; 0 is any other statement.
+pub const KIND_RETURN: usize = 1;
+
+pub const KIND_CLR: usize = 2;
+
+pub const KIND_RUN: usize = 3;
+
+pub const KIND_DIM: usize = 4;
+
+pub const KIND_GOSUB: usize = 5;
+
+pub const KIND_ON_GOSUB: usize = 6;
+
 // A continuation with this value means none.
 pub const NO_CONTINUATION: usize = 65535;
 
@@ -23,6 +35,12 @@ pub struct StmtId(pub usize);
 
 // A doubled number, from 0 to 2 n - 1: a node of the doubled graph.
 pub struct NodeId(pub usize);
+
+// The two copies of a statement: base 0 and base n.
+pub enum Base {
+    Zero,
+    N,
+}
 
 // Why a flow is refused. A record's place is the offset of its mark, or where that mark should begin.
 pub enum Refusal {
@@ -53,7 +71,7 @@ pub struct Header {
     pub statements: usize,
     pub arrays: usize,
     pub names: usize,
-    pub entry: usize,
+    pub entry: StmtId,
     // The place of the first FL record, and how many there are.
     pub lines_at: usize,
     pub lines: usize,
@@ -92,11 +110,12 @@ pub enum Continuation {
 }
 
 // The statement that a line enters, if there is one.
-pub enum Entered {
+pub enum LineEntry {
     At(StmtId),
     Nothing,
 }
 
+pub mod areas;
 pub mod bytes;
 pub mod check;
 pub mod reader;

@@ -1,76 +1,114 @@
-// The lines of the listing.
+// The lines of the listing, each put at a place of a lent buffer.
+ghost use Prim.Native.Nat.{_≤_};
 ghost use mathlib.Core.Path.{_≡_};
+ghost use mathlib.Core.List.{[], _∷_};
+ghost use lib.ListN.{length};
+ghost use Rattle.flow.specs.Limits.{workWords};
 ghost use Rattle.flow.specs.Format.{statementsOf, arraysOf};
-ghost use Rattle.flow.specs.Fields.{FitRecord};
-ghost use Rattle.listing.specs.Room.{Room};
+ghost use Rattle.theory.specs.Lists.{concatMap, upTo};
+ghost use Rattle.flow.specs.Format.{letterF};
+ghost use Rattle.theory.specs.Listing.{letterR, decimal, hexadecimal, lineOf, maskDigits};
+ghost use Rattle.statements.specs.contracts.Ready.{Ready};
+ghost use Rattle.listing.specs.contracts.Room.{Small, Room, wordIn, areasText, areasLine};
+ghost use Rattle.listing.specs.contracts.Put.{HasRoom, Appended};
+use crate::put;
+use flow::StmtId;
+use flow::bytes::u8_at;
+use flow::bytes::u16_at;
+use statements::fields;
 
-// A number, and what parts it from what follows.
-fn number(n: u64, after: &[u8]) {
-    io::print_decimal(1, n);
-    io::write_all(1, after);
-}
-
-pub fn refusal(r: flow::Refusal) {
-    io::write_all(1, b"R ");
-    number(flow::check::number(r), b" ");
-    number(flow::check::place(r), b"\n");
-}
-
-fn header(n: usize, arrays: usize, names: usize) {
-    io::write_all(1, b"F ");
-    number(n as u64, b" ");
-    number(arrays as u64, b" ");
-    number(names as u64, b"\n");
-}
-
-// One digit an array, or a dash where there are none.
-fn digits(masks: &[u8]) {
-    if masks.len() == 0 {
-        io::write_all(1, b"-");
-    }
-    let mut a = 0;
-    while a < masks.len() {
-        io::print_decimal(1, masks[a] as u64);
-        a += 1;
-    }
-}
-
-// Statement i, whose record stands at p.
-fn line(file: &[u8], p: usize, i: usize, masks: &[u8], live_in: u64, live_out: u64)
-    requires { ⌜ FitRecord (now file) p ⌝ }
+// A refusal's number and place. There is room for any two numbers.
+pub fn refusal(out: &mut [u8], number: u64, place: u64) -> usize
+    requires { ⌜ 44 ≤ length (now out) ⌝ }
+    ensures { λ next. ⌜ Appended (now (out .entry)) 0 (lineOf ((letterR ∷ []) ∷ decimal number ∷ decimal place ∷ [])) (now (out .exit)) next ⌝ }
 {
-    number(i as u64, b" ");
-    number(records::line(file, p) as u64, b" ");
-    digits(masks);
-    io::write_all(1, b" ");
-    io::print_hex(1, live_in, 16);
-    io::write_all(1, b" ");
-    io::print_hex(1, live_out, 16);
-    io::write_all(1, b"\n");
+    let mut at = put::field(out, 0, b"R", b' ');
+    at = put::decimal(out, at, number, b' ');
+    put::decimal(out, at, place, b'\n')
+}
+
+fn first(out: &mut [u8], n: usize, arrays: usize, names: usize) -> usize
+    requires { ⌜ HasRoom (now out) 0 (lineOf ((letterF ∷ []) ∷ decimal n ∷ decimal arrays ∷ decimal names ∷ [])) ⌝ }
+    ensures { λ next. ⌜ Appended (now (out .entry)) 0 (lineOf ((letterF ∷ []) ∷ decimal n ∷ decimal arrays ∷ decimal names ∷ [])) (now (out .exit)) next ⌝ }
+{
+    let mut at = put::field(out, 0, b"F", b' ');
+    at = put::decimal(out, at, n as u64, b' ');
+    at = put::decimal(out, at, arrays as u64, b' ');
+    put::decimal(out, at, names as u64, b'\n')
+}
+
+// Statement i with its line, masks and live sets.
+fn line(
+    out: &mut [u8],
+    start: usize,
+    i: StmtId,
+    number: usize,
+    row: &[u8],
+    live_in: u64,
+    live_out: u64,
+) -> usize
+    requires { ⌜ HasRoom (now out) start (lineOf (decimal (i .0) ∷ decimal number ∷ maskDigits (length (now row)) (wordIn (now row)) ∷ hexadecimal «live_in» ∷ hexadecimal «live_out» ∷ [])) × Small (now row) ⌝ }
+    ensures { λ next. ⌜ Appended (now (out .entry)) start (lineOf (decimal (i .0) ∷ decimal number ∷ maskDigits (length (now (row .entry))) (wordIn (now (row .entry))) ∷ hexadecimal «live_in» ∷ hexadecimal «live_out» ∷ [])) (now (out .exit)) next ⌝ }
+{
+    let mut at = put::decimal(out, start, i.0 as u64, b' ');
+    at = put::decimal(out, at, number as u64, b' ');
+    at = put::masks(out, at, row, b' ');
+    at = put::hex(out, at, live_in, b' ');
+    put::hex(out, at, live_out, b'\n')
 }
 
 // One line a statement.
-fn statements(file: &[u8], n: usize, arrays: usize, masks: &[u8], live_in: &[u64], live_out: &[u64])
-    requires { ⌜ Room (now file) (now masks) (now «live_in») (now «live_out») × (n ≡ statementsOf (now file)) × (arrays ≡ arraysOf (now file)) ⌝ }
+fn statements(
+    out: &mut [u8],
+    start: usize,
+    file: &[u8],
+    work: &[u64],
+    n: usize,
+    arrays: usize,
+    masks: &[u8],
+    live_in: &[u64],
+    live_out: &[u64],
+) -> usize
+    requires { ⌜ Room (now file) (now masks) (now «live_in») (now «live_out») × Ready (now file) (now work) n × (arrays ≡ arraysOf (now file)) × HasRoom (now out) start (concatMap (areasLine (now file) (now masks) (now «live_in») (now «live_out»)) (upTo n)) ⌝ }
+    ensures { λ next. ⌜ Appended (now (out .entry)) start (concatMap (areasLine (now (file .entry)) (now (masks .entry)) (now («live_in» .entry)) (now («live_out» .entry))) (upTo n)) (now (out .exit)) next ⌝ }
 {
-    let mut p = 8;
-    let mut at = 0;
+    let mut at = start;
+    let mut row = 0;
     let mut i = 0;
     while i < n {
-        let end = at + arrays;
-        line(file, p, i, &masks[at..end], live_in[i], live_out[i]);
-        p = records::record_end(file, p);
-        at = end;
+        let end = row + arrays;
+        let number = records::record_line(fields::record(file, work, n, StmtId(i)));
+        at = line(
+            out,
+            at,
+            StmtId(i),
+            number,
+            &masks[row..end],
+            live_in[i],
+            live_out[i],
+        );
+        row = end;
         i += 1;
     }
+    at
 }
 
-// The listing of a file that was accepted.
-pub fn accepted(file: &[u8], masks: &[u8], live_in: &[u64], live_out: &[u64])
-    requires { ⌜ Room (now file) (now masks) (now «live_in») (now «live_out») ⌝ }
+// The listing of a file that was accepted, whose answer the areas hold. The work area serves again, for the places of the records.
+pub fn accepted(
+    out: &mut [u8],
+    file: &[u8],
+    masks: &[u8],
+    live_in: &[u64],
+    live_out: &[u64],
+    work: &mut [u64],
+) -> usize
+    requires { ⌜ Room (now file) (now masks) (now «live_in») (now «live_out») × (workWords (statementsOf (now file)) ≤ length (now work)) × HasRoom (now out) 0 (areasText (now file) (now masks) (now «live_in») (now «live_out»)) ⌝ }
+    ensures { λ next. ⌜ Appended (now (out .entry)) 0 (areasText (now (file .entry)) (now (masks .entry)) (now («live_in» .entry)) (now («live_out» .entry))) (now (out .exit)) next ⌝ }
 {
-    if let flow::Checked::Fit(h) = flow::check::check_file(file) {
-        header(h.statements, h.arrays, h.names);
-        statements(file, h.statements, h.arrays, masks, live_in, live_out);
-    }
+    let n = u16_at(file, 2);
+    let arrays = u8_at(file, 4);
+    let names = u8_at(file, 5);
+    let at = first(out, n, arrays, names);
+    records::offsets::note_offsets(file, work, 0, n);
+    statements(out, at, file, work, n, arrays, masks, live_in, live_out)
 }

@@ -9,7 +9,7 @@ use native.Mathlib.Nat.{le-refl}
 use native.Mathlib.Omega.{arith}
 use lib.ListN.{length, getD, set}
 use lib.Seq.{getD-set-same, getD-set-other}
-use Rattle.words.specs.Row.{bit, has}
+use Rattle.words.specs.contracts.Row.{bit, has}
 use Rattle.words.proofs.Bit.{bit-of-zero}
 use Rattle.flow.specs.Flow.{Flow}
 use Rattle.theory.specs.Lists as lists
@@ -18,16 +18,17 @@ use Rattle.theory.specs.Body.{successors}
 use Rattle.theory.specs.Queue.{join}
 use Rattle.theory.specs.Live.{bitOf}
 use Rattle.theory.proofs.Enqueue.{join-keeps, join-adds, join-cases}
-use Rattle.statements.specs.Layout.{rowAt, matrixAt, visitedAt}
-use Rattle.statements.specs.Ready.{Keeps}
+use Rattle.statements.specs.contracts.Layout.{rowAt, matrixAt}
+use Rattle.statements.specs.contracts.Ready.{Keeps}
 use Rattle.statements.proofs.WorkArea.{row-from, row-fits, member-word}
 use Rattle.statements.proofs.Keeps.{keeps-refl, keeps-trans, keeps-widen, keeps-set}
 use Rattle.statements.proofs.Members.{zero-has}
+use Rattle.solve.specs.contracts.Layout.{visitedAt}
 use Rattle.solve.specs.declared.Queue.{Queue}
-use Rattle.solve.specs.Waiting.{Waits, Enqueued}
+use Rattle.solve.specs.contracts.Waiting.{Waits, Enqueued}
 use Rattle.solve.proofs.Waiting.{waits-none, waits-kept, rest-keeps}
-use Rattle.live.specs.Predecessors.{Column, Noted}
-use Rattle.live.specs.LiveNames.{Blank, Begun}
+use Rattle.live.specs.contracts.Predecessors.{Column, Noted}
+use Rattle.live.specs.contracts.LiveNames.{LiveStart, AllWaiting}
 use Rattle.live.proofs.Pushing.{rest-row}
 
 -- the queue holds the statements from i on
@@ -38,7 +39,7 @@ pub record Waiting (ws : List ℕ) (n : ℕ) (q : Queue) (i : ℕ) : Type 0 wher
   pub small : (k : ℕ) → In k list → k < n
 
 -- words of an area are zero from i on, below n
-pub record Cleared (n : ℕ) (before after : List ℕ) (i : ℕ) : Type 0 where
+pub record Zeroed (n : ℕ) (before after : List ℕ) (i : ℕ) : Type 0 where
   pub zeros : (k : ℕ) → i ≤ k → k < n → getD after k 0 ≡ 0
   pub area : Keeps 0 n before after
 
@@ -47,15 +48,15 @@ pub record Beginning (f : Flow) (n : ℕ) (ws₀ ws ins₀ ins outs₀ outs : Li
   pub noted : (k : ℕ) → i ≤ k → k < n → Column ws n k (successors f k)
   pub free : (k : ℕ) → k < i → Column ws n k []
   pub queue : Waiting ws n q i
-  pub ins-clear : Cleared n ins₀ ins i
-  pub outs-clear : Cleared n outs₀ outs i
+  pub ins-zero : Zeroed n ins₀ ins i
+  pub outs-zero : Zeroed n outs₀ outs i
   pub kept : Keeps (matrixAt n) (visitedAt n) ws₀ ws
 
-cleared-none : {n : ℕ} (before : List ℕ) → Cleared n before before n
-cleared-none before = record { zeros = λ k l m. absurd (omega arith); area = keeps-refl }
+zeroed-none : {n : ℕ} (before : List ℕ) → Zeroed n before before n
+zeroed-none before = record { zeros = λ k l m. absurd (omega arith); area = keeps-refl }
 
-cleared-more : {n i : ℕ} {before after : List ℕ} → Cleared n before after i → 0 < i → i ≤ n → n ≤ length before → Cleared n before (set after (i - 1) 0) (i - 1)
-cleared-more {n} {i} {before} {after} c p l room = record {
+zeroed-more : {n i : ℕ} {before after : List ℕ} → Zeroed n before after i → 0 < i → i ≤ n → n ≤ length before → Zeroed n before (set after (i - 1) 0) (i - 1)
+zeroed-more {n} {i} {before} {after} c p l room = record {
   zeros = λ k a b. at k a b (ℕ-discrete k (i - 1));
   area = keeps-trans (c .area) (keeps-set after (i - 1) 0 zero-le (omega arith));
 }
@@ -64,12 +65,12 @@ cleared-more {n} {i} {before} {after} c p l room = record {
     at k a b (yes e) = ap (λ z. getD (set after (i - 1) 0) z 0) e ∙ getD-set-same after (i - 1) 0 0 (let size = c .area .size in omega arith)
     at k a b (no e) = getD-set-other after (i - 1) k 0 0 e ∙ c .zeros k (omega (arith, e)) b
 
-empty-column : {s ws ins outs : List ℕ} {n : ℕ} → Blank s ws ins outs n → (k : ℕ) → k < n → Column ws n k []
-unfolding lists.has
+empty-column : {s ws ins outs : List ℕ} {n : ℕ} → LiveStart s ws ins outs n → (k : ℕ) → k < n → Column ws n k []
+unfolding lists.elem
 empty-column {s} {ws} {ins} {outs} {n} b k l j m =
     zero-has ws (rowAt n j) k (b .zero (rowAt n j + k / 64) (omega (arith, row-from n j)) (omega (arith, row-fits n m, member-word l)))
 
-pub beginning-none : (f : Flow) {s ws ins outs : List ℕ} {n : ℕ} → Blank s ws ins outs n → Beginning f n ws ws ins ins outs outs (record { head = 0; len = 0 }) n
+pub beginning-none : (f : Flow) {s ws ins outs : List ℕ} {n : ℕ} → LiveStart s ws ins outs n → Beginning f n ws ws ins ins outs outs (record { head = 0; len = 0 }) n
 beginning-none f {s} {ws} {ins} {outs} {n} b = record {
   low = le-refl n;
   noted = λ k l m. absurd (omega arith);
@@ -80,8 +81,8 @@ beginning-none f {s} {ws} {ins} {outs} {n} b = record {
     all = λ k l m. absurd (omega arith);
     small = λ k m. absurd (List·Memᴰ·not-nil m);
   };
-  ins-clear = cleared-none ins;
-  outs-clear = cleared-none outs;
+  ins-zero = zeroed-none ins;
+  outs-zero = zeroed-none outs;
   kept = keeps-refl;
 }
 
@@ -96,7 +97,7 @@ module _ {f : Flow} {n : ℕ} {ws₀ ws vs us ins₀ ins outs₀ outs : List ℕ
 
   column : (k : ℕ) → i - 1 ≤ k → k < n → Dec (k ≡ i - 1) → Column us n k (successors f k)
   column k l m (yes e) j a =
-      rest-row (t .kept) a m ∙ subst (λ z. has vs (rowAt n j) z ≡ bitOf (lists.has j (successors f z))) (sym e) (s .column j a)
+      rest-row (t .kept) a m ∙ subst (λ z. has vs (rowAt n j) z ≡ bitOf (lists.elem j (successors f z))) (sym e) (s .column j a)
   column k l m (no e) j a = rest-row (t .kept) a m ∙ s .others j k a m e ∙ b .noted k (omega (arith, e)) m j a
 
   pub beginning-more : Beginning f n ws₀ us ins₀ (set ins (i - 1) 0) outs₀ (set outs (i - 1) 0) r (i - 1)
@@ -110,8 +111,8 @@ module _ {f : Flow} {n : ℕ} {ws₀ ws vs us ins₀ ins outs₀ outs : List ℕ
       all = λ k l m. joined k l m (ℕ-discrete k (i - 1));
       small = λ k m. ⊎-elim (b .queue .small k) (λ e. rw e below) (join-cases (b .queue .list) (i - 1) m);
     };
-    ins-clear = cleared-more (b .ins-clear) p (b .low) in-room;
-    outs-clear = cleared-more (b .outs-clear) p (b .low) out-room;
+    ins-zero = zeroed-more (b .ins-zero) p (b .low) in-room;
+    outs-zero = zeroed-more (b .outs-zero) p (b .low) out-room;
     kept = keeps-trans (b .kept) (keeps-trans (keeps-widen (le-refl _) (omega arith) (s .kept)) (keeps-widen (omega (arith, row-from n n)) (le-refl _) (rest-keeps (t .kept))));
   }
     where
@@ -122,7 +123,7 @@ module _ {f : Flow} {n : ℕ} {ws₀ ws vs us ins₀ ins outs₀ outs : List ℕ
 no-bit : {A : Type 0} {w : ℕ} (x : ℕ) → w ≡ 0 → bit w x ≡ 1 → A
 no-bit {A} {w} x e d = absurd (let none : bit w x ≡ 0 = ap (λ z. bit z x) e ∙ bit-of-zero x in omega arith)
 
-pub beginning-all : {f : Flow} {n : ℕ} {ws₀ ws ins₀ ins outs₀ outs : List ℕ} {q : Queue} {i : ℕ} → Beginning f n ws₀ ws ins₀ ins outs₀ outs q i → i ≤ 0 → Begun f n ws₀ ws ins₀ ins outs₀ outs q
+pub beginning-all : {f : Flow} {n : ℕ} {ws₀ ws ins₀ ins outs₀ outs : List ℕ} {q : Queue} {i : ℕ} → Beginning f n ws₀ ws ins₀ ins outs₀ outs q i → i ≤ 0 → AllWaiting f n ws₀ ws ins₀ ins outs₀ outs q
 beginning-all {f} {n} {ws₀} {ws} {ins₀} {ins} {outs₀} {outs} {q} {i} b l = record {
   predecessors = λ k m. b .noted k (omega arith) m;
   held = (
@@ -130,12 +131,12 @@ beginning-all {f} {n} {ws₀} {ws} {ins₀} {ins} {outs₀} {outs} {q} {i} b l =
     b .queue .waits,
     record {
       small = b .queue .small;
-      sound-in = λ k x m e. no-bit x (b .ins-clear .zeros k (omega arith) m) e;
-      sound-out = λ k x m e. no-bit x (b .outs-clear .zeros k (omega arith) m) e;
-      settled = λ k m. inl (b .queue .all k (omega arith) m);
+      sound-in = λ k x m e. no-bit x (b .ins-zero .zeros k (omega arith) m) e;
+      sound-out = λ k x m e. no-bit x (b .outs-zero .zeros k (omega arith) m) e;
+      handed-on = λ k m. inl (b .queue .all k (omega arith) m);
     },
   );
   kept = b .kept;
-  in-area = b .ins-clear .area;
-  out-area = b .outs-clear .area;
+  in-area = b .ins-zero .area;
+  out-area = b .outs-zero .area;
 }

@@ -10,12 +10,12 @@ use native.Mathlib.Omega.{arith}
 use borrow.Author.Tests.{eqb-true, eq-eqb, ne-eqb, eqb-false}
 use lib.Bits.{bitOr}
 use lib.Pow.{pow-pos}
-use Rattle.words.specs.Row.{bit}
-use Rattle.words.specs.Change.{without}
+use Rattle.words.specs.contracts.Row.{bit}
+use Rattle.words.specs.contracts.Change.{without}
 use Rattle.words.proofs.Bit.{bit-lt, bit-or, bit-without, bit-mod, bit-high, bits-ext}
 use Rattle.flow.specs.Flow.{Flow, statement}
 use Rattle.theory.specs.Live.{member, reads, writes}
-use Rattle.live.specs.Solving.{transfer}
+use Rattle.live.specs.contracts.Solving.{transfer}
 
 -- a member is a bit
 pub member-bit : (w x : ℕ) → member w x ≡ true → bit w x ≡ 1

@@ -13,11 +13,12 @@ use Rattle.records.proofs.Files.{limited}
 use Rattle.theory.specs.Lists.{In}
 use Rattle.theory.specs.Body.{successors}
 use Rattle.theory.proofs.Lists.{getD-In}
-use Rattle.statements.specs.Layout.{rowWords, rowAt, queueAt, visitedAt}
-use Rattle.statements.specs.Ready.{Ready}
+use Rattle.statements.specs.contracts.Layout.{rowWords, rowAt, queueAt}
+use Rattle.statements.specs.contracts.Ready.{Ready}
 use Rattle.statements.proofs.WorkArea.{row-fits}
 use Rattle.statements.proofs.Keeps.{ready-formed, ready-below}
 use Rattle.statements.proofs.WellFormed.{statement-in}
+use Rattle.solve.specs.contracts.Layout.{visitedAt}
 
 -- a row of the matrix, for those who read its words
 pub row-room : {n j row size : ℕ} → row ≡ rowAt n j → j < n → visitedAt n ≤ size → row + (n + 63) / 64 ≤ size

@@ -4,8 +4,8 @@ pub mod Spread
 pub mod Pushing
 pub mod Bits
 pub mod Solving
-pub mod Solved
+pub mod Solution
 pub mod Visits
 pub mod Beginning
 pub mod Finishing
-pub mod Blank
+pub mod Start

@@ -10,19 +10,19 @@ use native.Mathlib.Numerals.{add-one}
 use native.Mathlib.Omega.{arith}
 use lib.ListN.{length, take, getD}
 use lib.Seq.{take-suc, take-all}
-use Rattle.words.specs.Row.{has}
-use Rattle.words.specs.Change.{Inserted, inserted}
+use Rattle.words.specs.contracts.Row.{has}
+use Rattle.words.specs.contracts.Change.{Inserted, inserted}
 use Rattle.words.proofs.Inserted.{insert-same, insert-other}
 use Rattle.flow.specs.Flow.{Flow}
 use Rattle.theory.specs.Lists as lists
 use Rattle.theory.specs.Body.{successors}
 use Rattle.theory.specs.Live.{bitOf}
-use Rattle.theory.proofs.Lists.{has-last, has-before}
-use Rattle.statements.specs.Layout.{rowAt, matrixAt, queueAt}
-use Rattle.statements.specs.Ready.{Keeps}
+use Rattle.theory.proofs.Lists.{elem-last, elem-before}
+use Rattle.statements.specs.contracts.Layout.{rowAt, matrixAt, queueAt}
+use Rattle.statements.specs.contracts.Ready.{Keeps}
 use Rattle.statements.proofs.WorkArea.{member-word, row-fits, row-from, insert-row}
 use Rattle.statements.proofs.Keeps.{keeps-refl, keeps-trans, keeps-inserted}
-use Rattle.live.specs.Predecessors.{Column, Noted}
+use Rattle.live.specs.contracts.Predecessors.{Column, Noted}
 
 pub record Noting (l ws₀ ws : List ℕ) (n i k : ℕ) : Type 0 where
   pub low : k ≤ length l
@@ -38,12 +38,12 @@ module _ {l ws₀ ws vs : List ℕ} {n i k base : ℕ} {r : Bool} (s : Noting l 
   in-area : rowAt n (getD l k 0) + i / 64 < length ws
   in-area = omega (arith, member-word small, row-fits n target)
 
-  column-more : (j : ℕ) → j < n → Dec (j ≡ getD l k 0) → has (inserted ws (rowAt n (getD l k 0)) i) (rowAt n j) i ≡ bitOf (lists.has j (take k l ++ (getD l k 0 ∷ [])))
+  column-more : (j : ℕ) → j < n → Dec (j ≡ getD l k 0) → has (inserted ws (rowAt n (getD l k 0)) i) (rowAt n j) i ≡ bitOf (lists.elem j (take k l ++ (getD l k 0 ∷ [])))
   column-more j b (yes e) =
       ap (λ z. has (inserted ws (rowAt n (getD l k 0)) i) (rowAt n z) i) e
       ∙ insert-same ws (rowAt n (getD l k 0)) i in-area
-      ∙ sym (ap (λ z. bitOf (lists.has z (take k l ++ (getD l k 0 ∷ [])))) e ∙ ap bitOf (has-last (take k l) (getD l k 0)))
-  column-more j b (no d) = insert-row ws d small small ∙ s .column j b ∙ sym (ap bitOf (has-before (take k l) d))
+      ∙ sym (ap (λ z. bitOf (lists.elem z (take k l ++ (getD l k 0 ∷ [])))) e ∙ ap bitOf (elem-last (take k l) (getD l k 0)))
+  column-more j b (no d) = insert-row ws d small small ∙ s .column j b ∙ sym (ap bitOf (elem-before (take k l) d))
 
   others-same : (j m : ℕ) → j < n → m < n → m ≢ i → Dec (j ≡ getD l k 0) → has (inserted ws (rowAt n (getD l k 0)) i) (rowAt n j) m ≡ has ws (rowAt n j) m
   others-same j m a b d (yes e) =
@@ -55,7 +55,7 @@ module _ {l ws₀ ws vs : List ℕ} {n i k base : ℕ} {r : Bool} (s : Noting l 
   pub noting-more : Noting l ws₀ vs n i (k + 1)
   noting-more = subst (λ z. Noting l ws₀ z n i (k + 1)) (sym (change .slice ∙ ap (λ z. inserted ws z i) place)) (record {
     low = omega arith;
-    column = λ j b. column-more j b (ℕ-discrete j (getD l k 0)) ∙ sym (ap (λ z. bitOf (lists.has j z)) (ap (λ z. take z l) (add-one k) ∙ take-suc l k 0 short));
+    column = λ j b. column-more j b (ℕ-discrete j (getD l k 0)) ∙ sym (ap (λ z. bitOf (lists.elem j z)) (ap (λ z. take z l) (add-one k) ∙ take-suc l k 0 short));
     others = λ j m a b d. others-same j m a b d (ℕ-discrete j (getD l k 0)) ∙ s .others j m a b d;
     kept = keeps-trans (s .kept) (keeps-inserted ws (rowAt n (getD l k 0)) i (row-from n (getD l k 0)) (omega (arith, member-word small, row-fits n target)));
   })

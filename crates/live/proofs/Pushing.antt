@@ -9,22 +9,22 @@ use native.Mathlib.Omega.{arith}
 use borrow.Author.Tests.{eq-eqb, ne-eqb}
 use lib.Bits.{bitOr}
 use lib.ListN.{length, getD}
-use Rattle.words.specs.Row.{has, nextMember, First}
+use Rattle.words.specs.contracts.Row.{has, nextMember, First}
 use Rattle.words.proofs.NextMember.{first}
 use Rattle.words.proofs.Inserted.{length-joined, joined-word, joined-other}
-use Rattle.statements.specs.Layout.{rowAt}
+use Rattle.statements.specs.contracts.Layout.{rowAt}
 use Rattle.statements.proofs.WorkArea.{member-word, row-fits}
 use Rattle.statements.proofs.Keeps.{keeps-has}
 use Rattle.solve.specs.declared.Queue.{Queue}
-use Rattle.solve.specs.Waiting.{KeepsRest}
+use Rattle.solve.specs.contracts.Waiting.{KeepsRest}
 use Rattle.solve.proofs.Waiting.{rest-keeps}
-use Rattle.live.specs.Spread.{Spread, PushedTo, pushed, PushedLive}
+use Rattle.live.specs.contracts.Spread.{Spread, PushedTo, pushed, PushedLive}
 use Rattle.live.proofs.Spread.{spread-refl, spread-trans}
 
-pub record Pushing (ws₀ ws before after : List ℕ) (n : ℕ) (q₀ q : Queue) (j live i : ℕ) : Type 0 where
+pub record Pushing (ws₀ ws before after : List ℕ) (n : ℕ) (q₀ q : Queue) (row live i : ℕ) : Type 0 where
   pub low : i ≤ n
-  pub member : i < n → has ws₀ (rowAt n j) i ≡ 1
-  pub passed : (k : ℕ) → k < i → getD after k 0 ≡ pushed ws₀ (rowAt n j) live before k
+  pub member : i < n → has ws₀ row i ≡ 1
+  pub passed : (k : ℕ) → k < i → getD after k 0 ≡ pushed ws₀ row live before k
   pub ahead : (k : ℕ) → i ≤ k → getD after k 0 ≡ getD before k 0
   pub size : length after ≡ length before
   pub spread : Spread ws₀ ws before after n q₀ q
@@ -41,49 +41,49 @@ pushed-other ws row live before k e = rw (ne-eqb (has ws row k) 1 (λ d. omega a
 pub rest-row : {ws vs : List ℕ} {n : ℕ} → KeepsRest n ws vs → {j k : ℕ} → j < n → k < n → has vs (rowAt n j) k ≡ has ws (rowAt n j) k
 rest-row {ws} {vs} {n} s {j} {k} l m = keeps-has (rest-keeps s) (rowAt n j) k (λ a b. omega (arith, row-fits n l, member-word m))
 
-pub pushing-none : {ws before : List ℕ} {n row i : ℕ} {q : Queue} {j live : ℕ} → row ≡ rowAt n j → i ≡ nextMember ws row 0 n → Pushing ws ws before before n q q j live i
-pushing-none {ws} {before} {n} {row} {i} {q} {j} {live} e d = record {
+pub pushing-none : {ws before : List ℕ} {n row i : ℕ} {q : Queue} {live : ℕ} → i ≡ nextMember ws row 0 n → Pushing ws ws before before n q q row live i
+pushing-none {ws} {before} {n} {row} {i} {q} {live} d = record {
   low = f .high;
   member = f .member;
-  passed = λ k l. sym (pushed-other ws (rowAt n j) live before k (f .none k (omega arith) l));
+  passed = λ k l. sym (pushed-other ws row live before k (f .none k (omega arith) l));
   ahead = λ k l. refl;
   size = refl;
   spread = spread-refl;
 }
   where
-    f : First ws (rowAt n j) 0 n i
-    f = subst (λ r. First ws (rowAt n j) 0 n r) (sym (d ∙ ap (λ z. nextMember ws z 0 n) e)) (first ws (rowAt n j) 0 n (omega arith))
+    f : First ws row 0 n i
+    f = subst (λ r. First ws row 0 n r) (sym d) (first ws row 0 n (omega arith))
 
-module _ {ws₀ ws vs before after final : List ℕ} {n row : ℕ} {q₀ q p : Queue} {j live i i′ : ℕ} (s : Pushing ws₀ ws before after n q₀ q j live i) (l : i < n) (room : n ≤ length before) (small : j < n)
+module _ {ws₀ ws vs before after final : List ℕ} {n row : ℕ} {q₀ q p : Queue} {j live i i′ : ℕ} (s : Pushing ws₀ ws before after n q₀ q row live i) (l : i < n) (room : n ≤ length before) (small : j < n)
     (t : PushedTo ws vs after final n q p i live) (e : row ≡ rowAt n j) (d : i′ ≡ nextMember vs row (i + 1) n) where
-  f : First vs (rowAt n j) (i + 1) n i′
-  f = subst (λ r. First vs (rowAt n j) (i + 1) n r) (sym (d ∙ ap (λ z. nextMember vs z (i + 1) n) e)) (first vs (rowAt n j) (i + 1) n (omega arith))
+  f : First vs row (i + 1) n i′
+  f = subst (λ r. First vs row (i + 1) n r) (sym d) (first vs row (i + 1) n (omega arith))
 
   whole : Spread ws₀ vs before final n q₀ p
   whole = spread-trans (s .spread) (t .spread)
 
-  same-row : (k : ℕ) → k < n → has vs (rowAt n j) k ≡ has ws₀ (rowAt n j) k
-  same-row k m = rest-row (whole .kept) small m
+  same-row : (k : ℕ) → k < n → has vs row k ≡ has ws₀ row k
+  same-row k m = subst (λ r. has vs r k ≡ has ws₀ r k) (sym e) (rest-row (whole .kept) small m)
 
   other : (k : ℕ) → k ≢ i → getD final k 0 ≡ getD after k 0
   other k c = ap (λ z. getD z k 0) (t .word) ∙ joined-other after i live k c
 
-  here : getD final i 0 ≡ pushed ws₀ (rowAt n j) live before i
+  here : getD final i 0 ≡ pushed ws₀ row live before i
   here =
       ap (λ z. getD z i 0) (t .word)
       ∙ joined-word after i live (let size = s .size in omega arith)
       ∙ ap (λ z. bitOr z live) (s .ahead i (omega arith))
-      ∙ sym (pushed-member ws₀ (rowAt n j) live before i (s .member l))
+      ∙ sym (pushed-member ws₀ row live before i (s .member l))
 
-  below : (k : ℕ) → k < i′ → Dec (k < i) → Dec (k ≡ i) → getD final k 0 ≡ pushed ws₀ (rowAt n j) live before k
+  below : (k : ℕ) → k < i′ → Dec (k < i) → Dec (k ≡ i) → getD final k 0 ≡ pushed ws₀ row live before k
   below k m (yes a) b = other k (λ c. omega arith) ∙ s .passed k a
-  below k m (no a) (yes b) = subst (λ z. getD final z 0 ≡ pushed ws₀ (rowAt n j) live before z) (sym b) here
+  below k m (no a) (yes b) = subst (λ z. getD final z 0 ≡ pushed ws₀ row live before z) (sym b) here
   below k m (no a) (no b) =
       let high = f .high in
       other k b ∙ s .ahead k (omega (arith, a))
-      ∙ sym (pushed-other ws₀ (rowAt n j) live before k (sym (same-row k (omega arith)) ∙ f .none k (omega (arith, a, b)) m))
+      ∙ sym (pushed-other ws₀ row live before k (sym (same-row k (omega arith)) ∙ f .none k (omega (arith, a, b)) m))
 
-  pub pushing-more : Pushing ws₀ vs before final n q₀ p j live i′
+  pub pushing-more : Pushing ws₀ vs before final n q₀ p row live i′
   pushing-more = record {
     low = f .high;
     member = λ m. sym (same-row i′ m) ∙ f .member m;
@@ -93,9 +93,10 @@ module _ {ws₀ ws vs before after final : List ℕ} {n row : ℕ} {q₀ q p : Q
     spread = whole;
   }
 
-pub pushing-all : {ws₀ ws before after : List ℕ} {n : ℕ} {q₀ q : Queue} {j live i : ℕ} → Pushing ws₀ ws before after n q₀ q j live i → n ≤ i → PushedLive ws₀ ws before after n q₀ q j live
-pushing-all s l = record {
-  words = λ k m. s .passed k (omega arith);
+pub pushing-all : {ws₀ ws before after : List ℕ} {n row : ℕ} {q₀ q : Queue} {j live i : ℕ} → row ≡ rowAt n j → Pushing ws₀ ws before after n q₀ q row live i → n ≤ i
+    → PushedLive ws₀ ws before after n q₀ q j live
+pushing-all {ws₀} {ws} {before} {after} {n} {row} {q₀} {q} {j} {live} e s l = record {
+  words = λ k m. s .passed k (omega arith) ∙ ap (λ r. pushed ws₀ r live before k) e;
   area = record { size = s .size; below = λ x m. absurd (omega arith); above = λ x m. let low = s .low in s .ahead x (omega arith) };
   spread = s .spread;
 }

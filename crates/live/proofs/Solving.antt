@@ -9,19 +9,19 @@ use native.Mathlib.Decide.{ℕ-discrete}
 use native.Mathlib.Omega.{arith}
 use lib.ListN.{length, getD, set}
 use lib.Seq.{getD-set-same, getD-set-other}
-use Rattle.words.specs.Row.{bit, has}
+use Rattle.words.specs.contracts.Row.{bit, has}
 use Rattle.words.proofs.Row.{has-lt}
 use Rattle.flow.specs.Flow.{Flow, statement}
 use Rattle.theory.specs.Lists as lists
 use Rattle.theory.specs.Lists.{In}
 use Rattle.theory.specs.Body.{successors}
 use Rattle.theory.specs.Live.{LiveIn, LiveOut, bitOf, writes, reads}
-use Rattle.theory.proofs.Lists.{In-has, has-In}
-use Rattle.statements.specs.Layout.{rowAt}
+use Rattle.theory.proofs.Lists.{In-elem, elem-In}
+use Rattle.statements.specs.contracts.Layout.{rowAt}
 use Rattle.solve.specs.declared.Queue.{Queue}
-use Rattle.live.specs.Predecessors.{Predecessors}
-use Rattle.live.specs.Spread.{pushed, Follows, PushedLive}
-use Rattle.live.specs.Solving.{transfer, Settled, Solving}
+use Rattle.live.specs.contracts.Predecessors.{Predecessors}
+use Rattle.live.specs.contracts.Spread.{pushed, Follows, PushedLive}
+use Rattle.live.specs.contracts.Solving.{transfer, HandedOn, Solving}
 use Rattle.live.proofs.Bits.{or-first, or-second, or-either, transfer-cases}
 use Rattle.live.proofs.Pushing.{pushed-member, pushed-other}
 
@@ -46,10 +46,10 @@ module _ {f : Flow} {ws vs ins outs outs′ w v : List ℕ} {n j live : ℕ} {q 
   -- a predecessor's word has what it had and the live-in; every other word is as it was
 
   in-row : (k : ℕ) → k < n → In j (successors f k) → has ws (rowAt n j) k ≡ 1
-  in-row k l m = rows k l j small ∙ ap bitOf (In-has m)
+  in-row k l m = rows k l j small ∙ ap bitOf (In-elem m)
 
   row-in : (k : ℕ) → k < n → has ws (rowAt n j) k ≡ 1 → In j (successors f k)
-  row-in k l e = has-In j (successors f k) (bit-one (lists.has j (successors f k)) (sym (rows k l j small) ∙ e))
+  row-in k l e = elem-In j (successors f k) (bit-one (lists.elem j (successors f k)) (sym (rows k l j small) ∙ e))
 
   out-more : (k x : ℕ) → k < n → bit (getD outs k 0) x ≡ 1 → bit (getD outs′ k 0) x ≡ 1
   out-more k x l e = subst (λ z. bit z x ≡ 1) (sym (p .words k l)) (go (ℕ-discrete (has ws (rowAt n j) k) 1))
@@ -85,27 +85,27 @@ module _ {f : Flow} {ws vs ins outs outs′ w v : List ℕ} {n j live : ℕ} {q 
 
   -- a statement whose live-out did not grow
 
-  settled-here : getD outs′ j 0 ≡ getD outs j 0 → Settled f n (set ins j live) outs′ j
-  settled-here same = record {
+  handed-on-here : getD outs′ j 0 ≡ getD outs j 0 → HandedOn f n (set ins j live) outs′ j
+  handed-on-here same = record {
     equation = here ∙ value ∙ ap (transfer f j) (sym same);
     carried = λ i x l m e. out-gets i x l m (subst (λ z. bit z x ≡ 1) here e);
   }
 
-  settled-other : (k : ℕ) → k ≢ j → getD outs′ k 0 ≡ getD outs k 0 → Settled f n ins outs k → Settled f n (set ins j live) outs′ k
-  settled-other k d same t =
+  handed-on-other : (k : ℕ) → k ≢ j → getD outs′ k 0 ≡ getD outs k 0 → HandedOn f n ins outs k → HandedOn f n (set ins j live) outs′ k
+  handed-on-other k d same t =
       let kept = getD-set-other ins j k live 0 d in
       record {
         equation = kept ∙ t .equation ∙ ap (transfer f k) (sym same);
         carried = λ i x l m e. out-more i x l (t .carried i x l m (subst (λ z. bit z x ≡ 1) kept e));
       }
 
-  settled : (k : ℕ) → k < n → In k v ⊎ (getD outs′ k 0 ≡ getD outs k 0) → Dec (k ≡ j) → In k v ⊎ Settled f n (set ins j live) outs′ k
-  settled k l (inl m) d = inl m
-  settled k l (inr same) (yes d) =
-      inr (subst (λ z. Settled f n (set ins j live) outs′ z) (sym d) (settled-here (ap (λ z. getD outs′ z 0) (sym d) ∙ same ∙ ap (λ z. getD outs z 0) d)))
-  settled k l (inr same) (no d) = ⊎-elim waiting (λ t. inr (settled-other k d same t)) (s .settled k l)
+  handed-on : (k : ℕ) → k < n → In k v ⊎ (getD outs′ k 0 ≡ getD outs k 0) → Dec (k ≡ j) → In k v ⊎ HandedOn f n (set ins j live) outs′ k
+  handed-on k l (inl m) d = inl m
+  handed-on k l (inr same) (yes d) =
+      inr (subst (λ z. HandedOn f n (set ins j live) outs′ z) (sym d) (handed-on-here (ap (λ z. getD outs′ z 0) (sym d) ∙ same ∙ ap (λ z. getD outs z 0) d)))
+  handed-on k l (inr same) (no d) = ⊎-elim waiting (λ t. inr (handed-on-other k d same t)) (s .handed-on k l)
     where
-      waiting : In k (j ∷ w) → In k v ⊎ Settled f n (set ins j live) outs′ k
+      waiting : In k (j ∷ w) → In k v ⊎ HandedOn f n (set ins j live) outs′ k
       waiting m = ⊎-elim (λ e. absurd (d e)) (λ r. inl (follows .stays k r)) (List·Memᴰ·cases-cons m)
 
   pub handled : Solving f n (set ins j live) outs′ v
@@ -113,5 +113,5 @@ module _ {f : Flow} {ws vs ins outs outs′ w v : List ℕ} {n j live : ℕ} {q 
     small = λ k m. ⊎-elim (λ r. s .small k (List·Memᴰ·tail r)) (λ l. l) (follows .comes k m);
     sound-in = λ i x l e. in-sound i x l e (ℕ-discrete i j);
     sound-out = out-sound;
-    settled = λ k l. settled k l (follows .grows k l) (ℕ-discrete k j);
+    handed-on = λ k l. handed-on k l (follows .grows k l) (ℕ-discrete k j);
   }

@@ -1,7 +1,7 @@
 -- One word joined, and the queue after it: a word that grew has a bit more, so the number that joins the queue is paid for.
 -- Changes one after another are one change. Assumes nothing.
 use Prim.Native.Nat.{ℕ, _+_, _*_, _-_, _/_, _%_, _^_, _<_, _≤_}
-use mathlib.Core.Bool.{Bool, true, false, not}
+use mathlib.Core.Bool.{Bool, true, false}
 use mathlib.Core.List.{List}
 use mathlib.Core.Logic.{_⊎_, inl, inr, ⊎-elim}
 use mathlib.Core.Path.{_≡_, refl, sym, _∙_, ap, subst}
@@ -12,8 +12,8 @@ use borrow.Author.Tests.{eqb-true, eqb-false, not-true, not-false}
 use lib.Bits.{bitOr}
 use lib.ListN.{length, getD, set}
 use lib.Seq.{set-getD}
-use Rattle.words.specs.Row.{Words, bit, has, members}
-use Rattle.words.specs.Change.{Joined, joined, differs}
+use Rattle.words.specs.contracts.Row.{Words, bit, has, members}
+use Rattle.words.specs.contracts.Change.{Joined, joined, differs}
 use Rattle.words.proofs.Bit.{bit-or}
 use Rattle.words.proofs.Row.{members-le}
 use Rattle.words.proofs.Rewritten.{differs-false, differs-members}
@@ -22,9 +22,9 @@ use Rattle.theory.specs.Lists.{In}
 use Rattle.theory.specs.Queue.{join}
 use Rattle.theory.proofs.Enqueue.{join-keeps, join-adds, join-cases, join-length}
 use Rattle.solve.specs.declared.Queue.{Queue}
-use Rattle.solve.specs.Waiting.{Enqueued}
+use Rattle.solve.specs.contracts.Waiting.{Enqueued}
 use Rattle.solve.proofs.Waiting.{rest-refl, rest-trans}
-use Rattle.live.specs.Spread.{missing, Follows, Spread, PushedTo}
+use Rattle.live.specs.contracts.Spread.{missing, Follows, Spread, PushedTo}
 
 pub follows-refl : {n : ℕ} {before w : List ℕ} → Follows n before before w w
 follows-refl = record { stays = λ k m. m; comes = λ k m. inl m; grows = λ k l. inr refl; falls = le-refl _ }

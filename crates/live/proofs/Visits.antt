@@ -5,21 +5,21 @@ use mathlib.Core.List.{List, [], _∷_, List·Memᴰ·head}
 use mathlib.Core.Path.{_≡_, refl, sym, _∙_, subst}
 use native.Mathlib.Omega.{arith}
 use lib.ListN.{length, getD, set}
-use Rattle.flow.specs.Flow.{Flow, statement}
+use Rattle.flow.specs.Flow.{Flow}
 use Rattle.flow.specs.Format.{flowOf}
-use Rattle.statements.specs.Ready.{Ready}
+use Rattle.statements.specs.contracts.Ready.{Ready}
 use Rattle.statements.proofs.WorkArea.{row-from}
 use Rattle.statements.proofs.Keeps.{keeps-set, ready-keeps}
 use Rattle.solve.specs.declared.Queue.{Queue}
-use Rattle.solve.specs.Waiting.{Waits, Taken, KeepsRest, restOf}
+use Rattle.solve.specs.contracts.Waiting.{Waits, Taken, KeepsRest, restOf}
 use Rattle.solve.proofs.Waiting.{rest-trans, rest-keeps}
-use Rattle.live.specs.Predecessors.{Predecessors}
-use Rattle.live.specs.Spread.{PushedLive}
-use Rattle.live.specs.Solving.{transfer, Solving, Held, Visited}
+use Rattle.live.specs.contracts.Predecessors.{Predecessors}
+use Rattle.live.specs.contracts.Spread.{PushedLive}
+use Rattle.live.specs.contracts.Solving.{transfer, Solving, Held, Visited}
 use Rattle.live.proofs.Facts.{written-word}
 use Rattle.live.proofs.Pushing.{rest-row}
 use Rattle.live.proofs.Solving.{handled}
-use Rattle.live.proofs.Solved.{out-word}
+use Rattle.live.proofs.Solution.{out-word}
 
 -- the queue's words are kept apart from the noted places and from the rows
 

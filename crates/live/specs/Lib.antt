@@ -1,4 +1,1 @@
-pub mod Predecessors
-pub mod Spread
-pub mod Solving
-pub mod LiveNames
+pub mod contracts

@@ -4,28 +4,29 @@ ghost use Prim.Native.Nat.{ℕ, _<_, _≤_};
 ghost use lib.ListN.{length};
 ghost use Rattle.flow.specs.Limits.{maxStatements};
 ghost use Rattle.flow.specs.Format.{flowOf};
-ghost use Rattle.statements.specs.Layout.{visitedAt};
-ghost use Rattle.statements.specs.Ready.{Ready};
-ghost use Rattle.solve.specs.Waiting.{Waits};
-ghost use Rattle.live.specs.Predecessors.{Column, Noted, Predecessors};
-ghost use Rattle.live.specs.Spread.{PushedTo, PushedLive};
-ghost use Rattle.live.specs.Solving.{Held, Visited};
-ghost use Rattle.live.specs.LiveNames.{Blank, Begun, LiveNames};
+ghost use Rattle.statements.specs.contracts.Ready.{Ready};
+ghost use Rattle.solve.specs.contracts.Layout.{visitedAt};
+ghost use Rattle.solve.specs.contracts.Waiting.{Waits};
+ghost use Rattle.live.specs.contracts.Predecessors.{Column, Noted, Predecessors};
+ghost use Rattle.live.specs.contracts.Spread.{PushedTo, PushedLive};
+ghost use Rattle.live.specs.contracts.Solving.{Held, Visited};
+ghost use Rattle.live.specs.contracts.LiveNames.{LiveStart, AllWaiting, LiveNames};
+use flow::StmtId;
 use solve::Queue;
-use solve::ring;
+use solve::stmts;
 use statements::fields;
 use statements::layout;
 
 // Row j of the matrix gets i as a predecessor, for each successor j of i.
-fn note_predecessors(file: &[u8], work: &mut [u64], n: usize, i: usize)
-    requires { ⌜ Ready (now file) (now work) n × (i < n) × Column (now work) n i [] ⌝ }
-    ensures { λ _. ⌜ Noted (flowOf (now (file .entry))) (now (work .entry)) (now (work .exit)) n i ⌝ }
+fn note_predecessors(file: &[u8], work: &mut [u64], n: usize, i: StmtId)
+    requires { ⌜ Ready (now file) (now work) n × (i .0 < n) × Column (now work) n (i .0) [] ⌝ }
+    ensures { λ _. ⌜ Noted (flowOf (now (file .entry))) (now (work .entry)) (now (work .exit)) n (i .0) ⌝ }
 {
     let count = fields::successor_count(file, work, n, i);
     let mut k = 0;
     while k < count {
         let j = fields::successor(file, work, n, i, k);
-        words::insert(work, layout::row(n, j.0), i);
+        words::insert(work, layout::row(n, j), i.0);
         k += 1;
     }
 }
@@ -36,14 +37,14 @@ fn push_to(
     live_out: &mut [u64],
     n: usize,
     queue: Queue,
-    i: usize,
+    i: StmtId,
     live: u64,
 ) -> Queue
-    requires { ⌜ (n ≤ maxStatements) × (visitedAt n ≤ length (now work)) × (n ≤ length (now «live_out»)) × (i < n) × ((w : List ℕ) × Waits (now work) n queue w) ⌝ }
-    ensures { λ r. ⌜ PushedTo (now (work .entry)) (now (work .exit)) (now («live_out» .entry)) (now («live_out» .exit)) n queue r i live ⌝ }
+    requires { ⌜ (n ≤ maxStatements) × (visitedAt n ≤ length (now work)) × (n ≤ length (now «live_out»)) × (i .0 < n) × ((w : List ℕ) × Waits (now work) n queue w) ⌝ }
+    ensures { λ r. ⌜ PushedTo (now (work .entry)) (now (work .exit)) (now («live_out» .entry)) (now («live_out» .exit)) n queue r (i .0) live ⌝ }
 {
-    if words::union_word(live_out, i, live) {
-        return ring::enqueue(work, n, queue, i);
+    if words::union_word(live_out, i.0, live) {
+        return stmts::enqueue(work, n, queue, i);
     }
     queue
 }
@@ -54,17 +55,17 @@ fn push_live(
     live_out: &mut [u64],
     n: usize,
     start: Queue,
-    j: usize,
+    j: StmtId,
     live: u64,
 ) -> Queue
-    requires { ⌜ (n ≤ maxStatements) × (visitedAt n ≤ length (now work)) × (n ≤ length (now «live_out»)) × (j < n) × ((w : List ℕ) × Waits (now work) n start w) ⌝ }
-    ensures { λ r. ⌜ PushedLive (now (work .entry)) (now (work .exit)) (now («live_out» .entry)) (now («live_out» .exit)) n start r j live ⌝ }
+    requires { ⌜ (n ≤ maxStatements) × (visitedAt n ≤ length (now work)) × (n ≤ length (now «live_out»)) × (j .0 < n) × ((w : List ℕ) × Waits (now work) n start w) ⌝ }
+    ensures { λ r. ⌜ PushedLive (now (work .entry)) (now (work .exit)) (now («live_out» .entry)) (now («live_out» .exit)) n start r (j .0) live ⌝ }
 {
     let row = layout::row(n, j);
     let mut queue = start;
     let mut i = words::next(work, row, 0, n);
     while i < n {
-        queue = push_to(work, live_out, n, queue, i, live);
+        queue = push_to(work, live_out, n, queue, StmtId(i), live);
         i = words::next(work, row, i + 1, n);
     }
     queue
@@ -82,12 +83,13 @@ fn visit(
     requires { ⌜ Ready (now file) (now work) n × (n ≤ length (now «live_in»)) × (n ≤ length (now «live_out»)) × Predecessors (flowOf (now file)) (now work) n × Held (flowOf (now file)) n (now work) (now «live_in») (now «live_out») r × (0 < r .len) ⌝ }
     ensures { λ q. ⌜ Visited (flowOf (now (file .entry))) n (now (work .entry)) (now (work .exit)) (now («live_in» .entry)) (now («live_in» .exit)) (now («live_out» .entry)) (now («live_out» .exit)) r q ⌝ }
 {
-    let j = ring::take(work, n, r);
-    let queue = ring::rest(n, r);
+    let j = stmts::take(work, n, r);
+    let queue = solve::rest(n, r);
     let reads = fields::read(file, work, n, j);
     let writes = fields::written(file, work, n, j);
-    let live = reads | words::difference(live_out[j], writes);
-    live_in[j] = live;
+    let at = j.0;
+    let live = reads | words::difference(live_out[at], writes);
+    live_in[at] = live;
     push_live(work, live_out, n, queue, j, live)
 }
 
@@ -99,8 +101,8 @@ fn begin(
     live_out: &mut [u64],
     n: usize,
 ) -> Queue
-    requires { ⌜ Blank (now file) (now work) (now «live_in») (now «live_out») n ⌝ }
-    ensures { λ q. ⌜ Begun (flowOf (now (file .entry))) n (now (work .entry)) (now (work .exit)) (now («live_in» .entry)) (now («live_in» .exit)) (now («live_out» .entry)) (now («live_out» .exit)) q ⌝ }
+    requires { ⌜ LiveStart (now file) (now work) (now «live_in») (now «live_out») n ⌝ }
+    ensures { λ q. ⌜ AllWaiting (flowOf (now (file .entry))) n (now (work .entry)) (now (work .exit)) (now («live_in» .entry)) (now («live_in» .exit)) (now («live_out» .entry)) (now («live_out» .exit)) q ⌝ }
 {
     let mut queue = Queue { head: 0, len: 0 };
     let mut i = n;
@@ -108,8 +110,8 @@ fn begin(
         i -= 1;
         live_in[i] = 0;
         live_out[i] = 0;
-        note_predecessors(file, work, n, i);
-        queue = ring::enqueue(work, n, queue, i);
+        note_predecessors(file, work, n, StmtId(i));
+        queue = stmts::enqueue(work, n, queue, StmtId(i));
     }
     queue
 }
@@ -122,7 +124,7 @@ pub fn live_names(
     live_out: &mut [u64],
     n: usize,
 )
-    requires { ⌜ Blank (now file) (now work) (now «live_in») (now «live_out») n ⌝ }
+    requires { ⌜ LiveStart (now file) (now work) (now «live_in») (now «live_out») n ⌝ }
     ensures { λ _. ⌜ LiveNames (flowOf (now (file .entry))) n (now (work .entry)) (now (work .exit)) (now («live_in» .entry)) (now («live_in» .exit)) (now («live_out» .entry)) (now («live_out» .exit)) ⌝ }
 {
     let mut queue = begin(file, work, live_in, live_out, n);

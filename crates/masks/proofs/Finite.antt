@@ -9,7 +9,7 @@ use native.Mathlib.Omega.{arith}
 use native.Mathlib.Decide.{ℕ-discrete}
 use lib.Dec.{T}
 use Rattle.masks.specs.declared.Effect.{Effect}
-use Rattle.masks.specs.declared.Effect.the-variants.{None, Reference, Dim, Clear, Touched}
+use Rattle.masks.specs.declared.Effect.the-variants.{None, Reference, Dim, Reset, Touched}
 use Rattle.masks.specs.State.{State, none, auto, dimmed}
 
 pub and-left : (a b : Bool) → T (a && b) → T a
@@ -67,14 +67,14 @@ at-below (suc n) f t m h = go (at-below n f (and-right (f n) (everyBelow n f) t)
     go rest (no d) = rest (omega (arith, d))
 
 abbrev pub everyEffect : (Effect → Bool) → Bool
-everyEffect f = f None && (f Reference && (f Dim && (f Clear && f Touched)))
+everyEffect f = f None && (f Reference && (f Dim && (f Reset && f Touched)))
 
 pub at-effect : (f : Effect → Bool) → T (everyEffect f) → (e : Effect) → T (f e)
 at-effect f t None = and-left (f None) _ t
 at-effect f t Reference = and-left (f Reference) _ (and-right (f None) _ t)
 at-effect f t Dim = and-left (f Dim) _ (and-right (f Reference) _ (and-right (f None) _ t))
-at-effect f t Clear = and-left (f Clear) _ (and-right (f Dim) _ (and-right (f Reference) _ (and-right (f None) _ t)))
-at-effect f t Touched = and-right (f Clear) _ (and-right (f Dim) _ (and-right (f Reference) _ (and-right (f None) _ t)))
+at-effect f t Reset = and-left (f Reset) _ (and-right (f Dim) _ (and-right (f Reference) _ (and-right (f None) _ t)))
+at-effect f t Touched = and-right (f Reset) _ (and-right (f Dim) _ (and-right (f Reference) _ (and-right (f None) _ t)))
 
 abbrev pub everyState : (State → Bool) → Bool
 everyState f = f none && (f auto && f dimmed)

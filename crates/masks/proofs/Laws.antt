@@ -2,7 +2,7 @@
 -- Each is a test that antt computes at every effect and every mask; that it is idempotent, and what a union holds, is shown of any number. Assumes nothing.
 use mathlib.Core.Path.{_≡_, refl, sym, ap, subst, _∙_}
 use mathlib.Core.Logic.{_⊎_, inl, inr}
-use mathlib.Core.Bool.{Bool, true, false, _&&_, _||_}
+use mathlib.Core.Bool.{Bool, true, false, _&&_, _||_, cond}
 use Prim.Native.Nat.{ℕ, _+_, _-_, _*_, _/_, _%_, _^_, _<_, max}
 use native.Mathlib.Nat.{mod-lt, zero-lt-suc}
 use native.Mathlib.Omega.{arith}
@@ -10,8 +10,8 @@ use borrow.Author.Tests.{eqb-true, eq-eqb, ne-eqb}
 use lib.Dec.{T, eqb, eqb→eq, ltb, ltb→lt, lt→ltb}
 use lib.Bits.{bitOr, or-shr, or-step, or-zero-r}
 use Rattle.masks.specs.declared.Effect.{Effect}
-use Rattle.masks.specs.declared.Effect.the-variants.{None, Reference, Dim, Clear, Touched}
-use Rattle.masks.specs.Step.{stepOf, pick}
+use Rattle.masks.specs.declared.Effect.the-variants.{None, Reference, Dim, Reset, Touched}
+use Rattle.masks.specs.Step.{stepOf}
 use Rattle.masks.specs.State.{State, none, auto, dimmed, stateBit, stateMask, same, holds, turns, brought}
 use Rattle.masks.proofs.Finite.{and-left, and-right, or-cases, all-states, implies, implied, alike, alike→eq, eq→alike, everyBelow, at-below, everyState, at-state, at-mask}
 
@@ -48,21 +48,21 @@ pub step-idem : (e : Effect) (m : ℕ) → stepOf e (stepOf e m) ≡ stepOf e m
 step-idem None m = refl
 step-idem Reference m = at (eqb (m % 2) 1) refl
   where
-    at : (b : Bool) → eqb (m % 2) 1 ≡ b → stepOf Reference (pick b (bitOr (m - 1) 2) m) ≡ pick b (bitOr (m - 1) 2) m
+    at : (b : Bool) → eqb (m % 2) 1 ≡ b → stepOf Reference (cond b (bitOr (m - 1) 2) m) ≡ cond b (bitOr (m - 1) 2) m
     at true e =
         let odd : m % 2 ≡ 1 = eqb-true (m % 2) 1 e in
         let even : eqb (bitOr (m - 1) 2 % 2) 1 ≡ false = ne-eqb (bitOr (m - 1) 2 % 2) 1 (λ q. omega (arith, or-auto (m - 1))) in
-        ap (λ b. pick b (bitOr (bitOr (m - 1) 2 - 1) 2) (bitOr (m - 1) 2)) even
-    at false e = ap (λ b. pick b (bitOr (m - 1) 2) m) e
+        ap (λ b. cond b (bitOr (bitOr (m - 1) 2 - 1) 2) (bitOr (m - 1) 2)) even
+    at false e = ap (λ b. cond b (bitOr (m - 1) 2) m) e
 step-idem Dim m = refl
-step-idem Clear m = refl
+step-idem Reset m = refl
 step-idem Touched m = at (eqb (m % 2) 1) refl
   where
-    at : (b : Bool) → eqb (m % 2) 1 ≡ b → stepOf Touched (pick b (bitOr m 2) m) ≡ pick b (bitOr m 2) m
+    at : (b : Bool) → eqb (m % 2) 1 ≡ b → stepOf Touched (cond b (bitOr m 2) m) ≡ cond b (bitOr m 2) m
     at true e =
         let odd : eqb (bitOr m 2 % 2) 1 ≡ true = eq-eqb (bitOr m 2 % 2) 1 (omega (arith, or-auto m, eqb-true (m % 2) 1 e)) in
-        ap (λ b. pick b (bitOr (bitOr m 2) 2) (bitOr m 2)) odd ∙ omega (arith, or-auto m, or-auto (bitOr m 2))
-    at false e = ap (λ b. pick b (bitOr m 2) m) e
+        ap (λ b. cond b (bitOr (bitOr m 2) 2) (bitOr m 2)) odd ∙ omega (arith, or-auto m, or-auto (bitOr m 2))
+    at false e = ap (λ b. cond b (bitOr m 2) m) e
 
 -- a stepped mask that was not empty holds exactly what its states turn into
 pub step-holds : (e : Effect) (m : ℕ) (t : State) → m < 8 → 0 < m → holds (stepOf e m) t ≡ brought e m t

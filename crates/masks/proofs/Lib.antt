@@ -1,3 +1,2 @@
 pub mod Finite
 pub mod Laws
-pub mod Right

@@ -1,3 +1,2 @@
 pub mod Step
 pub mod State
-pub mod Cases

@@ -4,7 +4,7 @@ use Prim.Native.Nat.{ℕ, _/_, _%_, _^_}
 use mathlib.Core.Bool.{Bool, true, false, _&&_, _||_}
 use lib.Dec.{eqb}
 use Rattle.masks.specs.declared.Effect.{Effect}
-use Rattle.masks.specs.declared.Effect.the-variants.{None, Reference, Dim, Clear, Touched}
+use Rattle.masks.specs.declared.Effect.the-variants.{None, Reference, Dim, Reset, Touched}
 
 pub data State : Type 0 where
   none auto dimmed : State
@@ -44,7 +44,7 @@ abbrev pub turns : Effect → State → State → Bool
 turns None s t = same s t
 turns Reference s t = same (referenced s) t
 turns Dim s t = same dimmed t
-turns Clear s t = same none t
+turns Reset s t = same none t
 turns Touched s t = same s t || same (referenced s) t
 
 -- some state of the mask turns into t

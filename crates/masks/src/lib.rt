@@ -15,7 +15,7 @@ pub enum Effect {
     None,
     Reference,
     Dim,
-    Clear,
+    Reset,
     Touched,
 }
 
@@ -33,7 +33,7 @@ pub fn step(effect: Effect, mask: u8) -> u8
             }
         }
         Effect::Dim => DIMMED,
-        Effect::Clear => NONE,
+        Effect::Reset => NONE,
         Effect::Touched => { if mask % 2 == NONE { mask | AUTO } else { mask } }
     }
 }

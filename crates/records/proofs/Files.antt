@@ -2,17 +2,17 @@
 -- rise strictly and name statements. By the checks of each of its parts, which all hold.
 use Prim.Native.Nat.{ℕ, _+_, _≤_, _<_}
 use native.Mathlib.Omega.{arith}
-use mathlib.Core.Bool.{Bool, true, false, _||_}
 use mathlib.Core.List.{List, _++_}
 use mathlib.Core.Path.{_≡_}
 use lib.ListN.{length}
-use lib.Dec.{eqb, ltb}
+use lib.Dec.{eqb}
 use borrow.Author.Tests.{leb-true, ltb-true, ne-eqb}
 use Rattle.flow.specs.Limits.{maxFile, maxStatements, maxArrays, maxNames}
 use Rattle.flow.specs.Format.{verdict, fit, each, headerChecks, statementChecks, lineRecordChecks, endChecks, fileChecks, recordChecks, recordPlace, statementsOf, arraysOf, namesOf, entryOf, lineCount, linePlace, lineNumber, lineFirst}
-use Rattle.flow.specs.Fields.{FitFile, FitRecord}
-use Rattle.records.proofs.Rising.{Rising, rising, risesAt, or-second}
+use Rattle.flow.specs.contracts.Answers.{FitFile, FitRecord}
+use Rattle.records.proofs.Rising.{Rising, rising, or-second}
 use Rattle.flow.proofs.Verdicts.{all-hold, fit-left, fit-right, fit-at}
+use Rattle.flow.proofs.FileVerdict.{header-within}
 
 -- the header is within the limits
 
@@ -22,6 +22,10 @@ pub record Limited (s : List ℕ) : Type 0 where
   pub arrays : arraysOf s ≤ maxArrays
   pub names : namesOf s ≤ maxNames
   pub entry : 0 < statementsOf s → entryOf s < statementsOf s
+
+pub header-fits : {s : List ℕ} → FitFile s → 8 ≤ length s
+unfolding fileChecks
+header-fits {s} h = header-within s (fit-left (headerChecks s) (statementChecks s ++ (each (lineCount s) (lineRecordChecks s) ++ endChecks s)) (h .checked))
 
 pub limited : {s : List ℕ} → FitFile s → Limited s
 unfolding fileChecks headerChecks

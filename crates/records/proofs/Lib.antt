@@ -1,5 +1,6 @@
 pub mod Rising
 pub mod KindNumber
+pub mod KindData
 pub mod Values
 pub mod Files
 pub mod Tabulated
@@ -8,4 +9,4 @@ pub mod Sets
 pub mod Noting
 pub mod LineSearch
 pub mod Ranged
-pub mod AreaVerdict
+pub mod Given

@@ -15,7 +15,8 @@ use mir.Val.{Fits}
 use borrow.Author.Tests.{eq-eqb, ne-eqb, ltb-true, ltb-false}
 use Rattle.flow.specs.Flow.{Line, firstOf, enters}
 use Rattle.flow.specs.Format.{u16At, tabulate, flowOf, lineCount, linesPlace, linePlace, lineNumber, lineFirst}
-use Rattle.flow.specs.Fields.{FitFile, LineRank}
+use Rattle.flow.specs.contracts.Answers.{FitFile}
+use Rattle.records.specs.contracts.Fields.{LineRank}
 use Rattle.flow.proofs.Numbers.{leAt-lt}
 use Rattle.records.proofs.Files.{line-fits, lines-rise}
 

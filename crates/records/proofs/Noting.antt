@@ -8,7 +8,7 @@ use mathlib.Core.Logic.{⊎-elim}
 use mathlib.Core.Path.{_≡_, refl, _∙_}
 use lib.ListN.{length, getD, length-set}
 use lib.Seq.{getD-set-same, getD-set-other}
-use Rattle.flow.specs.Fields.{noted}
+use Rattle.words.specs.contracts.Change.{noted}
 
 module _ (ws : List ℕ) (base : ℕ) (f : ℕ → ℕ) where
   pub length-noted : (k : ℕ) → length (noted ws base k f) ≡ length ws

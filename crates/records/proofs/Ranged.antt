@@ -8,8 +8,9 @@ use mathlib.Core.Path.{_≡_, _∙_, sym, subst}
 use lib.Pow.{pow-pos}
 use Rattle.flow.specs.Limits.{maxStatements, maxArrays, maxNames}
 use Rattle.flow.specs.Flow.{Flow, Statement, Item, size, statement, enters, items, continuation, noStatement}
-use Rattle.flow.specs.Format.{flowOf, tabulate, statementAt, statementsOf, arraysOf, namesOf, entryOf, lineCount, lineNumber, lineFirst, successorCount, successorAt, referenceCount, referenceAt, itemAt}
-use Rattle.flow.specs.Fields.{FitFile, FitRecord, itemCount}
+use Rattle.flow.specs.Format.{flowOf, tabulate, statementAt, statementsOf, arraysOf, namesOf, lineCount, lineNumber, lineFirst, successorCount, successorAt, referenceCount, referenceAt, itemAt}
+use Rattle.flow.specs.contracts.Answers.{FitFile, FitRecord}
+use Rattle.records.specs.contracts.Fields.{itemCount}
 use Rattle.records.proofs.Files.{limited, record-fit, line-first}
 use Rattle.records.proofs.Values.{in-range, item-in, continuation-in}
 use Rattle.records.proofs.Tabulated.{member-of}

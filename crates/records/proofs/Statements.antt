@@ -13,7 +13,7 @@ use borrow.Author.Tests.{ne-eqb, ltb-true, ltb-false}
 use Rattle.flow.specs.Flow as F
 use Rattle.flow.specs.Flow.{Statement, noStatement, size, statement, items, callLines, continuation}
 use Rattle.flow.specs.Format.{tabulate, flowOf, statementAt, kindOf, plainKind, byData, statementsOf, recordPlace, lineAt, kindAt, successorCount, successorAt, referenceCount, referenceAt, writtenAt, readAt, dataPlace, dataCount, elementPlace, elementsEnd, itemAt, continuationAt, u16At}
-use Rattle.flow.specs.Fields.{itemCount, callLineCount, callLineAt, continuationIn}
+use Rattle.records.specs.contracts.Fields.{itemCount, callLineCount, callLineAt, continuationIn}
 use Rattle.records.proofs.KindNumber.{Number, number, dim, gosub, onGosub, other}
 use Rattle.records.proofs.Tabulated.{length-tabulate, getD-tabulate}
 

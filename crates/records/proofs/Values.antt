@@ -4,16 +4,18 @@ use Prim.Native.Nat.{ℕ, _+_, _^_, _≤_, _<_}
 use native.Mathlib.Omega.{arith}
 use mathlib.Core.Bool.{Bool, true, false, cond, not, _||_}
 use mathlib.Core.List.{List, [], _∷_, _++_}
-use mathlib.Core.Option.{none, some}
+use mathlib.Core.Option.{some}
 use mathlib.Core.Path.{_≡_, refl, sym, ap, _∙_}
 use lib.Dec.{eqb, ltb}
 use borrow.Author.Tests.{leb-true, ltb-true, eqb-true, eq-eqb}
 use Rattle.flow.specs.Limits.{maxKind, noContinuation}
-use Rattle.flow.specs.Format.{verdict, fit, each, present, startChecks, successorChecks, referenceCountChecks, referenceChecks, nameChecks, itemChecks, lineChecks, continuationChecks, dimChecks, gosubChecks, onGosubChecks, dataChecks, successorCount, successorAt, referenceCount, referenceAt, dataPlace, dataCount, elementsEnd, kindAt, continuationAt, continuationOf, continuationFits, writtenAt, readAt, itemAt, statementsOf, arraysOf, namesOf, u16At, byData}
-use Rattle.flow.specs.Fields.{FitRecord, itemCount, continuationIn}
+use Rattle.flow.specs.Format.{verdict, fit, each, present, startChecks, successorChecks, referenceCountChecks, referenceChecks, nameChecks, itemChecks, lineChecks, continuationChecks, dimChecks, gosubChecks, onGosubChecks, dataChecks, successorCount, successorAt, referenceCount, referenceAt, dataPlace, dataCount, elementsEnd, kindAt, continuationAt, continuationFrom, continuationFits, writtenAt, readAt, itemAt, statementsOf, arraysOf, namesOf, u16At, byData}
+use Rattle.flow.specs.contracts.Answers.{FitRecord}
+use Rattle.records.specs.contracts.Fields.{itemCount, continuationIn}
 use Rattle.records.proofs.Rising.{Rising, rising, risesAt, or-second}
-use Rattle.flow.proofs.Verdicts.{all-hold, fit-left, fit-right, fit-at}
-use Rattle.flow.proofs.Records.{parts, continuation-none}
+use Rattle.flow.proofs.Verdicts.{all-hold, fit-right, fit-at}
+use Rattle.flow.proofs.Records.{parts}
+use Rattle.records.proofs.KindData.{continuation-none}
 use Rattle.records.proofs.KindNumber.{Number, number, dim, gosub, onGosub, other}
 
 pub record InRange (s : List ℕ) (p : ℕ) : Type 0 where
@@ -71,7 +73,7 @@ item-in {s} {p} h k l = go (eqb (kindAt s p) 4) l (parts h .kind-data)
 target-in : (s : List ℕ) (at t : ℕ) → continuationFits s (u16At s at) ≡ true → continuationAt s at ≡ some t → t < statementsOf s
 target-in s at t h e = go (eqb (u16At s at) noContinuation) refl e h
   where
-    go : (b : Bool) → eqb (u16At s at) noContinuation ≡ b → continuationOf (u16At s at) b ≡ some t
+    go : (b : Bool) → eqb (u16At s at) noContinuation ≡ b → continuationFrom (u16At s at) b ≡ some t
         → (b || ltb (u16At s at) (statementsOf s)) ≡ true → t < statementsOf s
     go true q e h = let z : _≡_ {A = ℕ} 0 1 = cc in absurd (omega arith)
     go false q e h =

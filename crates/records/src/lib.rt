@@ -1,23 +1,20 @@
 // Fields of a statement's record at p, which was found fit.
 ghost use mathlib.Core.Path.{_≡_};
 ghost use Prim.Native.Nat.{_+_, _≤_, _<_};
+ghost use lib.ListN.{length};
 ghost use Rattle.flow.specs.Format.{lineAt, kindAt, successorCount, successorAt, referencesPlace, referenceCount, referenceAt, namesPlace, writtenAt, readAt, dataPlace, itemAt, recordEnd};
-ghost use Rattle.flow.specs.Fields.{FitRecord, recordPart, itemCount, callLineCount, callLineAt, continuationIn, continuationTo, bitIn, wordOf};
+ghost use Rattle.flow.specs.contracts.Answers.{FitRecord};
+ghost use Rattle.records.specs.contracts.Fields.{recordPart, itemCount, callLineCount, callLineAt, continuationIn, continuationTo, bitIn, setWord};
 use flow::Continuation;
 use flow::Item;
+use flow::KIND_DIM;
+use flow::KIND_GOSUB;
+use flow::KIND_ON_GOSUB;
 use flow::NO_CONTINUATION;
 use flow::StmtId;
 use flow::bytes::u8_at;
 use flow::bytes::u16_at;
 use flow::bytes::u64_at;
-use flow::reader::Reader;
-
-pub fn line(file: &[u8], p: usize) -> usize
-    requires { ⌜ FitRecord (now file) p ⌝ }
-    ensures { λ r. ⌜ r ≡ lineAt (now (file .entry)) p ⌝ }
-{
-    u16_at(file, p + 2)
-}
 
 pub fn kind(file: &[u8], p: usize) -> usize
     requires { ⌜ FitRecord (now file) p ⌝ }
@@ -62,7 +59,7 @@ pub fn reference(file: &[u8], p: usize, k: usize) -> usize
     u8_at(file, references_place(file, p) + 1 + k)
 }
 
-// Array a as a bit of word w: none where it belongs to another word.
+// Array a as a bit of word w: none where it belongs to another word, as it may once sets have more words than one.
 fn bit_in(w: usize, a: usize) -> u64
     ensures { λ r. ⌜ r ≡ bitIn w a ⌝ }
 {
@@ -72,7 +69,7 @@ fn bit_in(w: usize, a: usize) -> u64
 // Word w of the set of references: array a is bit a % 64 of word a / 64.
 pub fn references_word(file: &[u8], p: usize, w: usize) -> u64
     requires { ⌜ FitRecord (now file) p ⌝ }
-    ensures { λ r. ⌜ r ≡ wordOf (referenceCount (now (file .entry)) p) (referenceAt (now (file .entry)) p) w ⌝ }
+    ensures { λ r. ⌜ r ≡ setWord (referenceCount (now (file .entry)) p) (referenceAt (now (file .entry)) p) w ⌝ }
 {
     let at = references_place(file, p);
     let n = u8_at(file, at);
@@ -121,7 +118,7 @@ pub fn item_count(file: &[u8], p: usize) -> usize
     requires { ⌜ FitRecord (now file) p ⌝ }
     ensures { λ r. ⌜ r ≡ itemCount (now (file .entry)) p ⌝ }
 {
-    if kind(file, p) == 4 {
+    if kind(file, p) == KIND_DIM {
         u8_at(file, data_place(file, p))
     } else {
         0
@@ -145,8 +142,8 @@ pub fn line_count(file: &[u8], p: usize) -> usize
     ensures { λ r. ⌜ r ≡ callLineCount (now (file .entry)) p ⌝ }
 {
     match kind(file, p) {
-        5 => 1,
-        6 => u8_at(file, data_place(file, p)),
+        KIND_GOSUB => 1,
+        KIND_ON_GOSUB => u8_at(file, data_place(file, p)),
         _ => 0,
     }
 }
@@ -156,7 +153,7 @@ pub fn call_line(file: &[u8], p: usize, k: usize) -> usize
     ensures { λ r. ⌜ r ≡ callLineAt (now (file .entry)) p k ⌝ }
 {
     let at = data_place(file, p);
-    if kind(file, p) == 5 {
+    if kind(file, p) == KIND_GOSUB {
         u16_at(file, at + 2 * k)
     } else {
         u16_at(file, at + 1 + 2 * k)
@@ -170,19 +167,19 @@ pub fn record_end(file: &[u8], p: usize) -> usize
 {
     let at = data_place(file, p);
     match kind(file, p) {
-        4 => at + 1 + 2 * u8_at(file, at),
-        5 => at + 4,
-        6 => at + 3 + 2 * u8_at(file, at),
+        KIND_DIM => at + 1 + 2 * u8_at(file, at),
+        KIND_GOSUB => at + 4,
+        KIND_ON_GOSUB => at + 3 + 2 * u8_at(file, at),
         _ => at,
     }
 }
 
-// A call's continuation ends its record.
+// A call's continuation ends its record. The calls are the two kinds of the highest numbers.
 pub fn continuation(file: &[u8], p: usize) -> Continuation
     requires { ⌜ FitRecord (now file) p ⌝ }
     ensures { λ r. ⌜ r ≡ continuationTo (continuationIn (now (file .entry)) p) ⌝ }
 {
-    if kind(file, p) < 5 {
+    if kind(file, p) < KIND_GOSUB {
         return Continuation::None;
     }
     let t = u16_at(file, record_end(file, p) - 2);
@@ -202,14 +199,13 @@ pub fn record(file: &[u8], p: usize) -> &[u8]
     &file[p..e]
 }
 
-// The record that a reader stands at, given out as that part of the file.
-pub fn record_of<'a>(r: Reader<'a>) -> &'a [u8]
-    requires { ⌜ FitRecord (now (r .file)) (r .at) ⌝ }
-    ensures { λ s. ⌜ now s ≡ recordPart (now (r .entry .file)) (r .entry .at) ⌝ }
+// The line of a record that was given out.
+pub fn record_line(part: &[u8]) -> usize
+    requires { ⌜ 4 ≤ length (now part) ⌝ }
+    ensures { λ r. ⌜ r ≡ lineAt (now (part .entry)) 0 ⌝ }
 {
-    record(r.file, r.at)
+    u16_at(part, 2)
 }
 
-pub mod areas;
 pub mod lines;
 pub mod offsets;

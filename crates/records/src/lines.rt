@@ -6,8 +6,9 @@ ghost use lib.Dec.{ltb};
 ghost use lib.ListN.{length};
 ghost use Rattle.flow.specs.Format.{u16At, linesPlace, linePlace, lineCount, flowOf};
 ghost use Rattle.flow.specs.Flow.{enters};
-ghost use Rattle.flow.specs.Fields.{FitFile, LineRank, enteredAt};
-use flow::Entered;
+ghost use Rattle.flow.specs.contracts.Answers.{FitFile};
+ghost use Rattle.records.specs.contracts.Fields.{LineRank, lineEntryOf};
+use flow::LineEntry;
 use flow::StmtId;
 use flow::bytes::u16_at;
 
@@ -37,18 +38,19 @@ fn line_place(file: &[u8], at: usize, n: usize, line: usize) -> usize
 }
 
 // The file's lines stand at `at`, and there are n of them.
-pub fn line_entry(file: &[u8], at: usize, n: usize, line: usize) -> Entered
+pub fn line_entry(file: &[u8], at: usize, n: usize, line: usize) -> LineEntry
     requires { ⌜ FitFile (now file) × ((at ≡ linesPlace (now file)) × (n ≡ lineCount (now file))) ⌝ }
-    ensures { λ r. ⌜ r ≡ enteredAt (enters (flowOf (now (file .entry))) line) ⌝ }
+    ensures { λ r. ⌜ r ≡ lineEntryOf (enters (flowOf (now (file .entry))) line) ⌝ }
 {
+    // No file has such a line, but a caller may ask for any; the search is for numbers of 16 bits.
     if 65535 < line {
-        return Entered::Nothing;
+        return LineEntry::Nothing;
     }
     let p = line_place(file, at, n, line);
     if p < at + 6 * n {
         if u16_at(file, p + 2) == line {
-            return Entered::At(StmtId(u16_at(file, p + 4)));
+            return LineEntry::At(StmtId(u16_at(file, p + 4)));
         }
     }
-    Entered::Nothing
+    LineEntry::Nothing
 }

@@ -3,7 +3,8 @@ ghost use mathlib.Core.Path.{_≡_};
 ghost use Prim.Native.Nat.{_+_, _≤_};
 ghost use lib.ListN.{length};
 ghost use Rattle.flow.specs.Format.{statementsOf, recordPlace};
-ghost use Rattle.flow.specs.Fields.{FitFile, noted};
+ghost use Rattle.flow.specs.contracts.Answers.{FitFile};
+ghost use Rattle.words.specs.contracts.Change.{noted};
 use crate::record_end;
 
 // Notes the places of the first n records in the words from base on.

@@ -1,35 +1,35 @@
 -- A row of masks joined to another: each byte is united, the row differs where some byte does, and the word of the number says so.
 -- A word is what its bytes are.
-use Prim.Native.Nat.{ℕ, zero, suc, _+_, _*_, _/_, _%_, _^_, _≤_, _<_}
+use Prim.Native.Nat.{ℕ, zero, suc, _+_, _*_, _/_, _%_, _≤_, _<_}
 use mathlib.Core.Bool.{Bool, true, false, cond, not, _&&_}
 use mathlib.Core.List.{List}
 use mathlib.Core.Logic.{_≢_}
 use mathlib.Core.Path.{_≡_, refl, sym, ap, ap₂, subst, _∙_}
 use native.Mathlib.Omega.{arith}
-use borrow.Author.Tests.{eq-eqb, eqb-true, not-true, not-false}
+use borrow.Author.Tests.{eq-eqb, eqb-true, not-false}
 use lib.Bits.{bitOr}
 use lib.Dec.{eqb}
-use lib.ListN.{length, getD, set, length-set}
+use lib.ListN.{length, getD, set}
 use lib.Seq.{getD-set-same, getD-set-other}
-use Rattle.words.specs.Row.{bit, has, Words}
-use Rattle.words.specs.Byte.{byteAt}
-use Rattle.words.specs.Change.{unioned, Unioned, ReadFirst, differs}
+use Rattle.words.specs.contracts.Row.{bit, has, Words}
+use Rattle.words.specs.contracts.Byte.{byteAt}
+use Rattle.words.specs.contracts.Change.{unioned, Unioned, ReadFirst, differs}
 use Rattle.words.proofs.Bit.{bits-below}
 use Rattle.words.proofs.Row.{has-word}
 use Rattle.words.proofs.Bytes.{byte-cong, byte-has, unioned-byte}
 use Rattle.words.proofs.Rewritten.{differs-cong, differs-self, differs-false}
 use Rattle.words.proofs.Unioned.{words-unioned, unioned-other, union-same}
 use Rattle.flow.specs.Limits.{maxArrays}
-use Rattle.theory.specs.Lists.{allBelow}
-use Rattle.theory.proofs.Lists.{same-test, clash}
+use Rattle.theory.specs.Lists.{allBelow, differ}
+use Rattle.theory.proofs.Lists.{clash}
 use Rattle.theory.proofs.Below.{allBelow-at, allBelow-all}
-use Rattle.theory.proofs.Push.{differ}
-use Rattle.statements.specs.Layout.{maskWords, grownAt, maskRowAt, maskRows, areaEnd}
-use Rattle.statements.specs.Ready.{Keeps}
+use Rattle.statements.specs.contracts.Layout.{areaEnd}
+use Rattle.statements.specs.contracts.Ready.{Keeps}
 use Rattle.statements.proofs.Keeps.{keeps-set, keeps-unioned, keeps-trans, keeps-refl, keeps-widen}
 use Rattle.solve.specs.declared.Queue.{Queue}
-use Rattle.solve.specs.Waiting.{Waits, Enqueued}
-use Rattle.solve.specs.Pushed.{masksAt, Grown, Pushed}
+use Rattle.solve.specs.contracts.Layout.{maskWords, grownAt, maskRowAt, outRow}
+use Rattle.solve.specs.contracts.Waiting.{Waits, Enqueued}
+use Rattle.solve.specs.contracts.Pushed.{masksAt, Grown, Pushed}
 use Rattle.solve.proofs.Waiting.{rest-keeps, waits-kept}
 
 -- words whose bytes are alike are alike
@@ -68,57 +68,58 @@ differ-as n x x′ y y′ h k = ap not (every n (λ a l. ap₂ eqb (h a l) (k a 
     every zero g = refl
     every (suc k) g = ap₂ _&&_ (every k (λ a l. g a (omega arith))) (g k (omega arith))
 
-module _ (ws : List ℕ) (n from d : ℕ) (room : areaEnd n ≤ length ws) (below : d < 2 * n) (source : 2 * n ≤ from) (last : from ≤ maskRows n) (ww : Words ws) where
+module _ (ws : List ℕ) (n from d : ℕ) (room : areaEnd n ≤ length ws) (below : d < 2 * n) (source : outRow n ≤ from) (last : from + maskWords ≤ areaEnd n) (ww : Words ws) where
   abbrev to : ℕ
   to = maskRowAt n d
 
-  abbrev source-row : ℕ
-  source-row = maskRowAt n from
-
-  apart : ReadFirst to source-row maskWords
+  apart : ReadFirst to from maskWords
   apart j k lt l e = omega arith
 
   -- the masks of another number lie elsewhere
-  elsewhere : (us : List ℕ) → us ≡ unioned ws to source-row maskWords → (e a : ℕ) → e ≢ d → a < maxArrays → masksAt us n e a ≡ masksAt ws n e a
+  elsewhere : (us : List ℕ) → us ≡ unioned ws to from maskWords → (e a : ℕ) → e ≢ d → a < maxArrays → masksAt us n e a ≡ masksAt ws n e a
   elsewhere us is e a ne l =
       byte-cong us ws (maskRowAt n e) a
-      (ap (λ (l : List ℕ). getD l (maskRowAt n e + a / 8) 0) is ∙ unioned-other ws to source-row maskWords (maskRowAt n e + a / 8) (λ k lt q. omega (arith, ne)))
+      (ap (λ (l : List ℕ). getD l (maskRowAt n e + a / 8) 0) is ∙ unioned-other ws to from maskWords (maskRowAt n e + a / 8) (λ k lt q. omega (arith, ne)))
 
-  united : (us : List ℕ) → us ≡ unioned ws to source-row maskWords → (a : ℕ) → a < maxArrays → masksAt us n d a ≡ bitOr (masksAt ws n d a) (masksAt ws n from a)
+  united : (us : List ℕ) → us ≡ unioned ws to from maskWords → (a : ℕ) → a < maxArrays → masksAt us n d a ≡ bitOr (masksAt ws n d a) (byteAt ws from a)
   united us is a l =
-      ap (λ (l : List ℕ). byteAt l to a) is ∙ unioned-byte ws to source-row maskWords (omega arith) apart a (omega arith)
+      ap (λ (l : List ℕ). byteAt l to a) is ∙ unioned-byte ws to from maskWords (omega arith) apart a (omega arith)
 
-  differ-is : {us : List ℕ} {r : Bool} → Unioned ws us to source-row maskWords r → r ≡ differ maxArrays (masksAt us n d) (masksAt ws n d)
+  differ-is : {us : List ℕ} {r : Bool} → Unioned ws us to from maskWords r → r ≡ differ maxArrays (masksAt us n d) (masksAt ws n d)
   differ-is {us} u =
-      u .grew ∙ differs-masks ws us to ww (subst Words (sym (u .slice)) (words-unioned ws to source-row maskWords ww))
+      u .grew ∙ differs-masks ws us to ww (subst Words (sym (u .slice)) (words-unioned ws to from maskWords ww))
 
-  pub grown-not : {us : List ℕ} → Unioned ws us to source-row maskWords false → Grown ws us n from d × Keeps (grownAt n) (areaEnd n) ws us
+  pub grown-not : {us : List ℕ} → Unioned ws us to from maskWords false → Grown ws us n from d × Keeps (grownAt n) (areaEnd n) ws us
   grown-not {us} u =
       let same : us ≡ ws = union-same u refl in (
         record {
           masks = united us (u .slice);
           others = elsewhere us (u .slice);
+          edge-rows = λ x l. ap (λ (l : List ℕ). getD l x 0) same;
           grew = ap (λ (l : List ℕ). getD l (grownAt n + d) 0) same ∙ ap (λ (b : Bool). cond b 1 (getD ws (grownAt n + d) 0)) (differ-is u);
           not-grew = λ e l ne. ap (λ (l : List ℕ). getD l (grownAt n + e) 0) same;
         },
         subst (Keeps (grownAt n) (areaEnd n) ws) (sym same) keeps-refl,
       )
 
-  pub grown-more : {us : List ℕ} → Unioned ws us to source-row maskWords true
+  pub grown-more : {us : List ℕ} → Unioned ws us to from maskWords true
       → Grown ws (set us (grownAt n + d) 1) n from d × Keeps (grownAt n) (areaEnd n) ws (set us (grownAt n + d) 1)
   grown-more {us} u =
-      let keeps : Keeps (grownAt n) (areaEnd n) ws us = subst (Keeps (grownAt n) (areaEnd n) ws) (sym (u .slice)) (keeps-unioned ws to source-row maskWords (omega arith) (omega arith)) in
+      let keeps : Keeps (grownAt n) (areaEnd n) ws us = subst (Keeps (grownAt n) (areaEnd n) ws) (sym (u .slice)) (keeps-unioned ws to from maskWords (omega arith) (omega arith)) in
       let size = keeps .size in
       let row : (e a : ℕ) → a < maxArrays → masksAt (set us (grownAt n + d) 1) n e a ≡ masksAt us n e a =
       λ e a l. byte-cong (set us (grownAt n + d) 1) us (maskRowAt n e) a (getD-set-other us (grownAt n + d) (maskRowAt n e + a / 8) 1 0 (λ q. omega arith)) in (
         record {
           masks = λ a l. row d a l ∙ united us (u .slice) a l;
           others = λ e a ne l. row e a l ∙ elsewhere us (u .slice) e a ne l;
+          edge-rows = λ x l. getD-set-other us (grownAt n + d) x 1 0 (λ q. omega arith)
+              ∙ ap (λ (l : List ℕ). getD l x 0) (u .slice)
+              ∙ unioned-other ws to from maskWords x (λ k lt q. omega arith);
           grew = getD-set-same us (grownAt n + d) 1 0 (omega arith)
               ∙ ap (λ (b : Bool). cond b 1 (getD ws (grownAt n + d) 0)) (differ-is u ∙ differ-row row);
           not-grew = λ e l ne. getD-set-other us (grownAt n + d) (grownAt n + e) 1 0 (λ q. omega (arith, ne))
               ∙ ap (λ (l : List ℕ). getD l (grownAt n + e) 0) (u .slice)
-              ∙ unioned-other ws to source-row maskWords (grownAt n + e) (λ k lt q. omega arith);
+              ∙ unioned-other ws to from maskWords (grownAt n + e) (λ k lt q. omega arith);
         },
         keeps-trans keeps (keeps-set us (grownAt n + d) 1 (omega arith) (omega arith)),
       )
@@ -146,12 +147,13 @@ pushed {ws} {us} {vs} {n} {from} {d} {queue} {r} below x y =
       grown = record {
         masks = λ a l. masks d a l ∙ x .0 .masks a l;
         others = λ e a ne l. masks e a l ∙ x .0 .others e a ne l;
+        edge-rows = λ i l. y .kept .above i (omega arith) ∙ x .0 .edge-rows i l;
         grew = y .kept .above (grownAt n + d) (omega arith) ∙ x .0 .grew
             ∙ ap (λ (b : Bool). cond b 1 (getD ws (grownAt n + d) 0)) (differ-as maxArrays (masksAt us n d) (masksAt vs n d) (masksAt ws n d) (masksAt ws n d) (λ a l. sym (masks d a l)) (λ a l. refl));
         not-grew = λ e l ne. y .kept .above (grownAt n + e) (omega arith) ∙ x .0 .not-grew e l ne;
       };
       waits = λ w h. y .waits w (waits-grown (x .1) h);
-      entered = λ i l h. y .kept .between i l h ∙ x .1 .below i (omega arith);
+      entered-row = λ i l h. y .kept .between i l h ∙ x .1 .below i (omega arith);
       visited = λ i l h. y .kept .above i l ∙ x .1 .below i h;
       keeps = keeps-trans (keeps-widen (omega arith) (omega arith) (x .1)) (keeps-widen (omega arith) (omega arith) (rest-keeps (y .kept)));
     }

@@ -3,16 +3,16 @@
 use Prim.Native.Nat.{ℕ, _+_, _/_, _%_, _≤_, _<_}
 use mathlib.Core.Bool.{Bool, true, false, cond, _||_}
 use mathlib.Core.List.{List}
-use mathlib.Core.Logic.{_⊎_, inl, inr, ⊎-elim, _≢_}
+use mathlib.Core.Logic.{_⊎_, ⊎-elim}
 use mathlib.Core.Path.{_≡_, refl, sym, ap, _∙_, subst}
 use native.Mathlib.Decide.{decLt, ℕ-discrete}
 use native.Mathlib.Omega.{arith}
 use borrow.Author.Tests.{lt-ltb, le-ltb, eq-eqb, ne-eqb}
 use lib.Dec.{eqb, ltb}
 use lib.ListN.{length, getD}
-use Rattle.words.specs.Row.{has, nextMember, First}
-use Rattle.words.specs.Byte.{byteOf, byteAt, byteSet}
-use Rattle.words.specs.Change.{rewritten}
+use Rattle.words.specs.contracts.Row.{has, nextMember, First}
+use Rattle.words.specs.contracts.Byte.{byteOf, byteAt, byteSet}
+use Rattle.words.specs.contracts.Change.{rewritten}
 use Rattle.words.proofs.NextMember.{first}
 use Rattle.words.proofs.Bytes.{set-byte-same, set-byte-other}
 use Rattle.words.proofs.Rewritten.{rewritten-other, rewritten-word}
@@ -20,11 +20,11 @@ use Rattle.masks.specs.declared.Effect.{Effect}
 use Rattle.masks.specs.Step.{stepOf}
 use Rattle.masks.proofs.Laws.{step-idem}
 use Rattle.flow.specs.Limits.{maxArrays}
-use Rattle.statements.specs.Layout.{maskWords}
-use Rattle.statements.specs.Ready.{Keeps}
+use Rattle.statements.specs.contracts.Ready.{Keeps}
 use Rattle.statements.proofs.Keeps.{keeps-refl, keeps-trans, keeps-has, keeps-byte, keeps-rewritten}
 use Rattle.statements.proofs.Members.{first-as, members-none, members-next}
-use Rattle.solve.specs.Rows.{RowIs, stepWhere, memberBelow}
+use Rattle.solve.specs.contracts.Layout.{maskWords}
+use Rattle.solve.specs.contracts.Rows.{RowIs, stepWhere, memberBelow}
 
 pub row-same : (ws : List ℕ) (row : ℕ) → RowIs ws ws row (byteAt ws row)
 row-same ws row = record { keeps = keeps-refl; bytes = λ a l. refl }

@@ -11,14 +11,15 @@ use native.Mathlib.Omega.{arith}
 use borrow.Author.Tests.{ne-eqb}
 use lib.ListN.{length, getD, set, length-set, length-append, List·getD-append}
 use lib.Seq.{getD-set-same, getD-set-other, getD-append-add}
-use Rattle.theory.specs.Lists.{In, has, Distinct}
+use Rattle.theory.specs.Lists.{In, elem, Distinct}
 use Rattle.theory.specs.Queue.{join}
-use Rattle.theory.proofs.Lists.{not-so, has-In, has-last, has-before}
+use Rattle.theory.proofs.Lists.{not-so, elem-In, elem-last, elem-before}
 use Rattle.theory.proofs.Enqueue.{join-distinct, join-cases, distinct-length}
-use Rattle.statements.specs.Layout.{queueAt, enteredAt, waitingAt, visitedAt}
-use Rattle.statements.specs.Ready.{Keeps}
+use Rattle.statements.specs.contracts.Layout.{queueAt, enteredRowAt}
+use Rattle.statements.specs.contracts.Ready.{Keeps}
 use Rattle.solve.specs.declared.Queue.{Queue}
-use Rattle.solve.specs.Waiting.{wrapped, Waits, KeepsRest, Enqueued, restOf, Taken}
+use Rattle.solve.specs.contracts.Layout.{waitingAt, visitedAt}
+use Rattle.solve.specs.contracts.Waiting.{wrapped, Waits, KeepsRest, Enqueued, restOf, Taken}
 use Rattle.solve.proofs.Wrapped.{wrapped-in, wrapped-lt, wrapped-next, wrapped-apart}
 
 -- What is kept
@@ -56,7 +57,7 @@ module _ (ws : List ℕ) (n : ℕ) {j : ℕ} (v : ℕ) (l : j < 2 * n) where
 
 -- a queue stays where its own words stay
 pub waits-kept : {n : ℕ} {ws vs : List ℕ} {queue : Queue} {w : List ℕ} → Waits ws n queue w
-    → ((x : ℕ) → queueAt n ≤ x → x < enteredAt n → getD vs x 0 ≡ getD ws x 0)
+    → ((x : ℕ) → queueAt n ≤ x → x < enteredRowAt n → getD vs x 0 ≡ getD ws x 0)
     → ((x : ℕ) → waitingAt n ≤ x → x < visitedAt n → getD vs x 0 ≡ getD ws x 0) → Waits vs n queue w
 waits-kept {n} {ws} {vs} {queue} {w} h slots flags = record {
   count = h .count;
@@ -73,7 +74,7 @@ waits-kept {n} {ws} {vs} {queue} {w} h slots flags = record {
 -- nothing waits
 pub waits-none : {n : ℕ} {ws : List ℕ} → 0 < n → ((x : ℕ) → waitingAt n ≤ x → x < visitedAt n → getD ws x 0 ≡ 0)
     → Waits ws n (record { head = 0; len = 0 }) []
-unfolding has
+unfolding elem
 waits-none p h = record {
   count = refl;
   front = omega arith;
@@ -89,18 +90,18 @@ flag-true : (b : Bool) → _≡_ {A = ℕ} (cond b 1 0) 1 → b ≡ true
 flag-true true e = refl
 flag-true false e = absurd (omega arith)
 
-pub waits-true : {n d : ℕ} {ws : List ℕ} {queue : Queue} {w : List ℕ} → Waits ws n queue w → d < 2 * n → getD ws (waitingAt n + d) 0 ≡ 1 → has d w ≡ true
-waits-true {n} {d} {ws} {queue} {w} h l e = flag-true (has d w) (sym (h .flag d l) ∙ e)
+pub waits-true : {n d : ℕ} {ws : List ℕ} {queue : Queue} {w : List ℕ} → Waits ws n queue w → d < 2 * n → getD ws (waitingAt n + d) 0 ≡ 1 → elem d w ≡ true
+waits-true {n} {d} {ws} {queue} {w} h l e = flag-true (elem d w) (sym (h .flag d l) ∙ e)
 
-pub waits-false : {n d : ℕ} {ws : List ℕ} {queue : Queue} {w : List ℕ} → Waits ws n queue w → d < 2 * n → getD ws (waitingAt n + d) 0 ≢ 1 → has d w ≡ false
-waits-false {n} {d} {ws} {queue} {w} h l e = not-so (has d w) (λ t. e (h .flag d l ∙ ap (λ b. cond b 1 0) t))
+pub waits-false : {n d : ℕ} {ws : List ℕ} {queue : Queue} {w : List ℕ} → Waits ws n queue w → d < 2 * n → getD ws (waitingAt n + d) 0 ≢ 1 → elem d w ≡ false
+waits-false {n} {d} {ws} {queue} {w} h l e = not-so (elem d w) (λ t. e (h .flag d l ∙ ap (λ b. cond b 1 0) t))
 
 -- Joining the back
 
-join-waiting : (d : ℕ) (w : List ℕ) → has d w ≡ true → join w d ≡ w
+join-waiting : (d : ℕ) (w : List ℕ) → elem d w ≡ true → join w d ≡ w
 join-waiting d w e = rw e
 
-join-new : (d : ℕ) (w : List ℕ) → has d w ≡ false → join w d ≡ w ++ (d ∷ [])
+join-new : (d : ℕ) (w : List ℕ) → elem d w ≡ false → join w d ≡ w ++ (d ∷ [])
 join-new d w e = rw e
 
 module _ {n d : ℕ} {ws : List ℕ} {queue : Queue} {w : List ℕ} (h : Waits ws n queue w) (l : d < 2 * n) where
@@ -108,13 +109,13 @@ module _ {n d : ℕ} {ws : List ℕ} {queue : Queue} {w : List ℕ} (h : Waits w
   join-below e m = ⊎-elim (h .below e) (λ q. rw q l) (join-cases w d m)
 
   -- a number that does not wait finds room
-  pub room : has d w ≡ false → queue .len < 2 * n
+  pub room : elem d w ≡ false → queue .len < 2 * n
   room e =
       let all : length (join w d) ≤ 2 * n = distinct-length (2 * n) (join w d) (join-distinct w d (h .distinct)) join-below in
       let more : length (join w d) ≡ length w + 1 = ap length (join-new d w e) ∙ length-append w (d ∷ []) in
       omega (arith, h .count)
 
-module _ {n d : ℕ} {ws : List ℕ} {queue : Queue} {w : List ℕ} (h : Waits ws n queue w) (l : d < 2 * n) (fits : visitedAt n ≤ length ws) (new : has d w ≡ false) where
+module _ {n d : ℕ} {ws : List ℕ} {queue : Queue} {w : List ℕ} (h : Waits ws n queue w) (l : d < 2 * n) (fits : visitedAt n ≤ length ws) (new : elem d w ≡ false) where
   after : List ℕ
   after = set (set ws (waitingAt n + d) 1) (queueAt n + wrapped (2 * n) (queue .head + queue .len)) d
 
@@ -142,15 +143,15 @@ module _ {n d : ℕ} {ws : List ℕ} {queue : Queue} {w : List ℕ} (h : Waits w
       ∙ getD-set-same (set ws (waitingAt n + d) 1) _ d 0 (rw (length-set ws (waitingAt n + d) 1) (omega (arith, slot-in)))
       ∙ sym (ap (λ z. getD (w ++ (d ∷ [])) z 0) here ∙ getD-append-add w (d ∷ []) 0 0)
 
-  back-flag : (e : ℕ) → e < 2 * n → Dec (e ≡ d) → getD (set ws (waitingAt n + d) 1) (waitingAt n + e) 0 ≡ cond (has e (w ++ (d ∷ []))) 1 0
+  back-flag : (e : ℕ) → e < 2 * n → Dec (e ≡ d) → getD (set ws (waitingAt n + d) 1) (waitingAt n + e) 0 ≡ cond (elem e (w ++ (d ∷ []))) 1 0
   back-flag e m (yes q) =
       ap (λ z. getD (set ws (waitingAt n + d) 1) (waitingAt n + z) 0) q
       ∙ getD-set-same ws (waitingAt n + d) 1 0 (omega arith)
-      ∙ sym (ap (λ z. cond (has z (w ++ (d ∷ []))) 1 0) q ∙ ap (λ b. cond b 1 0) (has-last w d))
+      ∙ sym (ap (λ z. cond (elem z (w ++ (d ∷ []))) 1 0) q ∙ ap (λ b. cond b 1 0) (elem-last w d))
   back-flag e m (no q) =
       getD-set-other ws (waitingAt n + d) (waitingAt n + e) 1 0 (λ r. q (omega arith))
       ∙ h .flag e m
-      ∙ sym (ap (λ b. cond b 1 0) (has-before w q))
+      ∙ sym (ap (λ b. cond b 1 0) (elem-before w q))
 
   pub joined-back : Waits (set (set ws (waitingAt n + d) 1) (queueAt n + wrapped (2 * n) (queue .head + queue .len)) d) n (record { head = queue .head; len = queue .len + 1 }) (join w d)
   unfolding after
@@ -170,7 +171,7 @@ module _ {n d : ℕ} {ws : List ℕ} {queue : Queue} {w : List ℕ} (h : Waits w
   joined-kept = rest-trans (flag-stored ws n 1 l) (slot-stored (set ws (waitingAt n + d) 1) n d slot-in)
 
 -- a number that waits stays where it is
-pub joined-waiting : {n : ℕ} {ws : List ℕ} {queue : Queue} {w : List ℕ} (d : ℕ) → Waits ws n queue w → has d w ≡ true → Waits ws n queue (join w d)
+pub joined-waiting : {n : ℕ} {ws : List ℕ} {queue : Queue} {w : List ℕ} (d : ℕ) → Waits ws n queue w → elem d w ≡ true → Waits ws n queue (join w d)
 joined-waiting {n} {ws} {queue} {w} d h e = subst (λ v. Waits ws n queue v) (sym (join-waiting d w e)) h
 
 -- the two stores, at places that were computed
@@ -193,8 +194,8 @@ module _ {n x : ℕ} {ws : List ℕ} {queue : Queue} {w : List ℕ} (h : Waits w
   pub front-is : getD ws (queueAt n + queue .head) 0 ≡ x
   front-is = ap (λ k. getD ws (queueAt n + k) 0) (sym (wrapped-in (h .front)) ∙ ap (wrapped (2 * n)) (sym (add-zero (queue .head)))) ∙ h .slot 0 (omega arith)
 
-  fresh : has x w ≡ false
-  fresh = not-so (has x w) (λ t. go (h .distinct) (has-In x w t))
+  fresh : elem x w ≡ false
+  fresh = not-so (elem x w) (λ t. go (h .distinct) (elem-In x w t))
     where
       go : Distinct (x ∷ w) → In x w → ⊥
       go (Distinct.more f d) m = f m
@@ -205,12 +206,12 @@ module _ {n x : ℕ} {ws : List ℕ} {queue : Queue} {w : List ℕ} (h : Waits w
       go : Distinct (x ∷ w) → Distinct w
       go (Distinct.more f d) = d
 
-  taken-flag : visitedAt n ≤ length ws → (e : ℕ) → e < 2 * n → Dec (e ≡ x) → getD (set ws (waitingAt n + x) 0) (waitingAt n + e) 0 ≡ cond (has e w) 1 0
-  unfolding has
+  taken-flag : visitedAt n ≤ length ws → (e : ℕ) → e < 2 * n → Dec (e ≡ x) → getD (set ws (waitingAt n + x) 0) (waitingAt n + e) 0 ≡ cond (elem e w) 1 0
+  unfolding elem
   taken-flag fits e m (yes q) =
       ap (λ z. getD (set ws (waitingAt n + x) 0) (waitingAt n + z) 0) q
       ∙ getD-set-same ws (waitingAt n + x) 0 0 (omega (arith, h .below x (List·Memᴰ·head refl)))
-      ∙ sym (ap (λ z. cond (has z w) 1 0) q ∙ ap (λ b. cond b 1 0) fresh)
+      ∙ sym (ap (λ z. cond (elem z w) 1 0) q ∙ ap (λ b. cond b 1 0) fresh)
   taken-flag fits e m (no q) =
       getD-set-other ws (waitingAt n + x) (waitingAt n + e) 0 0 (λ r. q (omega arith))
       ∙ h .flag e m

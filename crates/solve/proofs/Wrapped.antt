@@ -6,7 +6,7 @@ use mathlib.Core.Path.{_≡_}
 use native.Mathlib.Decide.{decLt}
 use native.Mathlib.Omega.{arith}
 use borrow.Author.Tests.{lt-ltb, le-ltb}
-use Rattle.solve.specs.Waiting.{wrapped}
+use Rattle.solve.specs.contracts.Waiting.{wrapped}
 
 pub wrapped-in : {c i : ℕ} → i < c → wrapped c i ≡ i
 unfolding wrapped

@@ -1,26 +1,23 @@
-// The queue of waiting numbers, a ring in the work area, with a word for each number that says whether it waits.
+// The queue of waiting numbers, a ring in the work area, with a word for each number that says whether it waits. It serves both solvers, so its numbers
+// are bare: `nodes` and `stmts` say what they stand for.
 ghost use mathlib.Core.Path.{_≡_};
 ghost use mathlib.Core.List.{List};
 ghost use Prim.Native.Nat.{ℕ, _+_, _*_, _^_, _<_, _≤_};
 ghost use lib.ListN.{length};
 ghost use Rattle.flow.specs.Limits.{maxStatements};
-ghost use Rattle.statements.specs.Layout.{waitingAt, visitedAt};
-ghost use Rattle.solve.specs.Waiting.{wrapped, Waits, Enqueued, restOf, Taken};
+ghost use Rattle.solve.specs.contracts.Layout.{waitingAt, visitedAt};
+ghost use Rattle.solve.specs.contracts.Waiting.{Waits, Enqueued, Taken};
 use crate::Queue;
+use crate::layout::waiting;
+use crate::wrap;
 use statements::layout;
-
-fn wrap(i: usize, capacity: usize) -> usize
-    ensures { λ r. ⌜ r ≡ wrapped capacity i ⌝ }
-{
-    if i < capacity { i } else { i - capacity }
-}
 
 // Where the word stands that says whether d waits: each copy of a statement has its own. The last bound says that the place is a usize.
 fn flag(n: usize, d: usize) -> usize
     requires { ⌜ (n ≤ maxStatements) × (d < 2 * n) × (visitedAt n < 2 ^ 64) ⌝ }
     ensures { λ r. ⌜ r ≡ waitingAt n + d ⌝ }
 {
-    layout::waiting(n) + d
+    waiting(n) + d
 }
 
 // d joins the back unless it waits.
@@ -48,15 +45,4 @@ pub fn take(work: &mut [u64], n: usize, queue: Queue) -> usize
     let d = work[layout::queue(n) + head] as usize;
     work[flag(n, d)] = 0;
     d
-}
-
-// What waits behind the front.
-pub fn rest(n: usize, queue: Queue) -> Queue
-    requires { ⌜ (n ≤ maxStatements) × (0 < queue .len) × (queue .head < 2 * n) ⌝ }
-    ensures { λ r. ⌜ r ≡ restOf n queue ⌝ }
-{
-    Queue {
-        head: wrap(queue.head + 1, 2 * n),
-        len: queue.len - 1,
-    }
 }

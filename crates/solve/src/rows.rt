@@ -3,11 +3,11 @@ ghost use mathlib.Core.Logic.{_⊎_};
 ghost use Prim.Native.Nat.{_+_, _<_, _≤_};
 ghost use lib.Dec.{eqb, ltb};
 ghost use lib.ListN.{length};
-ghost use Rattle.words.specs.Byte.{byteAt};
+ghost use Rattle.words.specs.contracts.Byte.{byteAt};
 ghost use Rattle.flow.specs.Limits.{maxArrays};
-ghost use Rattle.statements.specs.Layout.{maskWords};
-ghost use Rattle.solve.specs.Rows.{RowIs, stepWhere, memberBelow};
-use statements::layout;
+ghost use Rattle.solve.specs.contracts.Layout.{maskWords};
+ghost use Rattle.solve.specs.contracts.Rows.{RowIs, stepWhere, memberBelow};
+use crate::layout;
 
 pub fn step_at(work: &mut [u64], row: usize, a: usize, effect: masks::Effect)
     requires { ⌜ (row + maskWords ≤ length (now work)) × (a < maxArrays) ⌝ }

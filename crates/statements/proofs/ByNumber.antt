@@ -2,7 +2,7 @@
 -- By what a fit file gives its readers; the tests of a kind go by its number.
 use Prim.Native.Nat.{ℕ, zero, suc, _<_, _≤_}
 use native.Mathlib.Omega.{arith}
-use mathlib.Core.Bool.{Bool, true, false, _||_}
+use mathlib.Core.Bool.{_||_}
 use mathlib.Core.List.{List, [], _∷_}
 use mathlib.Core.Option.{Option}
 use mathlib.Core.Path.{_≡_, refl, sym, ap, _∙_, subst}
@@ -11,15 +11,16 @@ use lib.Dec.{eqb, ltb}
 use lib.ListN.{length, getD}
 use Rattle.flow.specs.Limits.{maxKind}
 use Rattle.flow.specs.Flow.{Kind, Item, statement, items}
-use Rattle.flow.specs.Format.{flowOf, tabulate, recordPlace, statementsOf, kindAt, kindOf, byData, plainKind, successorCount, successorAt, referenceCount, referenceAt, writtenAt, readAt, itemAt}
-use Rattle.flow.specs.Fields.{FitRecord, itemCount, callLineCount, callLineAt, continuationIn}
+use Rattle.flow.specs.Format.{flowOf, tabulate, recordPlace, statementsOf, kindAt, kindOf, byData, plainKind, successorCount, successorAt, referenceCount, referenceAt, itemAt}
+use Rattle.flow.specs.contracts.Answers.{FitRecord}
+use Rattle.records.specs.contracts.Fields.{itemCount, callLineCount, callLineAt}
 use Rattle.records.proofs.Files.{record-fit}
 use Rattle.records.proofs.Values.{in-range}
 use Rattle.records.proofs.Statements.{Says, says}
 use Rattle.records.proofs.Tabulated.{length-tabulate, getD-tabulate}
 use Rattle.theory.specs.Body.{isReturn, counts, wipes}
-use Rattle.theory.specs.Runs.{empties}
-use Rattle.statements.specs.Ready.{Ready, Elements, RecordOf}
+use Rattle.theory.specs.Doubled.{resets}
+use Rattle.statements.specs.contracts.Ready.{Ready, Elements, RecordOf}
 
 elements : {A : Type 0} {l : List A} (n : ℕ) (f : ℕ → A) → l ≡ tabulate n f → Elements l n f
 elements n f e = record {
@@ -32,17 +33,17 @@ elements n f e = record {
 
 record Tests (k : ℕ) (x : Kind) : Type 0 where
   return : eqb k 1 ≡ isReturn x
-  empties : (eqb k 2 || eqb k 3) ≡ empties x
+  resets : (eqb k 2 || eqb k 3) ≡ resets x
 
 module _ (is : List Item) (l : ℕ) (c : Option ℕ) (ls : List ℕ) (c′ : Option ℕ) where
   tests : (k : ℕ) → k ≤ maxKind → Tests k (byData k (Kind.dim is) (Kind.gosub l c) (Kind.onGosub ls c′) (plainKind k))
-  tests zero h = record { return = refl; empties = refl }
-  tests (suc zero) h = record { return = refl; empties = refl }
-  tests (suc (suc zero)) h = record { return = refl; empties = refl }
-  tests (suc (suc (suc zero))) h = record { return = refl; empties = refl }
-  tests (suc (suc (suc (suc zero)))) h = record { return = refl; empties = refl }
-  tests (suc (suc (suc (suc (suc zero))))) h = record { return = refl; empties = refl }
-  tests (suc (suc (suc (suc (suc (suc zero)))))) h = record { return = refl; empties = refl }
+  tests zero h = record { return = refl; resets = refl }
+  tests (suc zero) h = record { return = refl; resets = refl }
+  tests (suc (suc zero)) h = record { return = refl; resets = refl }
+  tests (suc (suc (suc zero))) h = record { return = refl; resets = refl }
+  tests (suc (suc (suc (suc zero)))) h = record { return = refl; resets = refl }
+  tests (suc (suc (suc (suc (suc zero))))) h = record { return = refl; resets = refl }
+  tests (suc (suc (suc (suc (suc (suc zero)))))) h = record { return = refl; resets = refl }
   tests (suc (suc (suc (suc (suc (suc (suc k))))))) h = absurd (omega arith)
 
 kind-tests : (s : List ℕ) (p : ℕ) → kindAt s p ≤ maxKind → Tests (kindAt s p) (kindOf s p)
@@ -54,7 +55,7 @@ counts-items [] = refl
 counts-items (x ∷ xs) = sym (lt-ltb 0 (length (x ∷ xs)) (omega arith))
 
 -- a DIM that counts has items
-pub wipes-is : (x : Kind) → wipes x ≡ (empties x || ltb 0 (length (items x)))
+pub wipes-is : (x : Kind) → wipes x ≡ (resets x || ltb 0 (length (items x)))
 wipes-is Kind.other = refl
 wipes-is Kind.return = refl
 wipes-is Kind.clr = refl
@@ -70,7 +71,7 @@ record-said {s} {i} {p} e h t =
       place = e;
       fit = h;
       return = number .return ∙ ap isReturn (sym (t .kind));
-      empties = number .empties ∙ ap empties (sym (t .kind));
+      resets = number .resets ∙ ap resets (sym (t .kind));
       successors = elements (successorCount s p) (successorAt s p) (t .successors);
       references = elements (referenceCount s p) (referenceAt s p) (t .references);
       written = t .written;

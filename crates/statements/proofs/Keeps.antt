@@ -7,19 +7,20 @@ use mathlib.Core.List.{List}
 use mathlib.Core.Path.{_≡_, refl, sym, _∙_, subst}
 use lib.ListN.{length, getD, set, length-set}
 use lib.Seq.{getD-set-other}
-use Rattle.words.specs.Row.{has}
-use Rattle.words.specs.Change.{joined, inserted, rewritten, unioned, cleared}
-use Rattle.words.specs.Byte.{byteSet}
+use Rattle.words.specs.contracts.Row.{has}
+use Rattle.words.specs.contracts.Change.{joined, inserted, rewritten, unioned, zeroed}
+use Rattle.words.specs.contracts.Byte.{byteSet}
 use Rattle.words.proofs.Row.{has-cong}
 use Rattle.words.proofs.Rewritten.{length-rewritten, rewritten-other}
+use Rattle.flow.specs.declared.Header.{Header}
 use Rattle.flow.specs.Limits.{maxStatements}
 use Rattle.flow.specs.Flow.{size}
 use Rattle.flow.specs.Format.{flowOf}
 use Rattle.records.proofs.Files.{limited}
 use Rattle.records.proofs.Statements.{size-is}
-use Rattle.theory.specs.WellFormed.{WellFormed}
-use Rattle.statements.specs.Layout.{areaEnd}
-use Rattle.statements.specs.Ready.{Ready, Keeps}
+use Rattle.theory.specs.contracts.WellFormed.{WellFormed}
+use Rattle.statements.specs.contracts.Layout.{areaEnd}
+use Rattle.statements.specs.contracts.Ready.{Ready, Indexed, Keeps}
 use Rattle.statements.proofs.WorkArea.{area-fits}
 use Rattle.statements.proofs.WellFormed.{well-formed}
 
@@ -86,9 +87,9 @@ module _ (ws : List ℕ) {lo hi : ℕ} where
   unfolding unioned
   keeps-unioned to from width l h = keeps-rewritten _ to width l h
 
-  pub keeps-cleared : (base width : ℕ) → lo ≤ base → base + width ≤ hi → Keeps lo hi ws (cleared ws base width)
-  unfolding cleared
-  keeps-cleared base width l h = keeps-rewritten _ base width l h
+  pub keeps-zeroed : (base width : ℕ) → lo ≤ base → base + width ≤ hi → Keeps lo hi ws (zeroed ws base width)
+  unfolding zeroed
+  keeps-zeroed base width l h = keeps-rewritten _ base width l h
 
 -- a phase that writes above the noted places keeps them
 pub ready-keeps : {s ws vs : List ℕ} {n lo hi : ℕ} → Ready s ws n → Keeps lo hi ws vs → n ≤ lo → Ready s vs n
@@ -98,6 +99,9 @@ ready-keeps r k l = record {
   room = let room = r .room in let size = k .size in omega arith;
   offsets = λ i m. k .below _ (omega arith) ∙ r .offsets i m;
 }
+
+pub indexed-keeps : {s ws vs : List ℕ} {h : Header} {lo hi : ℕ} → Indexed s h ws → Keeps lo hi ws vs → h .statements ≤ lo → Indexed s h vs
+indexed-keeps r k l = record { ready = ready-keeps (r .ready) k l; header = r .header }
 
 -- a fit file has few enough statements for the layout, and their parts lie within the area
 

@@ -4,3 +4,5 @@ pub mod ByNumber
 pub mod MembersWord
 pub mod WellFormed
 pub mod Members
+pub mod Copies
+pub mod Noted

@@ -9,7 +9,7 @@ use native.Mathlib.Omega.{arith}
 use borrow.Author.Tests.{eq-eqb, ne-eqb, lt-ltb, le-ltb}
 use lib.Dec.{eqb, ltb}
 use lib.ListN.{getD}
-use Rattle.words.specs.Row.{bit, has, nextMember, First}
+use Rattle.words.specs.contracts.Row.{bit, has, nextMember, First}
 use Rattle.words.proofs.Bit.{bit-of-zero}
 use Rattle.words.proofs.NextMember.{first}
 

@@ -9,13 +9,13 @@ use borrow.Author.Tests.{eq-eqb, ne-eqb, eqb-true}
 use lib.Bits.{or-lt}
 use lib.Dec.{eqb}
 use lib.Pow.{pow-pos, pow-lt}
-use Rattle.words.specs.Row.{bit}
+use Rattle.words.specs.contracts.Row.{bit}
 use Rattle.words.proofs.Bit.{bit-of-zero, bit-or, bit-pow-same, bit-pow-other}
 use Rattle.flow.specs.Format.{tabulate}
-use Rattle.flow.specs.Fields.{bitIn, wordOf}
-use Rattle.theory.specs.Lists.{has}
-use Rattle.theory.proofs.Lists.{has-one-more}
-use Rattle.statements.specs.Ready.{MembersWord}
+use Rattle.records.specs.contracts.Fields.{bitIn, setWord}
+use Rattle.theory.specs.Lists.{elem}
+use Rattle.theory.proofs.Lists.{elem-one-more}
+use Rattle.statements.specs.contracts.Ready.{MembersWord}
 
 bit-in-lt : (x : ℕ) → bitIn 0 x < 2 ^ 64
 bit-in-lt x = go (eqb (x / 64) 0)
@@ -45,18 +45,18 @@ max-or false true = refl
 max-or false false = refl
 
 module _ (f : ℕ → ℕ) where
-  word-lt : (n : ℕ) → wordOf n f 0 < 2 ^ 64
-  unfolding wordOf
+  word-lt : (n : ℕ) → setWord n f 0 < 2 ^ 64
+  unfolding setWord
   word-lt zero = pow-pos 64
-  word-lt (suc n) = or-lt 64 (wordOf n f 0) (bitIn 0 (f n)) (word-lt n) (bit-in-lt (f n))
+  word-lt (suc n) = or-lt 64 (setWord n f 0) (bitIn 0 (f n)) (word-lt n) (bit-in-lt (f n))
 
-  word-bit : (n a : ℕ) → a < 64 → bit (wordOf n f 0) a ≡ cond (has a (tabulate n f)) 1 0
-  unfolding wordOf tabulate has
+  word-bit : (n a : ℕ) → a < 64 → bit (setWord n f 0) a ≡ cond (elem a (tabulate n f)) 1 0
+  unfolding setWord tabulate elem
   word-bit zero a l = bit-of-zero a
   word-bit (suc n) a l =
-      bit-or (wordOf n f 0) (bitIn 0 (f n)) a ∙ ap₂ max (word-bit n a l) (bit-in a (f n) l)
-      ∙ max-or (has a (tabulate n f)) (eqb a (f n))
-      ∙ ap (λ t. cond t 1 0) (sym (has-one-more (tabulate n f) (f n) a))
+      bit-or (setWord n f 0) (bitIn 0 (f n)) a ∙ ap₂ max (word-bit n a l) (bit-in a (f n) l)
+      ∙ max-or (elem a (tabulate n f)) (eqb a (f n))
+      ∙ ap (λ t. cond t 1 0) (sym (elem-one-more (tabulate n f) (f n) a))
 
-  pub members-word : (n : ℕ) → MembersWord (wordOf n f 0) (λ a. has a (tabulate n f))
+  pub members-word : (n : ℕ) → MembersWord (setWord n f 0) (λ a. elem a (tabulate n f))
   members-word n = record { word = word-lt n; member = word-bit n }

@@ -3,12 +3,12 @@
 use mathlib.Core.List.{List}
 use mathlib.Core.Path.{_≡_, refl, sym, ap, subst}
 use Prim.Native.Nat.{ℕ}
-use Rattle.flow.specs.Flow.{Flow, items}
+use Rattle.flow.specs.Flow.{items}
 use Rattle.flow.specs.Format.{flowOf, arraysOf, namesOf, entryOf}
-use Rattle.flow.specs.Fields.{FitFile}
+use Rattle.flow.specs.contracts.Answers.{FitFile}
 use Rattle.records.proofs.Ranged.{ranged}
 use Rattle.theory.specs.Lists.{In}
-use Rattle.theory.specs.WellFormed.{WellFormed}
+use Rattle.theory.specs.contracts.WellFormed.{WellFormed}
 pub use Rattle.records.proofs.Ranged.{statement-in}
 
 -- what the header says of the flow

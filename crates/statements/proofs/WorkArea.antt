@@ -1,6 +1,6 @@
 -- The parts of the work area: rows of the matrix lie apart and within it, a row has a word for each of its numbers, and all fits into 64 × n words.
 -- By the bound on n, which makes a row at most 32 words.
-use Prim.Native.Nat.{ℕ, suc, _+_, _*_, _/_, _≤_, _<_}
+use Prim.Native.Nat.{ℕ, _+_, _*_, _/_, _≤_, _<_}
 use native.Mathlib.Omega.{arith}
 use native.Mathlib.Decide.{decLt}
 use native.Mathlib.Nat.{le-refl, mul-suc, mul-le-mul-left, mul-le-mul-right}
@@ -9,11 +9,11 @@ use mathlib.Core.Logic.{_≢_}
 use mathlib.Core.Path.{_≡_}
 use lib.ListN.{getD}
 use Rattle.flow.specs.Limits.{maxStatements, workWords}
-use Rattle.words.specs.Row.{has}
-use Rattle.words.specs.Change.{inserted}
+use Rattle.words.specs.contracts.Row.{has}
+use Rattle.words.specs.contracts.Change.{inserted}
 use Rattle.words.proofs.Row.{has-cong}
 use Rattle.words.proofs.Inserted.{insert-else}
-use Rattle.statements.specs.Layout.{rowWords, rowAt, matrixAt, queueAt, areaEnd}
+use Rattle.statements.specs.contracts.Layout.{rowWords, rowsEnd, rowAt, matrixAt, queueAt, areaEnd}
 
 -- Words of a row
 
@@ -37,11 +37,11 @@ row-words-most h = omega arith
 -- Rows of the matrix
 
 pub row-from : (n i : ℕ) → matrixAt n ≤ rowAt n i
-unfolding rowAt
+unfolding rowsEnd
 row-from n i = omega arith
 
 pub rows-apart : (n : ℕ) {i j : ℕ} → i < j → rowAt n i + rowWords n ≤ rowAt n j
-unfolding rowAt
+unfolding rowsEnd
 rows-apart n {i} {j} l = omega (arith, mul-suc (rowWords n) i, mul-le-mul-left (rowWords n) l)
 
 -- a row ends where the queue begins, or before
@@ -49,12 +49,12 @@ pub row-fits : (n : ℕ) {i : ℕ} → i < n → rowAt n i + rowWords n ≤ queu
 row-fits n l = rows-apart n l
 
 pub row-below : {n i : ℕ} → n ≤ maxStatements → i ≤ n → rowAt n i ≤ 37 * n
-unfolding rowAt
+unfolding rowsEnd
 row-below {n} {i} h l =
     omega (arith, mul-le-mul-right i (row-words-most h), mul-le-mul-left 32 l)
 
 one-word : {n : ℕ} → n < 8 → rowAt n n ≤ 6 * n
-unfolding rowAt rowWords
+unfolding rowsEnd rowWords
 one-word {n} l = let one : (n + 63) / 64 ≤ 1 = omega arith in omega (arith, mul-le-mul-right n one)
 
 -- of a flow with statements, the parts fit into the work area that refusal 10 asks for

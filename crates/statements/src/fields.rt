@@ -1,137 +1,139 @@
 // The fields of statement i, each equal to the field of the flow that the file stands for.
 ghost use mathlib.Core.Path.{_≡_};
-ghost use mathlib.Core.Bool.{Bool};
-ghost use Prim.Native.Nat.{_<_, _≤_};
+ghost use Prim.Native.Nat.{_<_};
 ghost use lib.ListN.{length, getD};
 ghost use Rattle.flow.specs.Flow.{statement, enters, items};
-ghost use Rattle.flow.specs.Format as format;
-ghost use Rattle.flow.specs.Format.{flowOf};
-ghost use Rattle.flow.specs.Fields.{continuationTo, enteredAt};
-ghost use Rattle.flow.specs.Answers.{headerOf};
+ghost use Rattle.flow.specs.Format.{flowOf, recordPlace};
+ghost use Rattle.records.specs.contracts.Fields.{recordPart, continuationTo, lineEntryOf};
 ghost use Rattle.theory.specs.Body as body;
 ghost use Rattle.theory.specs.Body.{kind, successors, references, callLines, continuationOf, isReturn};
-ghost use Rattle.theory.specs.Runs.{empties};
+ghost use Rattle.theory.specs.Doubled as doubled;
 ghost use Rattle.theory.specs.Lists as lists;
-ghost use Rattle.statements.specs.Ready.{Ready, RecordOf, MembersWord, noItem};
+ghost use Rattle.statements.specs.contracts.Ready.{Ready, Indexed, RecordOf, MembersWord, noItem};
+use flow::KIND_CLR;
+use flow::KIND_RETURN;
+use flow::KIND_RUN;
+use flow::StmtId;
 
 // The place of statement i's record.
-pub fn offset(file: &[u8], work: &[u64], n: usize, i: usize) -> usize
-    requires { ⌜ Ready (now file) (now work) n × (i < n) ⌝ }
-    ensures { λ r. ⌜ RecordOf (now (file .entry)) i r ⌝ }
+pub fn offset(file: &[u8], work: &[u64], n: usize, i: StmtId) -> usize
+    requires { ⌜ Ready (now file) (now work) n × (i .0 < n) ⌝ }
+    ensures { λ r. ⌜ RecordOf (now (file .entry)) (i .0) r ⌝ }
 {
-    work[i] as usize
+    let at = i.0;
+    work[at] as usize
 }
 
-pub fn is_return(file: &[u8], work: &[u64], n: usize, i: usize) -> bool
-    requires { ⌜ Ready (now file) (now work) n × (i < n) ⌝ }
-    ensures { λ r. ⌜ r ≡ isReturn (kind (flowOf (now (file .entry))) i) ⌝ }
+pub fn is_return(file: &[u8], work: &[u64], n: usize, i: StmtId) -> bool
+    requires { ⌜ Ready (now file) (now work) n × (i .0 < n) ⌝ }
+    ensures { λ r. ⌜ r ≡ isReturn (kind (flowOf (now (file .entry))) (i .0)) ⌝ }
 {
-    records::kind(file, offset(file, work, n, i)) == 1
+    records::kind(file, offset(file, work, n, i)) == KIND_RETURN
 }
 
 // CLR and RUN: every array becomes NONE.
-pub fn clears(file: &[u8], work: &[u64], n: usize, i: usize) -> bool
-    requires { ⌜ Ready (now file) (now work) n × (i < n) ⌝ }
-    ensures { λ r. ⌜ r ≡ empties (kind (flowOf (now (file .entry))) i) ⌝ }
+pub fn resets(file: &[u8], work: &[u64], n: usize, i: StmtId) -> bool
+    requires { ⌜ Ready (now file) (now work) n × (i .0 < n) ⌝ }
+    ensures { λ r. ⌜ r ≡ doubled.resets (kind (flowOf (now (file .entry))) (i .0)) ⌝ }
 {
     let kind = records::kind(file, offset(file, work, n, i));
-    kind == 2 || kind == 3
+    kind == KIND_CLR || kind == KIND_RUN
 }
 
 // CLR, RUN and a DIM that counts.
-pub fn wipes(file: &[u8], work: &[u64], n: usize, i: usize) -> bool
-    requires { ⌜ Ready (now file) (now work) n × (i < n) ⌝ }
-    ensures { λ r. ⌜ r ≡ body.wipes (kind (flowOf (now (file .entry))) i) ⌝ }
+pub fn wipes(file: &[u8], work: &[u64], n: usize, i: StmtId) -> bool
+    requires { ⌜ Ready (now file) (now work) n × (i .0 < n) ⌝ }
+    ensures { λ r. ⌜ r ≡ body.wipes (kind (flowOf (now (file .entry))) (i .0)) ⌝ }
 {
-    if clears(file, work, n, i) {
+    if resets(file, work, n, i) {
         return true;
     }
     0 < records::item_count(file, offset(file, work, n, i))
 }
 
-pub fn continuation(file: &[u8], work: &[u64], n: usize, i: usize) -> flow::Continuation
-    requires { ⌜ Ready (now file) (now work) n × (i < n) ⌝ }
-    ensures { λ r. ⌜ r ≡ continuationTo (continuationOf (kind (flowOf (now (file .entry))) i)) ⌝ }
+pub fn continuation(file: &[u8], work: &[u64], n: usize, i: StmtId) -> flow::Continuation
+    requires { ⌜ Ready (now file) (now work) n × (i .0 < n) ⌝ }
+    ensures { λ r. ⌜ r ≡ continuationTo (continuationOf (kind (flowOf (now (file .entry))) (i .0))) ⌝ }
 {
     records::continuation(file, offset(file, work, n, i))
 }
 
-pub fn successor_count(file: &[u8], work: &[u64], n: usize, i: usize) -> usize
-    requires { ⌜ Ready (now file) (now work) n × (i < n) ⌝ }
-    ensures { λ r. ⌜ r ≡ length (successors (flowOf (now (file .entry))) i) ⌝ }
+pub fn successor_count(file: &[u8], work: &[u64], n: usize, i: StmtId) -> usize
+    requires { ⌜ Ready (now file) (now work) n × (i .0 < n) ⌝ }
+    ensures { λ r. ⌜ r ≡ length (successors (flowOf (now (file .entry))) (i .0)) ⌝ }
 {
     records::successor_count(file, offset(file, work, n, i))
 }
 
-pub fn successor(file: &[u8], work: &[u64], n: usize, i: usize, k: usize) -> flow::StmtId
-    requires { ⌜ Ready (now file) (now work) n × (i < n) × (k < length (successors (flowOf (now file)) i)) ⌝ }
-    ensures { λ r. ⌜ r .0 ≡ getD (successors (flowOf (now (file .entry))) i) k 0 ⌝ }
+pub fn successor(file: &[u8], work: &[u64], n: usize, i: StmtId, k: usize) -> StmtId
+    requires { ⌜ Ready (now file) (now work) n × (i .0 < n) × (k < length (successors (flowOf (now file)) (i .0))) ⌝ }
+    ensures { λ r. ⌜ r .0 ≡ getD (successors (flowOf (now (file .entry))) (i .0)) k 0 ⌝ }
 {
     records::successor(file, offset(file, work, n, i), k)
 }
 
-pub fn reference_count(file: &[u8], work: &[u64], n: usize, i: usize) -> usize
-    requires { ⌜ Ready (now file) (now work) n × (i < n) ⌝ }
-    ensures { λ r. ⌜ r ≡ length (references (flowOf (now (file .entry))) i) ⌝ }
+pub fn reference_count(file: &[u8], work: &[u64], n: usize, i: StmtId) -> usize
+    requires { ⌜ Ready (now file) (now work) n × (i .0 < n) ⌝ }
+    ensures { λ r. ⌜ r ≡ length (references (flowOf (now (file .entry))) (i .0)) ⌝ }
 {
     records::reference_count(file, offset(file, work, n, i))
 }
 
-pub fn reference(file: &[u8], work: &[u64], n: usize, i: usize, k: usize) -> usize
-    requires { ⌜ Ready (now file) (now work) n × (i < n) × (k < length (references (flowOf (now file)) i)) ⌝ }
-    ensures { λ r. ⌜ r ≡ getD (references (flowOf (now (file .entry))) i) k 0 ⌝ }
+pub fn reference(file: &[u8], work: &[u64], n: usize, i: StmtId, k: usize) -> usize
+    requires { ⌜ Ready (now file) (now work) n × (i .0 < n) × (k < length (references (flowOf (now file)) (i .0))) ⌝ }
+    ensures { λ r. ⌜ r ≡ getD (references (flowOf (now (file .entry))) (i .0)) k 0 ⌝ }
 {
     records::reference(file, offset(file, work, n, i), k)
 }
 
 // The references as a set: array a is bit a of the word.
-pub fn references_word(file: &[u8], work: &[u64], n: usize, i: usize) -> u64
-    requires { ⌜ Ready (now file) (now work) n × (i < n) ⌝ }
-    ensures { λ r. ⌜ MembersWord r (λ a. lists.has a (references (flowOf (now (file .entry))) i)) ⌝ }
+pub fn references_word(file: &[u8], work: &[u64], n: usize, i: StmtId) -> u64
+    requires { ⌜ Ready (now file) (now work) n × (i .0 < n) ⌝ }
+    ensures { λ r. ⌜ MembersWord r (λ a. lists.elem a (references (flowOf (now (file .entry))) (i .0))) ⌝ }
 {
     records::references_word(file, offset(file, work, n, i), 0)
 }
 
-pub fn written(file: &[u8], work: &[u64], n: usize, i: usize) -> u64
-    requires { ⌜ Ready (now file) (now work) n × (i < n) ⌝ }
-    ensures { λ r. ⌜ r ≡ statement (flowOf (now (file .entry))) i .written ⌝ }
+pub fn written(file: &[u8], work: &[u64], n: usize, i: StmtId) -> u64
+    requires { ⌜ Ready (now file) (now work) n × (i .0 < n) ⌝ }
+    ensures { λ r. ⌜ r ≡ statement (flowOf (now (file .entry))) (i .0) .written ⌝ }
 {
     records::written(file, offset(file, work, n, i))
 }
 
-pub fn read(file: &[u8], work: &[u64], n: usize, i: usize) -> u64
-    requires { ⌜ Ready (now file) (now work) n × (i < n) ⌝ }
-    ensures { λ r. ⌜ r ≡ statement (flowOf (now (file .entry))) i .read ⌝ }
+pub fn read(file: &[u8], work: &[u64], n: usize, i: StmtId) -> u64
+    requires { ⌜ Ready (now file) (now work) n × (i .0 < n) ⌝ }
+    ensures { λ r. ⌜ r ≡ statement (flowOf (now (file .entry))) (i .0) .read ⌝ }
 {
     records::read(file, offset(file, work, n, i))
 }
 
-pub fn item_count(file: &[u8], work: &[u64], n: usize, i: usize) -> usize
-    requires { ⌜ Ready (now file) (now work) n × (i < n) ⌝ }
-    ensures { λ r. ⌜ r ≡ length (items (kind (flowOf (now (file .entry))) i)) ⌝ }
+pub fn item_count(file: &[u8], work: &[u64], n: usize, i: StmtId) -> usize
+    requires { ⌜ Ready (now file) (now work) n × (i .0 < n) ⌝ }
+    ensures { λ r. ⌜ r ≡ length (items (kind (flowOf (now (file .entry))) (i .0))) ⌝ }
 {
     records::item_count(file, offset(file, work, n, i))
 }
 
-pub fn item(file: &[u8], work: &[u64], n: usize, i: usize, k: usize) -> flow::Item
-    requires { ⌜ Ready (now file) (now work) n × (i < n) × (k < length (items (kind (flowOf (now file)) i))) ⌝ }
-    ensures { λ r. ⌜ (r .array ≡ getD (items (kind (flowOf (now (file .entry))) i)) k noItem .array) × (r .flag ≡ getD (items (kind (flowOf (now (file .entry))) i)) k noItem .flag) ⌝ }
+pub fn item(file: &[u8], work: &[u64], n: usize, i: StmtId, k: usize) -> flow::Item
+    requires { ⌜ Ready (now file) (now work) n × (i .0 < n) × (k < length (items (kind (flowOf (now file)) (i .0)))) ⌝ }
+    ensures { λ r. ⌜ (r .array ≡ getD (items (kind (flowOf (now (file .entry))) (i .0))) k noItem .array) × (r .flag ≡ getD (items (kind (flowOf (now (file .entry))) (i .0))) k noItem .flag) ⌝ }
 {
     records::item(file, offset(file, work, n, i), k)
 }
 
 // The lines that a call names.
-pub fn line_count(file: &[u8], work: &[u64], n: usize, i: usize) -> usize
-    requires { ⌜ Ready (now file) (now work) n × (i < n) ⌝ }
-    ensures { λ r. ⌜ r ≡ length (callLines (kind (flowOf (now (file .entry))) i)) ⌝ }
+pub fn line_count(file: &[u8], work: &[u64], n: usize, i: StmtId) -> usize
+    requires { ⌜ Ready (now file) (now work) n × (i .0 < n) ⌝ }
+    ensures { λ r. ⌜ r ≡ length (callLines (kind (flowOf (now (file .entry))) (i .0))) ⌝ }
 {
     records::line_count(file, offset(file, work, n, i))
 }
 
 // The statement that the k-th of them enters, if any.
-pub fn entered(file: &[u8], h: flow::Header, work: &[u64], i: usize, k: usize) -> flow::Entered
-    requires { ⌜ Ready (now file) (now work) (h .statements) × (h ≡ headerOf (now file)) × (i < h .statements) × (k < length (callLines (kind (flowOf (now file)) i))) ⌝ }
-    ensures { λ r. ⌜ r ≡ enteredAt (enters (flowOf (now (file .entry))) (getD (callLines (kind (flowOf (now (file .entry))) i)) k 0)) ⌝ }
+pub fn entered(file: &[u8], h: flow::Header, work: &[u64], i: StmtId, k: usize) -> flow::LineEntry
+    requires { ⌜ Indexed (now file) h (now work) × (i .0 < h .statements) × (k < length (callLines (kind (flowOf (now file)) (i .0)))) ⌝ }
+    ensures { λ r. ⌜ r ≡ lineEntryOf (enters (flowOf (now (file .entry))) (getD (callLines (kind (flowOf (now (file .entry))) (i .0))) k 0)) ⌝ }
 {
     let n = h.statements;
     let lines_at = h.lines_at;
@@ -142,4 +144,12 @@ pub fn entered(file: &[u8], h: flow::Header, work: &[u64], i: usize, k: usize) -
         lines,
         records::call_line(file, offset(file, work, n, i), k),
     )
+}
+
+// The record of statement i, given out as that part of the file.
+pub fn record<'a>(file: &'a [u8], work: &[u64], n: usize, i: StmtId) -> &'a [u8]
+    requires { ⌜ Ready (now file) (now work) n × (i .0 < n) ⌝ }
+    ensures { λ r. ⌜ now r ≡ recordPart (now (file .entry)) (recordPlace (now (file .entry)) (i .0)) ⌝ }
+{
+    records::record(file, offset(file, work, n, i))
 }

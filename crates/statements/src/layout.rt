@@ -1,14 +1,12 @@
-// Where the parts of the work area stand, for a flow of n statements: what is noted of the file, what is found of its calls, and what the
-// solvers work with. Each phase writes one run of words.
+// Where the parts of the work area stand, for a flow of n statements: what is noted of the file, what is found of its calls, and where the
+// words of the solver begin. Each phase writes one run of words.
 ghost use mathlib.Core.Path.{_≡_};
-ghost use Prim.Native.Nat.{_+_, _*_, _≤_};
+ghost use Prim.Native.Nat.{_+_, _*_, _<_, _≤_};
 ghost use Rattle.flow.specs.Limits.{maxStatements};
-ghost use Rattle.statements.specs.Layout as at;
+ghost use Rattle.statements.specs.contracts.Layout as at;
+use flow::StmtId;
 
-// Words of a row of mask bytes.
-pub const MASK_WORDS: usize = 8;
-
-// The state of each call with a continuation: clear or opaque.
+// The state of each call with a continuation: transparent or opaque.
 pub fn calls(n: usize) -> usize
     requires { ⌜ n ≤ maxStatements ⌝ }
     ensures { λ r. ⌜ r ≡ at.callsAt n ⌝ }
@@ -24,7 +22,7 @@ pub fn call_touched(n: usize) -> usize
     2 * n
 }
 
-// The state of each body: unentered, open, clear or opaque.
+// The state of each body: unentered, open, transparent or opaque.
 pub fn bodies(n: usize) -> usize
     requires { ⌜ n ≤ maxStatements ⌝ }
     ensures { λ r. ⌜ r ≡ at.bodiesAt n ⌝ }
@@ -48,62 +46,57 @@ pub fn row_words(n: usize) -> usize
     (n + 63) / 64
 }
 
-// Row i of the matrix: a set of statements.
-pub fn row(n: usize, i: usize) -> usize
-    requires { ⌜ (n ≤ maxStatements) × (i ≤ n) ⌝ }
-    ensures { λ r. ⌜ r ≡ at.rowAt n i ⌝ }
+// The matrix of statement sets.
+pub fn matrix(n: usize) -> usize
+    requires { ⌜ n ≤ maxStatements ⌝ }
+    ensures { λ r. ⌜ r ≡ at.matrixAt n ⌝ }
 {
-    5 * n + row_words(n) * i
+    5 * n
+}
+
+// Where the first k rows of the matrix end.
+fn rows_end(n: usize, k: usize) -> usize
+    requires { ⌜ (n ≤ maxStatements) × (k ≤ n) ⌝ }
+    ensures { λ r. ⌜ r ≡ at.rowsEnd n k ⌝ }
+{
+    matrix(n) + row_words(n) * k
+}
+
+// The row of statement i: a set of statements.
+pub fn row(n: usize, i: StmtId) -> usize
+    requires { ⌜ (n ≤ maxStatements) × (i .0 < n) ⌝ }
+    ensures { λ r. ⌜ r ≡ at.rowAt n (i .0) ⌝ }
+{
+    rows_end(n, i.0)
 }
 
 pub fn queue(n: usize) -> usize
     requires { ⌜ n ≤ maxStatements ⌝ }
     ensures { λ r. ⌜ r ≡ at.queueAt n ⌝ }
 {
-    row(n, n)
+    rows_end(n, n)
 }
 
 // What stands k parts of n words behind the matrix.
 fn part(n: usize, k: usize) -> usize
-    requires { ⌜ (n ≤ maxStatements) × (k ≤ 9) ⌝ }
+    requires { ⌜ (n ≤ maxStatements) × (k ≤ 3) ⌝ }
     ensures { λ r. ⌜ r ≡ at.queueAt n + k * n ⌝ }
 {
     queue(n) + k * n
 }
 
 // The statements that the call at hand enters.
-pub fn entered(n: usize) -> usize
+pub fn entered_row(n: usize) -> usize
     requires { ⌜ n ≤ maxStatements ⌝ }
-    ensures { λ r. ⌜ r ≡ at.enteredAt n ⌝ }
+    ensures { λ r. ⌜ r ≡ at.enteredRowAt n ⌝ }
 {
     part(n, 2)
 }
 
-pub fn waiting(n: usize) -> usize
+// Where the solver's words begin.
+pub fn solver(n: usize) -> usize
     requires { ⌜ n ≤ maxStatements ⌝ }
-    ensures { λ r. ⌜ r ≡ at.waitingAt n ⌝ }
+    ensures { λ r. ⌜ r ≡ at.solverAt n ⌝ }
 {
     part(n, 3)
-}
-
-pub fn visited(n: usize) -> usize
-    requires { ⌜ n ≤ maxStatements ⌝ }
-    ensures { λ r. ⌜ r ≡ at.visitedAt n ⌝ }
-{
-    part(n, 5)
-}
-
-pub fn grown(n: usize) -> usize
-    requires { ⌜ n ≤ maxStatements ⌝ }
-    ensures { λ r. ⌜ r ≡ at.grownAt n ⌝ }
-{
-    part(n, 7)
-}
-
-// The row of masks of a doubled number; rows 2 n and 2 n + 1 are those of the statement at hand, for its edges.
-pub fn mask_row(n: usize, d: usize) -> usize
-    requires { ⌜ (n ≤ maxStatements) × (d ≤ at.maskRows n) ⌝ }
-    ensures { λ r. ⌜ r ≡ at.maskRowAt n d ⌝ }
-{
-    part(n, 9) + MASK_WORDS * d
 }

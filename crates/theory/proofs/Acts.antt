@@ -5,15 +5,15 @@ use mathlib.Core.Bool.{Bool, true, false, cond, _&&_}
 use mathlib.Core.List.{List, [], _∷_, _++_}
 use mathlib.Core.Path.{_≡_, refl, sym, subst}
 use Rattle.masks.specs.declared.Effect.{Effect}
-use Rattle.masks.specs.declared.Effect.the-variants.{None, Reference, Dim, Clear, Touched}
+use Rattle.masks.specs.declared.Effect.the-variants.{None, Reference, Dim, Reset, Touched}
 use Rattle.masks.specs.State.{State, referenced, turns}
 use Rattle.flow.specs.Flow.{Flow, Kind}
-use Rattle.theory.specs.Lists.{In, any, has}
+use Rattle.theory.specs.Lists.{In, any, elem}
 use Rattle.theory.specs.Body.{kind, references, wipes, Walks, Calls, Touches, callTouches}
 use Rattle.theory.specs.Doubled.{Edge, kindEffects, statementEffects, edgeEffects}
 use Rattle.theory.specs.Walks.{Turns}
 use Rattle.theory.specs.Runs.{become, becomeAll, act}
-use Rattle.theory.proofs.Lists.{has-In}
+use Rattle.theory.proofs.Lists.{elem-In}
 
 -- what an effect makes of a state is one of its turns
 turns-become : (e : Effect) (s : State) → turns e s (become e s) ≡ true
@@ -24,7 +24,7 @@ turns-become Reference State.none = refl
 turns-become Reference State.auto = refl
 turns-become Reference State.dimmed = refl
 turns-become Dim s = refl
-turns-become Clear s = refl
+turns-become Reset s = refl
 turns-become Touched State.none = refl
 turns-become Touched State.auto = refl
 turns-become Touched State.dimmed = refl
@@ -94,13 +94,13 @@ no-effects (Kind.onGosub ls c) a h = refl
 -- such a statement on the walk of e does what the body does
 pub act-kept : (f : Flow) (i : ℕ) (a : ℕ) {e : ℕ} (s : ℕ → State) → Walks f e i → wipes (kind f i) ≡ false → Kept f e a (s a) (act f i s a)
 unfolding act statementEffects becomeAll
-act-kept f i a {e} s w h = rw (no-effects (kind f i) a h) (go (has a (references f i)) refl (s a))
+act-kept f i a {e} s w h = rw (no-effects (kind f i) a h) (go (elem a (references f i)) refl (s a))
   where
     referencing : (t : State) → In a (references f i) → Kept f e a t (referenced t)
     referencing State.none m = Kept.touched (Touches.own w m)
     referencing State.auto m = Kept.kept
     referencing State.dimmed m = Kept.kept
 
-    go : (t : Bool) → has a (references f i) ≡ t → (u : State) → Kept f e a u (becomeAll (cond t (Reference ∷ []) [] ++ []) u)
-    go true q u = referencing u (has-In a (references f i) q)
+    go : (t : Bool) → elem a (references f i) ≡ t → (u : State) → Kept f e a u (becomeAll (cond t (Reference ∷ []) [] ++ []) u)
+    go true q u = referencing u (elem-In a (references f i) q)
     go false q u = Kept.kept

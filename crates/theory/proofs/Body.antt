@@ -7,11 +7,11 @@ use mathlib.Core.Logic.{_⊎_, inl, inr, ⊎-elim}
 use mathlib.Core.Option.{Option, none, some}
 use mathlib.Core.Path.{_≡_, refl, subst}
 use Rattle.flow.specs.Flow.{Flow, size, enters}
-use Rattle.theory.specs.Lists.{In, any, has, optionList}
+use Rattle.theory.specs.Lists.{In, any, elem, optionList}
 use Rattle.theory.specs.Reach.{Reach}
 use Rattle.theory.specs.Body.{kind, successors, references, callLines, continuationOf, entered, ifSome, callees, isReturn, orElse, walkNext, Walks, walked, Calls, called, Touches, wipes, Calls⁺, Opaque, OpaqueCall, CallTouches, bodies, touches, onCycle, opaque, opaqueCall, callTouches}
-use Rattle.theory.specs.WellFormed.{WellFormed}
-use Rattle.theory.proofs.Lists.{or-cases, or-left, or-right, same-test, any-In, any-find, In-has, has-In, concatMap-In, In-concatMap, In-optionList}
+use Rattle.theory.specs.contracts.WellFormed.{WellFormed}
+use Rattle.theory.proofs.Lists.{or-cases, or-left, or-right, same-test, any-In, any-find, In-elem, elem-In, concatMap-In, In-concatMap, In-optionList}
 use Rattle.theory.proofs.Reach.{reach-first, reach-below, reach-back, reached-sound, reached-complete}
 
 -- Walks
@@ -108,10 +108,10 @@ module _ {f : Flow} (w : WellFormed f) where
 pub touches-sound : (f : Flow) (e a : ℕ) → touches f e a ≡ true → Touches f a e
 unfolding touches
 touches-sound f e a h =
-    let r = any-find (λ b. any (λ i. has a (references f i)) (walked f b)) (bodies f e) h in
-    let s = any-find (λ i. has a (references f i)) (walked f (r .0)) (r .2) in
+    let r = any-find (λ b. any (λ i. elem a (references f i)) (walked f b)) (bodies f e) h in
+    let s = any-find (λ i. elem a (references f i)) (walked f (r .0)) (r .2) in
     reach-back (Touches f a) (λ i j m t. Touches.nested (called-sound f i m) t) (bodies-sound f e (r .1))
-    (Touches.own (walked-sound f (r .0) (s .1)) (has-In a (references f (s .0)) (s .2)))
+    (Touches.own (walked-sound f (r .0) (s .1)) (elem-In a (references f (s .0)) (s .2)))
 
 -- Opacity
 
@@ -122,8 +122,8 @@ bad f b = any (λ i. wipes (kind f i)) (walked f b) || onCycle f b
 pub onCycle-sound : (f : Flow) (e : ℕ) → onCycle f e ≡ true → Calls⁺ f e e
 unfolding onCycle
 onCycle-sound f e h =
-    let r = any-find (λ b. has e (bodies f b)) (called f e) h in
-    calls-then (called-sound f e (r .1)) (bodies-sound f (r .0) (has-In e (bodies f (r .0)) (r .2)))
+    let r = any-find (λ b. elem e (bodies f b)) (called f e) h in
+    calls-then (called-sound f e (r .1)) (bodies-sound f (r .0) (elem-In e (bodies f (r .0)) (r .2)))
 
 bad-sound : (f : Flow) (b : ℕ) → bad f b ≡ true → Opaque f b
 unfolding bad
@@ -152,11 +152,11 @@ callTouches-sound f c a h =
     CallTouches.enters-touching (r .1) (touches-sound f (r .0) a (r .2))
 
 module _ {f : Flow} (w : WellFormed f) where
-  touches-own : {a e i : ℕ} → e < size f → Walks f e i → In a (references f i) → any (λ j. has a (references f j)) (walked f e) ≡ true
-  touches-own {a} l r m = any-In (λ j. has a (references f j)) (walked-complete w l r) (In-has m)
+  touches-own : {a e i : ℕ} → e < size f → Walks f e i → In a (references f i) → any (λ j. elem a (references f j)) (walked f e) ≡ true
+  touches-own {a} l r m = any-In (λ j. elem a (references f j)) (walked-complete w l r) (In-elem m)
 
   -- some body that the calls lead to touches the array itself
-  touches-where : {a e : ℕ} → e < size f → Touches f a e → (b : ℕ) × Reach (called f) e b × (any (λ j. has a (references f j)) (walked f b) ≡ true)
+  touches-where : {a e : ℕ} → e < size f → Touches f a e → (b : ℕ) × Reach (called f) e b × (any (λ j. elem a (references f j)) (walked f b) ≡ true)
   touches-where {e = e} l (Touches.own r m) = (e, Reach.here, touches-own l r m)
   touches-where l (Touches.nested k t) =
       let r = touches-where (calls-below w k) t in
@@ -166,13 +166,13 @@ module _ {f : Flow} (w : WellFormed f) where
   unfolding touches
   touches-complete {a} l t =
       let r = touches-where l t in
-      any-In (λ b. any (λ i. has a (references f i)) (walked f b)) (bodies-complete w l (r .1)) (r .2)
+      any-In (λ b. any (λ i. elem a (references f i)) (walked f b)) (bodies-complete w l (r .1)) (r .2)
 
   pub onCycle-complete : {e : ℕ} → e < size f → Calls⁺ f e e → onCycle f e ≡ true
   unfolding onCycle
   onCycle-complete {e} l k =
       let r = then-calls w l k in
-      any-In (λ b. has e (bodies f b)) (r .1) (In-has (bodies-complete w (called-below w e (r .0) (r .1)) (r .2)))
+      any-In (λ b. elem e (bodies f b)) (r .1) (In-elem (bodies-complete w (called-below w e (r .0) (r .1)) (r .2)))
 
   -- some body that the calls lead to is opaque by itself
   opaque-where : {e : ℕ} → e < size f → Opaque f e → (b : ℕ) × Reach (called f) e b × (bad f b ≡ true)
@@ -203,29 +203,29 @@ module _ {f : Flow} (w : WellFormed f) where
   -- Summaries, statement by statement of the walk: a body's summary needs its calls, and a call's summary needs its bodies
 
   abbrev touchesAt : ℕ → ℕ → Bool
-  touchesAt a i = has a (references f i) || callTouches f i a
+  touchesAt a i = elem a (references f i) || callTouches f i a
 
   touches-some : {a e : ℕ} → e < size f → Touches f a e → any (touchesAt a) (walked f e) ≡ true
   touches-some {a} l (Touches.own {i = i} r m) =
-      any-In (touchesAt a) (walked-complete w l r) (or-left (has a (references f i)) (callTouches f i a) (In-has m))
+      any-In (touchesAt a) (walked-complete w l r) (or-left (elem a (references f i)) (callTouches f i a) (In-elem m))
   touches-some {a} l (Touches.nested (Calls.calls {c = c} r m) t) =
       any-In (touchesAt a) (walked-complete w l r)
-      (or-right (has a (references f c)) (callTouches f c a) (callTouches-complete (CallTouches.enters-touching m t)))
+      (or-right (elem a (references f c)) (callTouches f c a) (callTouches-complete (CallTouches.enters-touching m t)))
 
-  some-touches : {a e i : ℕ} → Walks f e i → (has a (references f i) ≡ true) ⊎ (callTouches f i a ≡ true) → Touches f a e
-  some-touches {a} {i = i} r (inl h) = Touches.own r (has-In a (references f i) h)
+  some-touches : {a e i : ℕ} → Walks f e i → (elem a (references f i) ≡ true) ⊎ (callTouches f i a ≡ true) → Touches f a e
+  some-touches {a} {i = i} r (inl h) = Touches.own r (elem-In a (references f i) h)
   some-touches {a} {e} {i} r (inr h) = go (callTouches-sound f i a h)
     where
       go : CallTouches f i a → Touches f a e
       go (CallTouches.enters-touching m t) = Touches.nested (Calls.calls r m) t
 
-  pub touches-equation : (e a : ℕ) → e < size f → touches f e a ≡ any (λ i. has a (references f i) || callTouches f i a) (walked f e)
+  pub touches-equation : (e a : ℕ) → e < size f → touches f e a ≡ any (λ i. elem a (references f i) || callTouches f i a) (walked f e)
   touches-equation e a l =
       same-test (touches f e a) (any (touchesAt a) (walked f e))
       (λ h. touches-some l (touches-sound f e a h))
       (λ h.
       let r = any-find (touchesAt a) (walked f e) h in
-      touches-complete l (some-touches (walked-sound f e (r .1)) (or-cases (has a (references f (r .0))) (callTouches f (r .0) a) (r .2))))
+      touches-complete l (some-touches (walked-sound f e (r .1)) (or-cases (elem a (references f (r .0))) (callTouches f (r .0) a) (r .2))))
 
   abbrev opaqueAt : ℕ → Bool
   opaqueAt i = wipes (kind f i) || opaqueCall f i

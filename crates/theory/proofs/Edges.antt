@@ -11,25 +11,27 @@ use lib.ListN.{List·getD-eq-default}
 use native.Mathlib.Decide.{decLt}
 use native.Mathlib.Omega.{arith}
 use borrow.Author.Tests.{eq-eqb, eqb-true}
+use Rattle.flow.specs.declared.Base.{Base}
+use Rattle.flow.specs.declared.Base.the-variants.{Zero, N}
 use Rattle.flow.specs.Flow.{Flow, Kind, size, statement, noStatement}
-use Rattle.theory.specs.Lists.{In, any, has, select, upTo}
+use Rattle.theory.specs.Lists.{In, any, elem, select, upTo}
 use Rattle.theory.specs.Body.{kind, successors, continuationOf, entered, callees, isReturn, walked, opaqueCall}
-use Rattle.theory.specs.WellFormed.{WellFormed}
-use Rattle.theory.specs.Doubled.{Base, Node, Edge, at, plain, sameBase, sameNode, returnsTo, returnEdges, once, callEdges, listedEdges, edgesOf, edges}
-use Rattle.theory.proofs.Lists.{any-In, In-has, select-In, In-select, upTo-In, In-upTo}
+use Rattle.theory.specs.contracts.WellFormed.{WellFormed}
+use Rattle.theory.specs.Doubled.{Node, Edge, at, plain, sameBase, sameNode, returnsTo, returnEdges, once, callEdges, listedEdges, edgesOf, edges}
+use Rattle.theory.proofs.Lists.{any-In, In-elem, select-In, In-select, upTo-In, In-upTo}
 use Rattle.theory.proofs.Body.{entered-below}
 
 -- a test of two nodes is true of equal ones and of no others
 
 pub same-base : (b c : Base) → sameBase b c ≡ true → b ≡ c
-same-base Base.zero Base.zero h = refl
-same-base Base.zero Base.n h = cc
-same-base Base.n Base.zero h = cc
-same-base Base.n Base.n h = refl
+same-base Zero Zero h = refl
+same-base Zero N h = cc
+same-base N Zero h = cc
+same-base N N h = refl
 
 base-same : (b : Base) → sameBase b b ≡ true
-base-same Base.zero = refl
-base-same Base.n = refl
+base-same Zero = refl
+base-same N = refl
 
 pub same-node : (v w : Node) → sameNode v w ≡ true → v ≡ w
 same-node v w h = go (sameBase (v .base) (w .base)) refl h
@@ -72,10 +74,10 @@ in-once {x} (e ∷ es) m = go (in-once es) (List·Memᴰ·cases-cons m)
 
 -- where a call that is not opaque goes: the listed successors that are neither entered nor the continuation come last
 abbrev others : Flow → ℕ → ℕ → ℕ → Bool
-others f i k j = not (has j (entered f i) || eqb j k)
+others f i k j = not (elem j (entered f i) || eqb j k)
 
 abbrev targets : Flow → Base → ℕ → ℕ → List Node
-targets f b i k = map (at Base.n) (entered f i) ++ (at b k ∷ map (at b) (select (others f i k) (successors f i)))
+targets f b i k = map (at N) (entered f i) ++ (at b k ∷ map (at b) (select (others f i k) (successors f i)))
 
 in-callEdges : (f : Flow) (b : Base) (i k : ℕ) {x : Edge} → In x (callEdges f b i k) → (v : Node) × In v (targets f b i k) × (callEdge (at b k) v ≡ x)
 unfolding callEdges
@@ -101,13 +103,13 @@ module _ (f : Flow) (b : Base) (i : ℕ) where
     unfolding edges edgesOf
     from-call {x} m = subst (λ (o : Option ℕ). In x (edgesOf f b i o)) (sym c) (rw o m)
 
-    pub entered-edge : {e : ℕ} → In e (entered f i) → In (callEdge (at b k) (at Base.n e)) (edges f (at b i))
+    pub entered-edge : {e : ℕ} → In e (entered f i) → In (callEdge (at b k) (at N e)) (edges f (at b i))
     unfolding callEdges
-    entered-edge m = from-call (once-in (at b k) (Memᴰ·append-left _ (Memᴰ·map (at Base.n) m)))
+    entered-edge m = from-call (once-in (at b k) (Memᴰ·append-left _ (Memᴰ·map (at N) m)))
 
     pub continuation-edge : In (callEdge (at b k) (at b k)) (edges f (at b i))
     unfolding callEdges
-    continuation-edge = from-call (once-in (at b k) (Memᴰ·append-right (map (at Base.n) (entered f i)) (List·Memᴰ·head refl)))
+    continuation-edge = from-call (once-in (at b k) (Memᴰ·append-right (map (at N) (entered f i)) (List·Memᴰ·head refl)))
 
     -- each edge to base + continuation carries the touched step, the one to an entered statement too, and no other does
     pub continues-at : {x : Edge} → In x (edges f (at b i)) → x .continues ≡ sameNode (x .to) (at b k)
@@ -118,23 +120,23 @@ module _ (f : Flow) (b : Base) (i : ℕ) where
         subst (λ (x : Edge). x .continues ≡ sameNode (x .to) (at b k)) (r .2) refl
 
 -- a RETURN in base n goes nowhere
-pub return-nowhere : (f : Flow) (r : ℕ) → kind f r ≡ Kind.return → edges f (at Base.n r) ≡ []
+pub return-nowhere : (f : Flow) (r : ℕ) → kind f r ≡ Kind.return → edges f (at N r) ≡ []
 unfolding edges edgesOf returnEdges
 return-nowhere f r h = rw (ap continuationOf h, ap isReturn h)
 
 -- a RETURN in base 0 goes to the continuation of each opaque call that enters a body whose walk meets it
 pub return-edge : (f : Flow) (r : ℕ) {c k e : ℕ} → continuationOf (kind f r) ≡ none → isReturn (kind f r) ≡ true → c < size f → k < size f
     → continuationOf (kind f c) ≡ some k → opaqueCall f c ≡ true → In e (callees f c) → In r (walked f e)
-    → In (plain (at Base.zero k)) (edges f (at Base.zero r))
+    → In (plain (at Zero k)) (edges f (at Zero r))
 unfolding edges edgesOf returnEdges returnsTo
 return-edge f r {c} {k} {e} cr rr cn kn ck o m w =
-    subst (λ (o : Option ℕ). In (plain (at Base.zero k)) (edgesOf f Base.zero r o)) (sym cr)
-    (rw rr (Memᴰ·map (λ k. plain (at Base.zero k))
+    subst (λ (o : Option ℕ). In (plain (at Zero k)) (edgesOf f Zero r o)) (sym cr)
+    (rw rr (Memᴰ·map (λ k. plain (at Zero k))
     (select-In (λ k. any (returnsTo f r k) (upTo (size f))) (upTo-In (size f) k kn)
     (any-In (returnsTo f r k) (upTo-In (size f) c cn) passes))))
   where
     passes : returnsTo f r k c ≡ true
-    passes = rw (ck, eq-eqb k k refl, o) (any-In (λ b. has r (walked f b)) m (In-has w))
+    passes = rw (ck, eq-eqb k k refl, o) (any-In (λ b. elem r (walked f b)) m (In-elem w))
 
 -- only a statement has a continuation
 pub statement-of : (f : Flow) (c : ℕ) {k : ℕ} → continuationOf (kind f c) ≡ some k → c < size f
@@ -162,11 +164,11 @@ module _ (f : Flow) (wf : WellFormed f) where
 
   return-stays : (b : Base) (i : ℕ) {x : Edge} → In x (returnEdges f b i) → stays x
   unfolding stays returnEdges
-  return-stays Base.zero i m =
+  return-stays Zero i m =
       let meets : ℕ → Bool = λ k. any (returnsTo f i k) (upTo (size f)) in
-      let r = Memᴰ·of-map (λ k. plain (at Base.zero k)) (select meets (upTo (size f))) m in
+      let r = Memᴰ·of-map (λ k. plain (at Zero k)) (select meets (upTo (size f))) m in
       subst (λ x. x .to .stmt < size f) (r .2) (In-upTo (size f) (In-select meets (upTo (size f)) (r .1) .0))
-  return-stays Base.n i m = absurd (List·Memᴰ·not-nil m)
+  return-stays N i m = absurd (List·Memᴰ·not-nil m)
 
   below : (c : Base) (l : List ℕ) {v : Node} → ((j : ℕ) → In j l → j < size f) → In v (map (at c) l) → v .stmt < size f
   below c l all m = let q = Memᴰ·of-map (at c) l m in subst (λ v. v .stmt < size f) (q .2) (all (q .0) (q .1))
@@ -175,15 +177,15 @@ module _ (f : Flow) (wf : WellFormed f) where
   unfolding stays
   call-stays b i k h m =
       let r = in-callEdges f b i k m in
-      subst (λ x. x .to .stmt < size f) (r .2) (first (List·Memᴰ·append-cases (map (at Base.n) (entered f i)) (r .1)))
+      subst (λ x. x .to .stmt < size f) (r .2) (first (List·Memᴰ·append-cases (map (at N) (entered f i)) (r .1)))
     where
       rest : {v : Node} → (v ≡ at b k) ⊎ In v (map (at b) (select (others f i k) (successors f i))) → v .stmt < size f
       rest (inl e) = subst (λ v. v .stmt < size f) (sym e) h
       rest (inr m) =
           below b (select (others f i k) (successors f i)) (λ j m. wf .successor i j (In-select (others f i k) (successors f i) m .0)) m
 
-      first : {v : Node} → In v (map (at Base.n) (entered f i)) ⊎ In v (at b k ∷ map (at b) (select (others f i k) (successors f i))) → v .stmt < size f
-      first (inl m) = below Base.n (entered f i) (entered-below wf i) m
+      first : {v : Node} → In v (map (at N) (entered f i)) ⊎ In v (at b k ∷ map (at b) (select (others f i k) (successors f i))) → v .stmt < size f
+      first (inl m) = below N (entered f i) (entered-below wf i) m
       first (inr m) = rest (List·Memᴰ·cases-cons m)
 
   pub edge-below : (v : Node) {x : Edge} → In x (edges f v) → x .to .stmt < size f

@@ -1,16 +1,16 @@
--- Term 1 over any graph: the queue rule ends, after at most 1 + edges × (1 + 2 × arrays) visits. A number owes 1 + 2 × arrays while unvisited, and
+-- Term 1 over any graph: a course of the queue rule has at most 1 + edges × (1 + 2 × arrays) visits. A number owes 1 + 2 × arrays while unvisited, and
 -- 3 × arrays less the states it holds once visited; what waits, with the sum of edges × what is owed, falls at each visit. Assumes nothing.
-use Prim.Native.Nat.{ℕ, zero, suc, _+_, _-_, _*_, _≤_, _<_}
+use Prim.Native.Nat.{ℕ, suc, _+_, _-_, _*_, _≤_, _<_}
 use mathlib.Core.Bool.{Bool, true, false, cond, not, _||_}
 use mathlib.Core.List.{List, [], _∷_}
-use mathlib.Core.Path.{_≡_, refl, sym, ap, ap₂, subst, _∙_}
-use native.Mathlib.Nat.{mul-le-mul-left, mul-add, zero-add, suc-add, add-comm, le-refl}
+use mathlib.Core.Path.{_≡_, refl, sym, ap, ap₂, subst}
+use native.Mathlib.Nat.{mul-le-mul-left, mul-add}
 use native.Mathlib.Omega.{arith}
 use borrow.Author.Tests.{eqb-false, eq-eqb, not-true}
 use lib.Dec.{eqb}
 use lib.ListN.{length}
 use Rattle.theory.specs.Lists.{sumBelow}
-use Rattle.theory.specs.Queue.{Graph, Solver, pulled, changed, visit, visitFront, visitTimes, initial, arcCount, visitBound, solved}
+use Rattle.theory.specs.Queue.{Graph, Solver, pulled, changed, visit, initial, Course, begins, next-visit, Over, arcCount, visitBound}
 use Rattle.theory.proofs.Lists.{sumBelow-same, sumBelow-less, sumBelow-le, sumBelow-lt}
 use Rattle.theory.proofs.Below.{allBelow-fails, sumBelow-const, sumBelow-scale}
 use Rattle.theory.proofs.MaskLaws.{Proper, statesHeld, states-pos, states-le, states-mono, states-rise}
@@ -133,66 +133,7 @@ module _ (g : Graph) (wf : WellFormedGraph g) (st : Solver) (inv : Invariant g s
       let k : sumBelow (g .nodes) (share g next) + length (g .arcs d) * cond grown 1 0 ≤ sumBelow (g .nodes) (share g st) = sum-falls grown refl in
       omega arith
 
--- Any number of visits
-
--- with nothing waiting, visits change nothing
-pub stops : (k : ℕ) (g : Graph) (st : Solver) → st .waiting ≡ [] → visitTimes k g st ≡ st
-unfolding visitTimes visitFront
-stops zero g st e = refl
-stops (suc k) g st e =
-    ap (λ l. visitTimes k g (visitFront g st l)) e ∙ stops k g st e
-
-pub times-add : (j k : ℕ) (g : Graph) (st : Solver) → visitTimes (j + k) g st ≡ visitTimes k g (visitTimes j g st)
-unfolding visitTimes
-times-add zero k g st = ap (λ n. visitTimes n g st) (zero-add k)
-times-add (suc j) k g st = ap (λ n. visitTimes n g st) (suc-add j k) ∙ times-add j k g (visitFront g st (st .waiting))
-
-pub front-keeps : (g : Graph) (wf : WellFormedGraph g) (st : Solver) → Invariant g st → Invariant g (visitFront g st (st .waiting))
-unfolding visitFront
-front-keeps g wf st inv = go (st .waiting) refl
-  where
-    go : (l : List ℕ) → st .waiting ≡ l → Invariant g (visitFront g st l)
-    go [] e = inv
-    go (d ∷ w) e = visit-keeps g wf st inv d w e
-
-pub times-keep : (k : ℕ) (g : Graph) (wf : WellFormedGraph g) (st : Solver) → Invariant g st → Invariant g (visitTimes k g st)
-unfolding visitTimes
-times-keep zero g wf st inv = inv
-times-keep (suc k) g wf st inv = times-keep k g wf (visitFront g st (st .waiting)) (front-keeps g wf st inv)
-
--- as many visits as the potential leave nothing waiting
-pub ends : (k : ℕ) (g : Graph) (wf : WellFormedGraph g) (st : Solver) → Invariant g st → potential g st ≤ k → visitTimes k g st .waiting ≡ []
-unfolding visitTimes visitFront potential
-ends zero g wf st inv h = go (st .waiting) refl
-  where
-    go : (l : List ℕ) → st .waiting ≡ l → st .waiting ≡ []
-    go [] e = e
-    go (d ∷ w) e = let n : length (st .waiting) ≡ suc (length w) = ap length e in absurd (omega arith)
-ends (suc k) g wf st inv h = go (st .waiting) refl (λ next. ends k g wf next)
-  where
-    go : (l : List ℕ) → st .waiting ≡ l → ((next : Solver) → Invariant g next → potential g next ≤ k → visitTimes k g next .waiting ≡ [])
-        → visitTimes k g (visitFront g st l) .waiting ≡ []
-    go [] e ih = ap (λ (x : Solver). x .waiting) (stops k g st e) ∙ e
-    go (d ∷ w) e ih = let n = falls g wf st inv d w e in ih (visit g st d w) (visit-keeps g wf st inv d w e) (omega arith)
-
--- the visits done and the potential left are never more than at the start
-pub visits-fall : (k : ℕ) (g : Graph) (wf : WellFormedGraph g) (st : Solver) → Invariant g st
-    → visitTimes k g st .visits + potential g (visitTimes k g st) ≤ st .visits + potential g st
-unfolding visitTimes visitFront visit
-visits-fall zero g wf st inv = le-refl (st .visits + potential g st)
-visits-fall (suc k) g wf st inv = go (st .waiting) refl (λ next. visits-fall k g wf next)
-  where
-    go : (l : List ℕ) → st .waiting ≡ l
-        → ((next : Solver) → Invariant g next → visitTimes k g next .visits + potential g (visitTimes k g next) ≤ next .visits + potential g next)
-        → visitTimes k g (visitFront g st l) .visits + potential g (visitTimes k g (visitFront g st l)) ≤ st .visits + potential g st
-    go [] e ih = ih st inv
-    go (d ∷ w) e ih =
-        let n = falls g wf st inv d w e in
-        let m : visitTimes k g (visit g st d w) .visits + potential g (visitTimes k g (visit g st d w)) ≤ st .visits + 1 + potential g (visit g st d w) =
-        ih (visit g st d w) (visit-keeps g wf st inv d w e) in
-        omega arith
-
-initial-potential : (g : Graph) → potential g (initial g) ≤ visitBound g
+pub initial-potential : (g : Graph) → potential g (initial g) ≤ visitBound g
 unfolding potential initial arcCount
 initial-potential g =
     let n : length (cond (eqb (g .nodes) 0) [] (g .entry ∷ [])) ≤ 1 = first (eqb (g .nodes) 0) in
@@ -203,73 +144,28 @@ initial-potential g =
     first true = omega arith
     first false = omega arith
 
--- Term 1
+-- The course
 
--- after so many visits of the rule: the visits done and the potential left are within the bound
-pub within-bound : (k : ℕ) (g : Graph) → WellFormedGraph g → visitTimes k g (initial g) .visits + potential g (visitTimes k g (initial g)) ≤ visitBound g
-unfolding initial
-within-bound k g wf =
-    let h : visitTimes k g (initial g) .visits + potential g (visitTimes k g (initial g)) ≤ 0 + potential g (initial g) = visits-fall k g wf (initial g) (initial-keeps g wf) in
-    let b = initial-potential g in
+pub course-keeps : {g : Graph} {k : ℕ} {st : Solver} → WellFormedGraph g → Course g k st → Invariant g st
+course-keeps {g} wf begins = initial-keeps g wf
+course-keeps {g} wf (next-visit {d = d} {st = st} {w = w} c e) = visit-keeps g wf st (course-keeps wf c) d w e
+
+-- the visits done and the potential left are within the bound
+pub course-bound : {g : Graph} {k : ℕ} {st : Solver} → WellFormedGraph g → Course g k st → k + potential g st ≤ visitBound g
+course-bound {g} wf begins = let b = initial-potential g in omega arith
+course-bound {g} wf (next-visit {d = d} {st = st} {w = w} c e) =
+    let h = course-bound wf c in
+    let n = falls g wf st (course-keeps wf c) d w e in
     omega arith
 
-pub solved-keeps : (g : Graph) → WellFormedGraph g → Invariant g (solved g)
-unfolding solved
-solved-keeps g wf = times-keep (visitBound g) g wf (initial g) (initial-keeps g wf)
-
--- the queue rule ends
-pub solved-ends : (g : Graph) → WellFormedGraph g → solved g .waiting ≡ []
-unfolding solved
-solved-ends g wf = ends (visitBound g) g wf (initial g) (initial-keeps g wf) (initial-potential g)
-
-pub solved-visits : (g : Graph) → WellFormedGraph g → solved g .visits ≤ visitBound g
-unfolding solved
-solved-visits g wf = let h = within-bound (visitBound g) g wf in omega arith
-
--- wherever nothing waits, the rule has come to its end
-pub stopped : (k : ℕ) (g : Graph) → WellFormedGraph g → visitTimes k g (initial g) .waiting ≡ [] → visitTimes k g (initial g) ≡ solved g
-unfolding solved
-stopped k g wf e =
-    sym (stops (visitBound g) g (visitTimes k g (initial g)) e)
-    ∙ (sym (times-add k (visitBound g) g (initial g))
-    ∙ (ap (λ n. visitTimes n g (initial g)) (add-comm k (visitBound g))
-    ∙ (times-add (visitBound g) k g (initial g)
-    ∙ stops k g (visitTimes (visitBound g) g (initial g)) (solved-ends g wf))))
+-- Term 1
+pub over-bound : {g : Graph} {k : ℕ} {st : Solver} → WellFormedGraph g → Over g k st → k ≤ visitBound g
+over-bound wf o = let h = course-bound wf (o .course) in omega arith
 
 -- with no numbers there are no visits
-pub no-visits : (g : Graph) → g .nodes ≡ 0 → solved g ≡ initial g
-unfolding solved initial
-no-visits g e = stops (visitBound g) g (initial g) (subst (λ b. cond b [] (g .entry ∷ []) ≡ []) (sym (eq-eqb (g .nodes) 0 e)) refl)
-
--- What the rule comes to, for a solver that goes visit by visit
-
--- a state that the rule comes to after so many visits
-pub record RuleState (g : Graph) (st : Solver) : Type 0 where
-  pub times : ℕ
-  pub comes : visitTimes times g (initial g) ≡ st
-
-pub rule-starts : (g : Graph) → RuleState g (initial g)
-unfolding visitTimes
-rule-starts g = record { times = 0; comes = refl }
-
-pub rule-visits : {g : Graph} {st : Solver} {d : ℕ} {w : List ℕ} → RuleState g st → st .waiting ≡ d ∷ w → RuleState g (visit g st d w)
-unfolding visitTimes visitFront
-rule-visits {g} {st} {d} {w} r e = record {
-  times = r .times + 1;
-  comes = times-add (r .times) 1 g (initial g)
-      ∙ (ap (λ (x : Solver). visitFront g x (x .waiting)) (r .comes)
-      ∙ ap (λ (l : List ℕ). visitFront g st l) e);
-}
-
-pub rule-keeps : {g : Graph} {st : Solver} → WellFormedGraph g → RuleState g st → Invariant g st
-rule-keeps {g} wf r = subst (λ (x : Solver). Invariant g x) (r .comes) (times-keep (r .times) g wf (initial g) (initial-keeps g wf))
-
-pub rule-bound : {g : Graph} {st : Solver} → WellFormedGraph g → RuleState g st → st .visits + potential g st ≤ visitBound g
-rule-bound {g} wf r = subst (λ (x : Solver). x .visits + potential g x ≤ visitBound g) (r .comes) (within-bound (r .times) g wf)
-
--- where nothing waits it is what the rule leaves
-pub rule-ends : {g : Graph} {st : Solver} → WellFormedGraph g → RuleState g st → st .waiting ≡ [] → st ≡ solved g
-rule-ends {g} wf r e = sym (r .comes) ∙ stopped (r .times) g wf (ap (λ (x : Solver). x .waiting) (r .comes) ∙ e)
+pub no-visits : (g : Graph) → g .nodes ≡ 0 → Over g 0 (initial g)
+unfolding initial
+no-visits g e = record { course = begins; nothing-waits = subst (λ b. cond b [] (g .entry ∷ []) ≡ []) (sym (eq-eqb (g .nodes) 0 e)) refl }
 
 -- the numbers that wait are no more than the graph has
 pub waiting-length : {g : Graph} {st : Solver} → Invariant g st → length (st .waiting) ≤ g .nodes

@@ -8,34 +8,34 @@ use mathlib.Core.Path.{_≡_, refl, sym, ap}
 use native.Mathlib.Omega.{arith}
 use borrow.Author.Tests.{eq-eqb, ne-eqb}
 use lib.ListN.{length, length-append}
-use Rattle.theory.specs.Lists.{In, has, Distinct, empty, more, sumBelow}
+use Rattle.theory.specs.Lists.{In, elem, Distinct, empty, more, sumBelow}
 use Rattle.theory.specs.Queue.{Arc, join, enqueue}
-use Rattle.theory.proofs.Lists.{member-cases, not-so, has-In, has-not, sumBelow-less, sumBelow-le}
+use Rattle.theory.proofs.Lists.{member-cases, not-so, elem-In, elem-not, sumBelow-less, sumBelow-le}
 use Rattle.theory.proofs.Below.{sumBelow-const}
 
 pub join-keeps : (w : List ℕ) (t : ℕ) {x : ℕ} → In x w → In x (join w t)
-join-keeps w t {x} m = go (has t w)
+join-keeps w t {x} m = go (elem t w)
   where
     go : (b : Bool) → In x (cond b w (w ++ (t ∷ [])))
     go true = m
     go false = Memᴰ·append-left (t ∷ []) m
 
 pub join-adds : (w : List ℕ) (t : ℕ) → In t (join w t)
-join-adds w t = go (has t w) refl
+join-adds w t = go (elem t w) refl
   where
-    go : (b : Bool) → has t w ≡ b → In t (cond b w (w ++ (t ∷ [])))
-    go true e = has-In t w e
+    go : (b : Bool) → elem t w ≡ b → In t (cond b w (w ++ (t ∷ [])))
+    go true e = elem-In t w e
     go false e = Memᴰ·append-right w (List·Memᴰ·head refl)
 
 pub join-cases : (w : List ℕ) (t : ℕ) {x : ℕ} → In x (join w t) → In x w ⊎ (x ≡ t)
-join-cases w t {x} = go (has t w)
+join-cases w t {x} = go (elem t w)
   where
     go : (b : Bool) → In x (cond b w (w ++ (t ∷ []))) → In x w ⊎ (x ≡ t)
     go true m = inl m
     go false m = ⊎-elim (λ n. inl n) (λ n. inr (List·Memᴰ·eq-of-singleton n)) (List·Memᴰ·append-cases w m)
 
 pub join-length : (w : List ℕ) (t : ℕ) → length (join w t) ≤ length w + 1
-join-length w t = go (has t w)
+join-length w t = go (elem t w)
   where
     go : (b : Bool) → length (cond b w (w ++ (t ∷ []))) ≤ length w + 1
     go true = omega arith
@@ -49,11 +49,11 @@ append-distinct (x ∷ xs) t (more f d) h = more fresh (append-distinct xs t d (
     fresh m = ⊎-elim f (λ n. h (List·Memᴰ·head (sym (List·Memᴰ·eq-of-singleton n)))) (List·Memᴰ·append-cases xs m)
 
 pub join-distinct : (w : List ℕ) (t : ℕ) → Distinct w → Distinct (join w t)
-join-distinct w t d = go (has t w) refl
+join-distinct w t d = go (elem t w) refl
   where
-    go : (b : Bool) → has t w ≡ b → Distinct (cond b w (w ++ (t ∷ [])))
+    go : (b : Bool) → elem t w ≡ b → Distinct (cond b w (w ++ (t ∷ [])))
     go true e = d
-    go false e = append-distinct w t d (has-not t w e)
+    go false e = append-distinct w t d (elem-not t w e)
 
 pub enqueue-keeps : (es : List Arc) (w : List ℕ) {x : ℕ} → In x w → In x (enqueue es w)
 unfolding enqueue
@@ -90,21 +90,21 @@ enqueue-distinct (e ∷ es) w d = enqueue-distinct es (join w (e .to)) (join-dis
 -- numbers below n that stand in a list once are at most n
 
 abbrev mark : List ℕ → ℕ → ℕ
-mark l i = cond (has i l) 1 0
+mark l i = cond (elem i l) 1 0
 
 mark-one : (l : List ℕ) (i : ℕ) → mark l i ≤ 1
-mark-one l i = go (has i l)
+mark-one l i = go (elem i l)
   where
     go : (b : Bool) → cond b 1 0 ≤ 1
     go true = omega arith
     go false = omega arith
 
 mark-self : (x : ℕ) (l : List ℕ) → (In x l → ⊥) → mark (x ∷ l) x ≡ mark l x + 1
-unfolding has
-mark-self x l f = rw (eq-eqb x x refl, not-so (has x l) (λ e. f (has-In x l e)))
+unfolding elem
+mark-self x l f = rw (eq-eqb x x refl, not-so (elem x l) (λ e. f (elem-In x l e)))
 
 mark-other : (x : ℕ) (l : List ℕ) (i : ℕ) → (i ≡ x → ⊥) → mark (x ∷ l) i ≡ mark l i
-unfolding has
+unfolding elem
 mark-other x l i n = rw (ne-eqb i x n)
 
 distinct-count : (n : ℕ) (l : List ℕ) → Distinct l → ((x : ℕ) → In x l → x < n) → length l ≤ sumBelow n (mark l)

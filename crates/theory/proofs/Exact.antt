@@ -7,12 +7,12 @@ use mathlib.Core.Path.{_≡_, refl, sym, subst}
 use lib.Dec.{lit<}
 use Rattle.masks.specs.State.{State, holds}
 use Rattle.theory.specs.Lists.{In}
-use Rattle.theory.specs.Queue.{Arc, Graph, Solver, pulled, solved}
+use Rattle.theory.specs.Queue.{Arc, Graph, Solver, pulled, Over}
 use Rattle.theory.specs.Walks.{Turns, Brings, empty, along}
 use Rattle.theory.proofs.MaskLaws.{Within, within-eq, zero-holds, some-held, all-carries}
 use Rattle.theory.proofs.Pulls.{Pulls, boundary, arc, Pulls-holds, holds-Pulls, pulled-lt}
 use Rattle.theory.proofs.Invariant.{WellFormedGraph, Invariant, Due, entry, after, Settled, waits, done}
-use Rattle.theory.proofs.Ends.{solved-keeps, solved-ends}
+use Rattle.theory.proofs.Ends.{course-keeps}
 
 module _ (g : Graph) (st : Solver) (inv : Invariant g st) where
   pub masks-below : (d a : ℕ) → st .masks d a < 8
@@ -73,22 +73,22 @@ module _ (g : Graph) (st : Solver) (inv : Invariant g st) where
 
 -- Term 2
 
-module _ (g : Graph) (wf : WellFormedGraph g) where
-  pub solved-below : (d a : ℕ) → solved g .masks d a < 8
-  solved-below = masks-below g (solved g) (solved-keeps g wf)
+module _ (g : Graph) (wf : WellFormedGraph g) {k : ℕ} {st : Solver} (over : Over g k st) where
+  pub over-below : (d a : ℕ) → st .masks d a < 8
+  over-below = masks-below g st (course-keeps wf (over .course))
 
-  pub solved-unreached : (d a : ℕ) → ((s : State) → Brings g a d s → ⊥) → solved g .masks d a ≡ 0
-  solved-unreached = unreached g (solved g) (solved-keeps g wf)
+  pub over-unreached : (d a : ℕ) → ((s : State) → Brings g a d s → ⊥) → st .masks d a ≡ 0
+  over-unreached = unreached g st (course-keeps wf (over .course))
 
   -- nothing more than walks bring
-  pub solved-brought : (d a : ℕ) (s : State) → holds (solved g .masks d a) s ≡ true → Brings g a d s
-  solved-brought = solved-keeps g wf .held-brought
+  pub over-brought : (d a : ℕ) (s : State) → holds (st .masks d a) s ≡ true → Brings g a d s
+  over-brought = course-keeps wf (over .course) .held-brought
 
   -- and all that they bring
-  pub solved-holds : 0 < g .nodes → {a d : ℕ} {s : State} → a < g .arrays → Brings g a d s → holds (solved g .masks d a) s ≡ true
-  solved-holds some l b = brought-held g (solved g) (solved-keeps g wf) (solved-ends g wf) some l b .1
+  pub over-holds : 0 < g .nodes → {a d : ℕ} {s : State} → a < g .arrays → Brings g a d s → holds (st .masks d a) s ≡ true
+  over-holds some l b = brought-held g st (course-keeps wf (over .course)) (over .nothing-waits) some l b .1
 
   -- the masks are closed under the edges
-  pub solved-closed : {a d : ℕ} {s t : State} {e : Arc} → 0 < g .nodes → a < g .arrays → holds (solved g .masks d a) s ≡ true → In e (g .arcs d)
-      → Turns (e .effects a) s t → holds (solved g .masks (e .to) a) t ≡ true
-  solved-closed {a} {d} {s} some l h m x = solved-holds some l (along (solved-brought d a s h) m x)
+  pub over-closed : {a d : ℕ} {s t : State} {e : Arc} → 0 < g .nodes → a < g .arrays → holds (st .masks d a) s ≡ true → In e (g .arcs d)
+      → Turns (e .effects a) s t → holds (st .masks (e .to) a) t ≡ true
+  over-closed {a} {d} {s} some l h m x = over-holds some l (along (over-brought d a s h) m x)

@@ -10,10 +10,10 @@ use native.Mathlib.Omega.{arith}
 use borrow.Author.Tests.{eqb-true, eqb-false, not-false}
 use lib.Dec.{eqb}
 use Rattle.masks.specs.State.{State, holds}
-use Rattle.theory.specs.Lists.{In, has, Distinct, more}
+use Rattle.theory.specs.Lists.{In, elem, Distinct, more}
 use Rattle.theory.specs.Queue.{Arc, Graph, Solver, stepAll, pulled, changed, enqueue, visit, initial}
 use Rattle.theory.specs.Walks.{Brings, empty, along}
-use Rattle.theory.proofs.Lists.{clash, member-cases, has-In, has-not}
+use Rattle.theory.proofs.Lists.{clash, member-cases, elem-In, elem-not}
 use Rattle.theory.proofs.MaskLaws.{Within, Proper, zero-holds, held-pos, some-held, all-proper, all-comes, all-mono}
 use Rattle.theory.proofs.Pulls.{upd-same, upd-other, Pulls, boundary, arc, Pulls-holds, holds-Pulls, pulled-lt}
 use Rattle.theory.proofs.Below.{allBelow-at}
@@ -313,14 +313,14 @@ module _ (g : Graph) (wf : WellFormedGraph g) (st : Solver) (inv : Invariant g s
       second false e = e
 
   settled-kept : 0 < g .nodes → (t : ℕ) → Due g next t → Settled g next t
-  settled-kept z t x = go grew refl (has t (next .waiting)) refl
+  settled-kept z t x = go grew refl (elem t (next .waiting)) refl
     where
       -- where t does not wait, no edge of d goes to it
-      away : grew ≡ true → has t (next .waiting) ≡ false → (e : Arc) → In e (g .arcs d) → e .to ≡ t → ⊥
-      away b n e m q = has-not t (next .waiting) n (subst (λ (y : ℕ). In y (next .waiting)) q (targets-wait b e m))
+      away : grew ≡ true → elem t (next .waiting) ≡ false → (e : Arc) → In e (g .arcs d) → e .to ≡ t → ⊥
+      away b n e m q = elem-not t (next .waiting) n (subst (λ (y : ℕ). In y (next .waiting)) q (targets-wait b e m))
 
-      go : (b : Bool) → grew ≡ b → (c : Bool) → has t (next .waiting) ≡ c → Settled g next t
-      go true b true n = waits (has-In t (next .waiting) n)
+      go : (b : Bool) → grew ≡ b → (c : Bool) → elem t (next .waiting) ≡ c → Settled g next t
+      go true b true n = waits (elem-In t (next .waiting) n)
       go true b false n =
           settled-by t (λ a s l x. pulls-cases x (λ y. y) (λ e m q h. absurd (away b n e m q)))
           (inv .due-settled z t (due-back t (λ e m q. absurd (away b n e m q)) x))

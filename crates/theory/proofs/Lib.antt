@@ -1,7 +1,7 @@
 pub mod Lists
 pub mod Reach
 pub mod Body
-pub mod Clear
+pub mod Transparent
 pub mod Live
 pub mod Names
 pub mod Cases
@@ -11,6 +11,7 @@ pub mod Below
 pub mod Enqueue
 pub mod Invariant
 pub mod Ends
+pub mod Computed
 pub mod Exact
 pub mod Push
 pub mod Edges
@@ -19,3 +20,4 @@ pub mod Runs
 pub mod Term3
 pub mod Terms
 pub mod RunCases
+pub mod Listing

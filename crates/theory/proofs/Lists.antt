@@ -10,7 +10,7 @@ use native.Mathlib.Omega.{arith}
 use lib.Dec.{eqb}
 use lib.ListN.{length, getD, length-append}
 use borrow.Author.Tests.{eqb-true, eqb-false, eq-eqb, ne-eqb}
-use Rattle.theory.specs.Lists.{In, any, has, select, concatMap, optionList, upTo, sumBelow}
+use Rattle.theory.specs.Lists.{In, any, elem, select, concatMap, optionList, upTo, sumBelow}
 
 -- Tests
 
@@ -103,39 +103,39 @@ any-append p (x ∷ xs) ys = ap (λ (t : Bool). p x || t) (any-append p xs ys) �
 -- has
 
 -- membership is such a test
-pub has-any : (x : ℕ) (l : List ℕ) → any (eqb x) l ≡ has x l
-unfolding any has
-has-any x [] = refl
-has-any x (y ∷ l) = ap (λ b. eqb x y || b) (has-any x l)
+pub elem-any : (x : ℕ) (l : List ℕ) → any (eqb x) l ≡ elem x l
+unfolding any elem
+elem-any x [] = refl
+elem-any x (y ∷ l) = ap (λ b. eqb x y || b) (elem-any x l)
 
-pub In-has : {x : ℕ} {l : List ℕ} → In x l → has x l ≡ true
-unfolding has
-In-has {x} (List·Memᴰ·head {x = y} {xs = ys} e) = or-left (eqb x y) (has x ys) (eq-eqb x y e)
-In-has {x} (List·Memᴰ·tail {x = y} {xs = ys} m) = or-right (eqb x y) (has x ys) (In-has m)
+pub In-elem : {x : ℕ} {l : List ℕ} → In x l → elem x l ≡ true
+unfolding elem
+In-elem {x} (List·Memᴰ·head {x = y} {xs = ys} e) = or-left (eqb x y) (elem x ys) (eq-eqb x y e)
+In-elem {x} (List·Memᴰ·tail {x = y} {xs = ys} m) = or-right (eqb x y) (elem x ys) (In-elem m)
 
-pub has-In : (x : ℕ) (l : List ℕ) → has x l ≡ true → In x l
-unfolding has
-has-In x [] h = clash false h refl
-has-In x (y ∷ ys) h =
-    ⊎-elim (λ e. List·Memᴰ·head (eqb-true x y e)) (λ e. List·Memᴰ·tail (has-In x ys e)) (or-cases (eqb x y) (has x ys) h)
+pub elem-In : (x : ℕ) (l : List ℕ) → elem x l ≡ true → In x l
+unfolding elem
+elem-In x [] h = clash false h refl
+elem-In x (y ∷ ys) h =
+    ⊎-elim (λ e. List·Memᴰ·head (eqb-true x y e)) (λ e. List·Memᴰ·tail (elem-In x ys e)) (or-cases (eqb x y) (elem x ys) h)
 
-pub has-not : (x : ℕ) (l : List ℕ) → has x l ≡ false → In x l → ⊥
-has-not x l h m = clash (has x l) (In-has m) h
+pub elem-not : (x : ℕ) (l : List ℕ) → elem x l ≡ false → In x l → ⊥
+elem-not x l h m = clash (elem x l) (In-elem m) h
 
-pub has-append : (j : ℕ) (xs ys : List ℕ) → has j (xs ++ ys) ≡ (has j xs || has j ys)
-has-append j xs ys = sym (has-any j (xs ++ ys)) ∙ any-append (eqb j) xs ys ∙ ap (λ (t : Bool). t || any (eqb j) ys) (has-any j xs) ∙ ap (λ (t : Bool). has j xs || t) (has-any j ys)
+pub elem-append : (j : ℕ) (xs ys : List ℕ) → elem j (xs ++ ys) ≡ (elem j xs || elem j ys)
+elem-append j xs ys = sym (elem-any j (xs ++ ys)) ∙ any-append (eqb j) xs ys ∙ ap (λ (t : Bool). t || any (eqb j) ys) (elem-any j xs) ∙ ap (λ (t : Bool). elem j xs || t) (elem-any j ys)
 
 -- one more element at the end
 
-pub has-one-more : (l : List ℕ) (x y : ℕ) → has y (l ++ (x ∷ [])) ≡ (has y l || eqb y x)
-unfolding has
-has-one-more l x y = has-append y l (x ∷ []) ∙ ap (λ (t : Bool). has y l || t) (or-false (eqb y x))
+pub elem-one-more : (l : List ℕ) (x y : ℕ) → elem y (l ++ (x ∷ [])) ≡ (elem y l || eqb y x)
+unfolding elem
+elem-one-more l x y = elem-append y l (x ∷ []) ∙ ap (λ (t : Bool). elem y l || t) (or-false (eqb y x))
 
-pub has-last : (l : List ℕ) (x : ℕ) → has x (l ++ (x ∷ [])) ≡ true
-has-last l x = has-one-more l x x ∙ or-right (has x l) (eqb x x) (eq-eqb x x refl)
+pub elem-last : (l : List ℕ) (x : ℕ) → elem x (l ++ (x ∷ [])) ≡ true
+elem-last l x = elem-one-more l x x ∙ or-right (elem x l) (eqb x x) (eq-eqb x x refl)
 
-pub has-before : (l : List ℕ) {x y : ℕ} → (y ≡ x → ⊥) → has y (l ++ (x ∷ [])) ≡ has y l
-has-before l {x} {y} d = has-one-more l x y ∙ rw (ne-eqb y x d) (or-false (has y l))
+pub elem-before : (l : List ℕ) {x y : ℕ} → (y ≡ x → ⊥) → elem y (l ++ (x ∷ [])) ≡ elem y l
+elem-before l {x} {y} d = elem-one-more l x y ∙ rw (ne-eqb y x d) (or-false (elem y l))
 
 -- select
 

@@ -9,10 +9,10 @@ use native.Mathlib.Nat.{zero-div}
 use native.Mathlib.Omega.{arith}
 use borrow.Author.Tests.{not-true}
 use Rattle.flow.specs.Flow.{Flow, Kind, size}
-use Rattle.theory.specs.Lists.{In, any, has, sumBelow}
+use Rattle.theory.specs.Lists.{In, any, elem, sumBelow}
 use Rattle.theory.specs.Reach.{Reach, closure, closureFuel, reached}
 use Rattle.theory.specs.Body.{successors}
-use Rattle.theory.specs.WellFormed.{WellFormed}
+use Rattle.theory.specs.contracts.WellFormed.{WellFormed}
 use Rattle.theory.specs.Live.{reads, writes, LiveIn, LiveOut, unwritten, liveIn, liveOut, Equations}
 use Rattle.theory.proofs.Lists.{or-cases, or-left, or-right, and-both, and-true, same-test, any-In, any-find}
 use Rattle.theory.proofs.Reach.{reach-first, reach-back, reached-sound, reached-complete}
@@ -108,7 +108,7 @@ selfLoop = record {
 }
 
 pub not-live : liveIn selfLoop 0 0 ≡ false
-unfolding liveIn unwritten any has sumBelow closure closureFuel reached
+unfolding liveIn unwritten any elem sumBelow closure closureFuel reached
 not-live = refl
 
 pub another-solution : Equations selfLoop (λ x i. true) (λ x i. true)

@@ -9,7 +9,7 @@ use borrow.Author.Tests.{eqb-true, eq-eqb, not-false}
 use lib.Bits.{bitOr, or-lt, or-zero-r}
 use lib.Dec.{eqb}
 use Rattle.masks.specs.State.{State, holds}
-use Rattle.theory.specs.Lists.{allBelow}
+use Rattle.theory.specs.Lists.{differ}
 use Rattle.theory.specs.Queue.{Graph, Solver, stepAll, brings, unionBelow, pulled, changed, visit, initial}
 use Rattle.theory.proofs.Lists.{clash}
 use Rattle.theory.proofs.Below.{allBelow-at, allBelow-all}
@@ -28,10 +28,6 @@ pub pulled-first : (g : Graph) (t a : ℕ) → pulled g (initial g) t a ≡ cond
 unfolding pulled initial
 pulled-first g t a =
     ap (bitOr (cond (eqb t (g .entry)) (g .boundary a) 0)) (empty-union (g .nodes)) ∙ or-zero-r (cond (eqb t (g .entry)) (g .boundary a) 0)
-
--- two numbers' masks differ at some array
-abbrev pub differ : ℕ → (ℕ → ℕ) → (ℕ → ℕ) → Bool
-differ n x y = not (allBelow n (λ a. eqb (x a) (y a)))
 
 pub alike : (n : ℕ) (x y : ℕ → ℕ) → differ n x y ≡ false → (a : ℕ) → a < n → x a ≡ y a
 alike n x y h a l = eqb-true (x a) (y a) (allBelow-at n (λ a. eqb (x a) (y a)) (not-false _ h) a l)

@@ -8,9 +8,9 @@ use mathlib.Core.Path.{_≡_, refl, sym, subst}
 use native.Mathlib.Omega.{arith}
 use lib.ListN.{length, length-append}
 use borrow.Author.Tests.{eq-eqb, ne-eqb}
-use Rattle.theory.specs.Lists.{In, has, sumBelow}
+use Rattle.theory.specs.Lists.{In, elem, sumBelow}
 use Rattle.theory.specs.Reach.{Reach, closure, closureFuel, reached}
-use Rattle.theory.proofs.Lists.{has-In, member-cases, sumBelow-less}
+use Rattle.theory.proofs.Lists.{elem-In, member-cases, sumBelow-less}
 
 -- Walks
 
@@ -32,11 +32,11 @@ reach-back P step (Reach.on {i = i} {j = j} r m) p = reach-back P step r (step i
 
 -- The two cases of the closure
 
-closure-seen : (fuel : ℕ) (next : ℕ → List ℕ) (seen : List ℕ) (x : ℕ) (todo : List ℕ) → has x seen ≡ true → closure (suc fuel) next seen (x ∷ todo) ≡ closure fuel next seen todo
+closure-seen : (fuel : ℕ) (next : ℕ → List ℕ) (seen : List ℕ) (x : ℕ) (todo : List ℕ) → elem x seen ≡ true → closure (suc fuel) next seen (x ∷ todo) ≡ closure fuel next seen todo
 unfolding closure
 closure-seen fuel next seen x todo e = rw (e, closure) refl
 
-closure-new : (fuel : ℕ) (next : ℕ → List ℕ) (seen : List ℕ) (x : ℕ) (todo : List ℕ) → has x seen ≡ false → closure (suc fuel) next seen (x ∷ todo) ≡ closure fuel next (x ∷ seen) (next x ++ todo)
+closure-new : (fuel : ℕ) (next : ℕ → List ℕ) (seen : List ℕ) (x : ℕ) (todo : List ℕ) → elem x seen ≡ false → closure (suc fuel) next seen (x ∷ todo) ≡ closure fuel next (x ∷ seen) (next x ++ todo)
 unfolding closure
 closure-new fuel next seen x todo e = rw (e, closure) refl
 
@@ -48,9 +48,9 @@ module _ (next : ℕ → List ℕ) (e : ℕ) where
   unfolding closure
   closure-sound zero seen todo hs ht i m = hs i m
   closure-sound (suc fuel) seen [] hs ht i m = hs i m
-  closure-sound (suc fuel) seen (x ∷ todo) hs ht i m = go (has x seen) refl (closure-sound fuel)
+  closure-sound (suc fuel) seen (x ∷ todo) hs ht i m = go (elem x seen) refl (closure-sound fuel)
     where
-      go : (b : Bool) → has x seen ≡ b
+      go : (b : Bool) → elem x seen ≡ b
           → ((seen′ todo′ : List ℕ) → ((i : ℕ) → In i seen′ → Reach next e i) → ((i : ℕ) → In i todo′ → Reach next e i) → (i : ℕ) → In i (closure fuel next seen′ todo′) → Reach next e i)
           → Reach next e i
       go true q ih = ih seen todo hs (λ j n. ht j (List·Memᴰ·tail n)) i (subst (λ c. In i c) (closure-seen fuel next seen x todo q) m)
@@ -72,12 +72,12 @@ reached-sound next n e {i} m =
 
 -- the lengths of the next lists that are still to be pushed
 unfoldable unpushed : ℕ → (ℕ → List ℕ) → List ℕ → ℕ
-unpushed n next seen = sumBelow n (λ i. cond (has i seen) 0 (length (next i)))
+unpushed n next seen = sumBelow n (λ i. cond (elem i seen) 0 (length (next i)))
 
-unpushed-new : (n : ℕ) (next : ℕ → List ℕ) (seen : List ℕ) (x : ℕ) → x < n → has x seen ≡ false → unpushed n next seen ≡ unpushed n next (x ∷ seen) + length (next x)
-unfolding unpushed has
+unpushed-new : (n : ℕ) (next : ℕ → List ℕ) (seen : List ℕ) (x : ℕ) → x < n → elem x seen ≡ false → unpushed n next seen ≡ unpushed n next (x ∷ seen) + length (next x)
+unfolding unpushed elem
 unpushed-new n next seen x l e =
-    sumBelow-less n (λ i. cond (has i seen) 0 (length (next i))) (λ i. cond (has i (x ∷ seen)) 0 (length (next i))) x (length (next x)) l
+    sumBelow-less n (λ i. cond (elem i seen) 0 (length (next i))) (λ i. cond (elem i (x ∷ seen)) 0 (length (next i))) x (length (next x)) l
     (λ i d. rw (ne-eqb i x d) refl)
     (rw (e, eq-eqb x x refl) (omega arith))
 
@@ -97,18 +97,18 @@ module _ (n : ℕ) (next : ℕ → List ℕ) (stays : (i j : ℕ) → In j (next
     takes = λ i m. absurd (List·Memᴰ·not-nil m);
     closed = λ h i j m k. ⊎-elim (λ p. p) (λ p. absurd (List·Memᴰ·not-nil p)) (h i j m k);
   }
-  closure-complete (suc fuel) seen (x ∷ todo) ht l = go (has x seen) refl (closure-complete fuel)
+  closure-complete (suc fuel) seen (x ∷ todo) ht l = go (elem x seen) refl (closure-complete fuel)
     where
       Closes : List ℕ → List ℕ → Type 0
       Closes seen′ todo′ = Closure next seen′ todo′ (closure fuel next seen′ todo′)
 
       -- x was seen: it is in the closure because all that was seen is
-      again : has x seen ≡ true → Closes seen todo → Closure next seen (x ∷ todo) (closure fuel next seen todo)
+      again : elem x seen ≡ true → Closes seen todo → Closure next seen (x ∷ todo) (closure fuel next seen todo)
       again q r = record {
         keeps = r .keeps;
-        takes = λ i m. member-cases m (λ p. r .keeps i (Memᴰ·cast p (has-In x seen q))) (r .takes i);
+        takes = λ i m. member-cases m (λ p. r .keeps i (Memᴰ·cast p (elem-In x seen q))) (r .takes i);
         closed = λ h.
-            r .closed (λ i j m k. ⊎-elim inl (λ p. member-cases p (λ p′. inl (Memᴰ·cast p′ (has-In x seen q))) inr) (h i j m k));
+            r .closed (λ i j m k. ⊎-elim inl (λ p. member-cases p (λ p′. inl (Memᴰ·cast p′ (elem-In x seen q))) inr) (h i j m k));
       }
 
       new : Closes (x ∷ seen) (next x ++ todo) → Closure next seen (x ∷ todo) (closure fuel next (x ∷ seen) (next x ++ todo))
@@ -120,7 +120,7 @@ module _ (n : ℕ) (next : ℕ → List ℕ) (stays : (i j : ℕ) → In j (next
             r .closed (λ i j m k. member-cases m (λ p. inr (Memᴰ·append-left todo (subst (λ z. In j (next z)) p k))) (λ p. ⊎-elim (λ p′. inl (List·Memᴰ·tail p′)) (λ p′. member-cases p′ (λ p″. inl (List·Memᴰ·head p″)) (λ p″. inr (Memᴰ·append-right (next x) p″))) (h i j p k)));
       }
 
-      go : (b : Bool) → has x seen ≡ b
+      go : (b : Bool) → elem x seen ≡ b
           → ((seen′ todo′ : List ℕ) → ((i : ℕ) → In i todo′ → i < n) → length todo′ + unpushed n next seen′ < fuel → Closes seen′ todo′)
           → Closure next seen (x ∷ todo) (closure (suc fuel) next seen (x ∷ todo))
       go true q ih =
@@ -132,7 +132,7 @@ module _ (n : ℕ) (next : ℕ → List ℕ) (stays : (i j : ℕ) → In j (next
           (omega (arith, length-append (next x) todo, unpushed-new n next seen x (ht x (List·Memᴰ·head refl)) q))))
 
   reached-closure : (e : ℕ) → e < n → Closure next [] (e ∷ []) (reached next n e)
-  unfolding reached closureFuel unpushed has
+  unfolding reached closureFuel unpushed elem
   reached-closure e l =
       closure-complete (closureFuel n next) [] (e ∷ []) (λ i m. rw (List·Memᴰ·eq-of-singleton m) l) (omega arith)
 

@@ -6,12 +6,14 @@ use mathlib.Core.List.{List, [], _∷_, List·Memᴰ·head}
 use mathlib.Core.Option.{Option, none, some}
 use mathlib.Core.Path.{_≡_, refl, sym, ap, _∙_}
 use Rattle.masks.specs.State.{State}
+use Rattle.flow.specs.declared.Base.{Base}
+use Rattle.flow.specs.declared.Base.the-variants.{Zero, N}
 use Rattle.flow.specs.Flow.{Flow, Kind, size}
 use Rattle.theory.specs.Lists.{In}
 use Rattle.theory.specs.Reach.{Reach}
 use Rattle.theory.specs.Body.{kind, successors, continuationOf, entered, callees, isReturn, wipes, walkNext, Walks, Calls, Opaque, OpaqueCall, CallTouches, opaqueCall}
-use Rattle.theory.specs.WellFormed.{WellFormed}
-use Rattle.theory.specs.Doubled.{Base, Node, Edge, at, sameNode, edges, statementEffects, edgeEffects}
+use Rattle.theory.specs.contracts.WellFormed.{WellFormed}
+use Rattle.theory.specs.Doubled.{Node, Edge, at, sameNode, edges, statementEffects, edgeEffects}
 use Rattle.theory.specs.Walks.{Turns}
 use Rattle.theory.specs.Runs.{Frame, back, end, frameOf, Config, act, goesOn, empties, Move, Run, Listed}
 use Rattle.theory.proofs.Edges.{callEdge, node-same, listed-edge, opaque-edge, entered-edge, continuation-edge, return-edge, statement-of}
@@ -24,7 +26,7 @@ Table = Node → ℕ → State → Type 0
 
 -- it holds NONE of every array at the entry and follows every edge
 pub record Closed (f : Flow) (T : Table) : Type 0 where
-  pub entry : 0 < size f → (a : ℕ) → T (at Base.zero (f .entry)) a State.none
+  pub entry : 0 < size f → (a : ℕ) → T (at Zero (f .entry)) a State.none
   pub edge : (v : Node) (x : Edge) (a : ℕ) (s t : State) → T v a s → In x (edges f v) → Turns (edgeEffects f (v .stmt) x a) s t → T (x .to) a t
 
 -- in base 0 a frame that returns was pushed by an opaque call that enters a body on whose walk the run is
@@ -37,10 +39,10 @@ pub data Level (f : Flow) : ℕ → List Frame → Type 0 where
 -- outer: in base 0. last: in base n, in a body that is not opaque, over "end". inner: in base n, in a body that is not opaque, over the frame of the call that
 -- entered it; the invariant holds of that call
 pub data Invariant (f : Flow) (T : Table) : ℕ → (ℕ → State) → List Frame → Type 0 where
-  outer : {i : ℕ} {s : ℕ → State} {k : List Frame} → ((a : ℕ) → T (at Base.zero i) a (s a)) → Level f i k → Invariant f T i s k
-  last : {i e : ℕ} {s : ℕ → State} {k : List Frame} → ((a : ℕ) → T (at Base.n i) a (s a)) → Walks f e i → (Opaque f e → ⊥)
+  outer : {i : ℕ} {s : ℕ → State} {k : List Frame} → ((a : ℕ) → T (at Zero i) a (s a)) → Level f i k → Invariant f T i s k
+  last : {i e : ℕ} {s : ℕ → State} {k : List Frame} → ((a : ℕ) → T (at N i) a (s a)) → Walks f e i → (Opaque f e → ⊥)
       → Invariant f T i s (end ∷ k)
-  inner : {i e c j : ℕ} {s t : ℕ → State} {k : List Frame} → ((a : ℕ) → T (at Base.n i) a (s a)) → Walks f e i → (Opaque f e → ⊥)
+  inner : {i e c j : ℕ} {s t : ℕ → State} {k : List Frame} → ((a : ℕ) → T (at N i) a (s a)) → Walks f e i → (Opaque f e → ⊥)
       → continuationOf (kind f c) ≡ some j → opaqueCall f c ≡ false → In e (callees f c) → Invariant f T c t k
       → ((a : ℕ) → Kept f e a (act f c t a) (s a)) → Invariant f T i s (back j ∷ k)
 
@@ -49,9 +51,9 @@ abbrev pub Found : Table → ℕ → (ℕ → State) → Type 0
 Found T i s = (b : Base) × ((a : ℕ) → T (at b i) a (s a))
 
 pub found : {f : Flow} {T : Table} {i : ℕ} {s : ℕ → State} {k : List Frame} → Invariant f T i s k → Found T i s
-found (Invariant.outer t l) = (Base.zero, t)
-found (Invariant.last t w o) = (Base.n, t)
-found (Invariant.inner t w o c q m v r) = (Base.n, t)
+found (Invariant.outer t l) = (Zero, t)
+found (Invariant.last t w o) = (N, t)
+found (Invariant.inner t w o c q m v r) = (N, t)
 
 -- classes of kinds
 
@@ -65,18 +67,18 @@ calls-on (Kind.gosub l e) c = refl
 calls-on (Kind.onGosub ls e) c = refl
 
 -- kinds that go on to their listed successors, in the doubled graph and on a body walk
-pub record Listing (k : Kind) : Type 0 where
+pub record BySuccessors (k : Kind) : Type 0 where
   pub alone : continuationOf k ≡ none
   pub moves : isReturn k ≡ false
 
-listing : (k : Kind) → (goesOn k || empties k) ≡ true → Listing k
-listing Kind.other h = record { alone = refl; moves = refl }
-listing Kind.return h = record { alone = refl; moves = cc }
-listing Kind.clr h = record { alone = refl; moves = refl }
-listing Kind.run h = record { alone = refl; moves = refl }
-listing (Kind.dim items) h = record { alone = refl; moves = refl }
-listing (Kind.gosub l c) h = record { alone = cc; moves = refl }
-listing (Kind.onGosub ls c) h = record { alone = cc; moves = refl }
+by-successors : (k : Kind) → (goesOn k || empties k) ≡ true → BySuccessors k
+by-successors Kind.other h = record { alone = refl; moves = refl }
+by-successors Kind.return h = record { alone = refl; moves = cc }
+by-successors Kind.clr h = record { alone = refl; moves = refl }
+by-successors Kind.run h = record { alone = refl; moves = refl }
+by-successors (Kind.dim items) h = record { alone = refl; moves = refl }
+by-successors (Kind.gosub l c) h = record { alone = cc; moves = refl }
+by-successors (Kind.onGosub ls c) h = record { alone = cc; moves = refl }
 
 empties-wipes : (k : Kind) → empties k ≡ true → wipes k ≡ true
 empties-wipes Kind.other h = cc
@@ -120,26 +122,26 @@ module _ (f : Flow) (T : Table) (wf : WellFormed f) (listed : Listed f) (closed 
   -- an ordinary move, which stays on the body's walk: it has an edge in either base
   goes : {i j : ℕ} {s : ℕ → State} {k : List Frame} → ((b : Base) → (c : Bool) × In (record { to = at b j; continues = c }) (edges f (at b i)))
       → In j (walkNext f i) → Invariant f T i s k → Invariant f T j (act f i s) k
-  goes {i} x w (Invariant.outer t l) = Invariant.outer (along Base.zero i _ t (x Base.zero .1)) (level-on l w)
-  goes {i} x w (Invariant.last t v o) = Invariant.last (along Base.n i _ t (x Base.n .1)) (Reach.on v w) o
+  goes {i} x w (Invariant.outer t l) = Invariant.outer (along Zero i _ t (x Zero .1)) (level-on l w)
+  goes {i} x w (Invariant.last t v o) = Invariant.last (along N i _ t (x N .1)) (Reach.on v w) o
   goes {i} {s = s} x w (Invariant.inner t v o c q m call r) =
-      Invariant.inner (along Base.n i _ t (x Base.n .1)) (Reach.on v w) o c q m call
+      Invariant.inner (along N i _ t (x N .1)) (Reach.on v w) o c q m call
       (λ a. kept-then (r a) (act-kept f i a s v (not-wiping v o)))
 
   -- a move to a listed successor of a statement that is neither RETURN nor a call with a continuation
-  listed-move : {i j : ℕ} {s : ℕ → State} {k : List Frame} → Listing (kind f i) → In j (successors f i) → Invariant f T i s k → Invariant f T j (act f i s) k
+  listed-move : {i j : ℕ} {s : ℕ → State} {k : List Frame} → BySuccessors (kind f i) → In j (successors f i) → Invariant f T i s k → Invariant f T j (act f i s) k
   listed-move {i} g m = goes (λ b. (false, listed-edge f b i (g .alone) (g .moves) m)) (walk-listed f i (g .alone) (g .moves) m)
 
   -- CLR and RUN empty the stack, and no body that is not opaque meets them
-  clear-move : {i j : ℕ} {s : ℕ → State} {k : List Frame} → empties (kind f i) ≡ true → In j (successors f i) → Invariant f T i s k → Invariant f T j (act f i s) []
-  clear-move {i} h m (Invariant.outer t l) =
-      let g = listing (kind f i) (rw (h, or-true)) in
-      Invariant.outer (along Base.zero i _ t (listed-edge f Base.zero i (g .alone) (g .moves) m)) Level.bottom
-  clear-move {i} h m (Invariant.last t w o) = absurd (o (Opaque.own w (empties-wipes (kind f i) h)))
-  clear-move {i} h m (Invariant.inner t w o c q b call r) = absurd (o (Opaque.own w (empties-wipes (kind f i) h)))
+  reset-move : {i j : ℕ} {s : ℕ → State} {k : List Frame} → empties (kind f i) ≡ true → In j (successors f i) → Invariant f T i s k → Invariant f T j (act f i s) []
+  reset-move {i} h m (Invariant.outer t l) =
+      let g = by-successors (kind f i) (rw (h, or-true)) in
+      Invariant.outer (along Zero i _ t (listed-edge f Zero i (g .alone) (g .moves) m)) Level.bottom
+  reset-move {i} h m (Invariant.last t w o) = absurd (o (Opaque.own w (empties-wipes (kind f i) h)))
+  reset-move {i} h m (Invariant.inner t w o c q b call r) = absurd (o (Opaque.own w (empties-wipes (kind f i) h)))
 
   -- a call without a continuation goes by a listed successor and pushes "end"
-  enter-ending : {i e : ℕ} {s : ℕ → State} {k : List Frame} → Listing (kind f i) → In e (entered f i) → Invariant f T i s k
+  enter-ending : {i e : ℕ} {s : ℕ → State} {k : List Frame} → BySuccessors (kind f i) → In e (entered f i) → Invariant f T i s k
       → Invariant f T e (act f i s) (end ∷ k)
   enter-ending {i} {e} g m inv = go (listed-move g (listed .enters i e m) inv)
     where
@@ -156,7 +158,7 @@ module _ (f : Flow) (T : Table) (wf : WellFormed f) (listed : Listed f) (closed 
   enter-opaque : {i e j : ℕ} {s : ℕ → State} {k : List Frame} → continuationOf (kind f i) ≡ some j → opaqueCall f i ≡ true → In e (entered f i)
       → Invariant f T i s k → Invariant f T e (act f i s) (back j ∷ k)
   enter-opaque {i} {e} c q m (Invariant.outer t l) =
-      Invariant.outer (along Base.zero i _ t (opaque-edge f Base.zero i c q (listed .enters i e m)))
+      Invariant.outer (along Zero i _ t (opaque-edge f Zero i c q (listed .enters i e m)))
       (Level.called c q (entered-callee f i c m) Reach.here l)
   enter-opaque {i} c q m (Invariant.last t w o) = absurd (no-opaque-call w o (opaqueCall-sound f i q))
   enter-opaque {i} c q m (Invariant.inner t w o d p b call r) = absurd (no-opaque-call w o (opaqueCall-sound f i q))
@@ -201,16 +203,16 @@ module _ (f : Flow) (T : Table) (wf : WellFormed f) (listed : Listed f) (closed 
         (turns-becomeAll (statementEffects f c a) (t a)) (r a))
 
     resumed : {k : List Frame} → Invariant f T c t k → Invariant f T j s k
-    resumed (Invariant.outer u l) = Invariant.outer (brought Base.zero u) (level-on l (walk-continuation f c h))
-    resumed (Invariant.last u w o) = Invariant.last (brought Base.n u) (Reach.on w (walk-continuation f c h)) o
+    resumed (Invariant.outer u l) = Invariant.outer (brought Zero u) (level-on l (walk-continuation f c h))
+    resumed (Invariant.last u w o) = Invariant.last (brought N u) (Reach.on w (walk-continuation f c h)) o
     resumed (Invariant.inner u w o d p b call v) =
-        Invariant.inner (brought Base.n u) (Reach.on w (walk-continuation f c h)) o d p b call
+        Invariant.inner (brought N u) (Reach.on w (walk-continuation f c h)) o d p b call
         (λ a. kept-then (v a) (kept-then (act-kept f c a t w (not-wiping w o)) (kept-nested (Calls.calls w m) (r a))))
 
   return-move : {i j : ℕ} {s : ℕ → State} {k : List Frame} → kind f i ≡ Kind.return → Invariant f T i s (back j ∷ k) → Invariant f T j (act f i s) k
   return-move {i} {j} h (Invariant.outer t (Level.called {c = c} {e = e} d q m w l)) =
       Invariant.outer
-      (along Base.zero i _ t
+      (along Zero i _ t
       (return-edge f i (ap continuationOf h) (ap isReturn h) (statement-of f c d) (wf .continuation c j d) d q m
       (walked-complete wf (callees-below wf c e m) w)))
       (level-on l (walk-continuation f c d))
@@ -218,8 +220,8 @@ module _ (f : Flow) (T : Table) (wf : WellFormed f) (listed : Listed f) (closed 
       resumed d q m (λ a. kept-then (r a) (act-kept f i a s w (not-wiping w o))) call
 
   moved : {x y : Config} → Move f x y → Invariant f T (x .stmt) (x .states) (x .stack) → Invariant f T (y .stmt) (y .states) (y .stack)
-  moved (Move.next {i = i} h m) inv = listed-move (listing (kind f i) (rw h)) m inv
-  moved (Move.clear h m) inv = clear-move h m inv
+  moved (Move.next {i = i} h m) inv = listed-move (by-successors (kind f i) (rw h)) m inv
+  moved (Move.reset h m) inv = reset-move h m inv
   moved (Move.gosub {c = c} h m) inv = call-move c (ap continuationOf h) (ap isReturn h) m inv
   moved (Move.on-gosub {c = c} h m) inv = call-move c (ap continuationOf h) (ap isReturn h) m inv
   moved (Move.skip h) inv = skip-move h inv

@@ -9,12 +9,14 @@ use native.Mathlib.Nat.{zero-add}
 use native.Mathlib.Omega.{arith}
 use borrow.Author.Tests.{lt-ltb, le-ltb}
 use Rattle.masks.specs.State.{State, holds}
+use Rattle.flow.specs.declared.Base.{Base}
+use Rattle.flow.specs.declared.Base.the-variants.{Zero, N}
 use Rattle.flow.specs.Flow.{Flow, size}
 use Rattle.theory.specs.Lists.{In}
-use Rattle.theory.specs.WellFormed.{WellFormed}
+use Rattle.theory.specs.contracts.WellFormed.{WellFormed}
 use Rattle.theory.specs.Queue.{Arc, Graph}
 use Rattle.theory.specs.Walks.{Turns, Brings}
-use Rattle.theory.specs.Doubled.{Base, Node, Edge, at, number, node, edges, edgeEffects, boundary, arcsOf, doubled}
+use Rattle.theory.specs.Doubled.{Node, Edge, at, number, node, edges, edgeEffects, boundary, arcsOf, doubled}
 use Rattle.theory.specs.Runs.{Config, Run, Listed}
 use Rattle.theory.proofs.MaskLaws.{or-holds-left, or-holds-right}
 use Rattle.theory.proofs.Edges.{edge-below}
@@ -25,8 +27,8 @@ pub node-number : (f : Flow) (v : Node) → v .stmt < size f → node f (number 
 node-number f v h = go (v .base) (v .stmt) h
   where
     go : (b : Base) (i : ℕ) → i < size f → node f (number f (at b i)) ≡ at b i
-    go Base.zero i h = rw (zero-add i, lt-ltb i (size f) h)
-    go Base.n i h =
+    go Zero i h = rw (zero-add i, lt-ltb i (size f) h)
+    go N i h =
         let e : size f + i - size f ≡ i = omega arith in
         let above : size f ≤ size f + i = omega arith in
         rw (le-ltb (size f + i) (size f) above, e)
@@ -35,8 +37,8 @@ pub number-below : (f : Flow) (v : Node) → v .stmt < size f → number f v < s
 number-below f v h = go (v .base) (v .stmt) h
   where
     go : (b : Base) (i : ℕ) → i < size f → number f (at b i) < size f + size f
-    go Base.zero i h = omega arith
-    go Base.n i h = omega arith
+    go Zero i h = omega arith
+    go N i h = omega arith
 
 -- an edge of a node is an arc of its number
 pub arc-in : (f : Flow) (v : Node) {x : Edge} → v .stmt < size f → In x (edges f v)
@@ -87,7 +89,7 @@ Held arrays m d a s = a < arrays → holds (m d a) s ≡ true
 
 -- Term 3 over any closed table of masks: the union over both copies holds what a run finds
 pub run-masked : (f : Flow) (m : ℕ → ℕ → ℕ) {x : Config} → WellFormed f → Listed f → Follows (doubled f) (Held (f .arrays) m) → Run f x
-    → (a : ℕ) → a < f .arrays → holds (bitOr (m (number f (at Base.zero (x .stmt))) a) (m (number f (at Base.n (x .stmt))) a)) (x .states a) ≡ true
+    → (a : ℕ) → a < f .arrays → holds (bitOr (m (number f (at Zero (x .stmt))) a) (m (number f (at N (x .stmt))) a)) (x .states a) ≡ true
 run-masked f m {x} wf listed follows r a h =
     let q = run-follows f (Held (f .arrays) m) wf listed follows r in
     either (q .1 .0) (q .1 .1 a h)
@@ -95,6 +97,6 @@ run-masked f m {x} wf listed follows r a h =
     mask : Base → ℕ
     mask b = m (number f (at b (x .stmt))) a
 
-    either : (b : Base) → holds (mask b) (x .states a) ≡ true → holds (bitOr (mask Base.zero) (mask Base.n)) (x .states a) ≡ true
-    either Base.zero e = or-holds-left (mask Base.zero) (mask Base.n) (x .states a) e
-    either Base.n e = or-holds-right (mask Base.zero) (mask Base.n) (x .states a) e
+    either : (b : Base) → holds (mask b) (x .states a) ≡ true → holds (bitOr (mask Zero) (mask N)) (x .states a) ≡ true
+    either Zero e = or-holds-left (mask Zero) (mask N) (x .states a) e
+    either N e = or-holds-right (mask Zero) (mask N) (x .states a) e

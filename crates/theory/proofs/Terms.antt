@@ -2,31 +2,34 @@
 -- it to one of the two copies, and what a run finds is in it. The doubled graph is well formed, and the theorems over any graph apply. Assumes nothing.
 use Prim.Native.Nat.{ℕ, _+_, _≤_, _<_}
 use mathlib.Core.Bool.{true}
-use mathlib.Core.List.{[]}
 use mathlib.Core.Logic.{⊎-elim}
 use mathlib.Core.Path.{_≡_, sym, ap, ap₂, subst}
 use native.Mathlib.Omega.{arith}
 use lib.Bits.{bitOr, or-lt}
 use lib.Dec.{lit<}
 use Rattle.masks.specs.State.{State, holds}
+use Rattle.flow.specs.declared.Base.{Base}
+use Rattle.flow.specs.declared.Base.the-variants.{Zero, N}
 use Rattle.flow.specs.Flow.{Flow, size}
-use Rattle.theory.specs.WellFormed.{WellFormed}
-use Rattle.theory.specs.Queue.{Arc, Solver, solved, initial, visitBound}
-use Rattle.theory.specs.Doubled.{Base, Edge, at, number, node, edges, edgeEffects, boundary, arcsOf, doubled}
-use Rattle.theory.specs.Masks.{nodeMask, maskOf, visitsOf, BringsTo, copy}
+use Rattle.theory.specs.contracts.WellFormed.{WellFormed}
+use Rattle.theory.specs.Queue.{Arc, Solver, Over, initial, visitBound}
+use Rattle.theory.specs.Doubled.{Edge, at, number, node, edges, edgeEffects, boundary, arcsOf, doubled}
+use Rattle.theory.specs.Masks.{maskLeft, BringsTo, copy}
+use Rattle.theory.specs.Computed.{Progress, solved, maskOf, visitsOf}
 use Rattle.theory.specs.Runs.{Config, Run, Listed}
 use Rattle.theory.proofs.Lists.{In-map}
 use Rattle.theory.proofs.MaskLaws.{or-held, or-holds-left, or-holds-right}
 use Rattle.theory.proofs.Invariant.{WellFormedGraph}
-use Rattle.theory.proofs.Ends.{solved-ends, solved-visits, no-visits}
-use Rattle.theory.proofs.Exact.{solved-below, solved-unreached, solved-brought, solved-holds}
+use Rattle.theory.proofs.Ends.{over-bound, no-visits}
+use Rattle.theory.proofs.Computed.{solved-over, over-solved}
+use Rattle.theory.proofs.Exact.{over-below, over-unreached, over-brought, over-holds}
 use Rattle.theory.proofs.Edges.{edge-below}
 use Rattle.theory.proofs.Term3.{number-below, run-brings}
 
 pub doubled-well-formed : (f : Flow) → WellFormed f → WellFormedGraph (doubled f)
 unfolding doubled arcsOf boundary
 doubled-well-formed f wf = record {
-  entry = λ h. number-below f (at Base.zero (f .entry)) (wf .entry (omega arith));
+  entry = λ h. number-below f (at Zero (f .entry)) (wf .entry (omega arith));
   target = λ d e m.
       let r = In-map (λ (x : Edge). record { to = number f (x .to); effects = edgeEffects f (node f d .stmt) x }) (edges f (node f d)) m in
       subst (λ (t : ℕ). t < size f + size f) (sym (ap (λ (x : Arc). x .to) (r .2))) (number-below f (r .0 .to) (edge-below f wf (node f d) (r .1)));
@@ -35,60 +38,71 @@ doubled-well-formed f wf = record {
 
 -- Term 1
 
-pub term-1-ends : (f : Flow) → WellFormed f → solved (doubled f) .waiting ≡ []
-term-1-ends f wf = solved-ends (doubled f) (doubled-well-formed f wf)
-
--- at most 1 + edges × (1 + 2 × arrays) visits, edges counted with repeats
-pub term-1 : (f : Flow) → WellFormed f → visitsOf f ≤ visitBound (doubled f)
+-- the queue rule's course ends, and only so
+pub term-1-ends : (f : Flow) → WellFormed f → Over (doubled f) (visitsOf f) (solved (doubled f) .state)
 unfolding visitsOf
-term-1 f wf = solved-visits (doubled f) (doubled-well-formed f wf)
+term-1-ends f wf = solved-over (doubled f) (doubled-well-formed f wf)
+
+pub term-1-visits : (f : Flow) → WellFormed f → {k : ℕ} {st : Solver} → Over (doubled f) k st → k ≡ visitsOf f
+unfolding visitsOf
+term-1-visits f wf over = ap (λ (x : Progress). x .count) (over-solved (doubled-well-formed f wf) over)
+
+pub term-1-masks : (f : Flow) → WellFormed f → {k : ℕ} {st : Solver} → Over (doubled f) k st → (i a : ℕ) → maskLeft f st i a ≡ maskOf f i a
+unfolding maskOf
+term-1-masks f wf over i a = ap (λ (x : Progress). maskLeft f (x .state) i a) (over-solved (doubled-well-formed f wf) over)
 
 -- with n 0 there are no visits
-pub term-1-empty : (f : Flow) → size f ≡ 0 → visitsOf f ≡ 0
-unfolding visitsOf doubled initial
-term-1-empty f e = ap (λ (st : Solver). st .visits) (no-visits (doubled f) (let h = e in omega arith))
+pub term-1-empty : (f : Flow) → size f ≡ 0 → Over (doubled f) 0 (initial (doubled f))
+unfolding doubled
+term-1-empty f e = no-visits (doubled f) (let h = e in omega arith)
 
--- Term 2
+-- The terms of a course that is over
 
-module _ (f : Flow) (wf : WellFormed f) where
+module _ (f : Flow) (wf : WellFormed f) {k : ℕ} {st : Solver} (over : Over (doubled f) k st) where
+  -- at most 1 + edges × (1 + 2 × arrays) visits, edges counted with repeats
+  pub term-1 : k ≤ visitBound (doubled f)
+  term-1 = over-bound (doubled-well-formed f wf) over
+
+  -- Term 2
+
   nodes-exist : {i : ℕ} → i < size f → 0 < doubled f .nodes
   unfolding doubled
   nodes-exist h = omega arith
 
   -- every state of a statement's mask is brought by a walk
-  pub term-2-sound : {a i : ℕ} {s : State} → holds (maskOf f i a) s ≡ true → BringsTo f a i s
-  unfolding maskOf nodeMask
-  term-2-sound {a} {i} {s} h = ⊎-elim (of Base.zero) (of Base.n) (or-held (nodeMask f (number f (at Base.zero i)) a) (nodeMask f (number f (at Base.n i)) a) s h)
+  pub term-2-sound : {a i : ℕ} {s : State} → holds (maskLeft f st i a) s ≡ true → BringsTo f a i s
+  unfolding maskLeft
+  term-2-sound {a} {i} {s} h = ⊎-elim (of Zero) (of N) (or-held (st .masks (number f (at Zero i)) a) (st .masks (number f (at N i)) a) s h)
     where
-      of : (b : Base) → holds (nodeMask f (number f (at b i)) a) s ≡ true → BringsTo f a i s
-      of b k = copy b (solved-brought (doubled f) (doubled-well-formed f wf) (number f (at b i)) a s k)
+      of : (b : Base) → holds (st .masks (number f (at b i)) a) s ≡ true → BringsTo f a i s
+      of b h = copy b (over-brought (doubled f) (doubled-well-formed f wf) over (number f (at b i)) a s h)
 
   -- and every state that a walk brings is in it
-  pub term-2-complete : {a i : ℕ} {s : State} → i < size f → a < f .arrays → BringsTo f a i s → holds (maskOf f i a) s ≡ true
-  unfolding maskOf nodeMask doubled
-  term-2-complete {a} {i} {s} h l (copy b w) = join b (solved-holds (doubled f) (doubled-well-formed f wf) (nodes-exist h) l w)
+  pub term-2-complete : {a i : ℕ} {s : State} → i < size f → a < f .arrays → BringsTo f a i s → holds (maskLeft f st i a) s ≡ true
+  unfolding maskLeft doubled
+  term-2-complete {a} {i} {s} h l (copy b w) = join b (over-holds (doubled f) (doubled-well-formed f wf) over (nodes-exist h) l w)
     where
-      join : (b : Base) → holds (nodeMask f (number f (at b i)) a) s ≡ true → holds (maskOf f i a) s ≡ true
-      join Base.zero k = or-holds-left (nodeMask f (number f (at Base.zero i)) a) (nodeMask f (number f (at Base.n i)) a) s k
-      join Base.n k = or-holds-right (nodeMask f (number f (at Base.zero i)) a) (nodeMask f (number f (at Base.n i)) a) s k
+      join : (b : Base) → holds (st .masks (number f (at b i)) a) s ≡ true → holds (maskLeft f st i a) s ≡ true
+      join Zero h = or-holds-left (st .masks (number f (at Zero i)) a) (st .masks (number f (at N i)) a) s h
+      join N h = or-holds-right (st .masks (number f (at Zero i)) a) (st .masks (number f (at N i)) a) s h
 
   -- a mask is a union of states, 0 to 7
-  pub term-2-below : (i a : ℕ) → maskOf f i a < 8
-  unfolding maskOf nodeMask
+  pub term-2-below : (i a : ℕ) → maskLeft f st i a < 8
+  unfolding maskLeft
   term-2-below i a =
-      or-lt 3 (nodeMask f (number f (at Base.zero i)) a) (nodeMask f (number f (at Base.n i)) a) (below Base.zero) (below Base.n)
+      or-lt 3 (st .masks (number f (at Zero i)) a) (st .masks (number f (at N i)) a) (below Zero) (below N)
     where
-      below : (b : Base) → nodeMask f (number f (at b i)) a < 8
-      below b = solved-below (doubled f) (doubled-well-formed f wf) (number f (at b i)) a
+      below : (b : Base) → st .masks (number f (at b i)) a < 8
+      below b = over-below (doubled f) (doubled-well-formed f wf) over (number f (at b i)) a
 
   -- unreached: 0
-  pub term-2-unreached : (i a : ℕ) → ((s : State) → BringsTo f a i s → ⊥) → maskOf f i a ≡ 0
-  unfolding maskOf nodeMask
-  term-2-unreached i a h = ap₂ bitOr (none Base.zero) (none Base.n)
+  pub term-2-unreached : (i a : ℕ) → ((s : State) → BringsTo f a i s → ⊥) → maskLeft f st i a ≡ 0
+  unfolding maskLeft
+  term-2-unreached i a h = ap₂ bitOr (none Zero) (none N)
     where
-      none : (b : Base) → nodeMask f (number f (at b i)) a ≡ 0
-      none b = solved-unreached (doubled f) (doubled-well-formed f wf) (number f (at b i)) a (λ s w. h s (copy b w))
+      none : (b : Base) → st .masks (number f (at b i)) a ≡ 0
+      none b = over-unreached (doubled f) (doubled-well-formed f wf) over (number f (at b i)) a (λ s w. h s (copy b w))
 
   -- Term 3: what a run finds at a statement is in its mask, for every list of moves and every array
-  pub term-3 : Listed f → {x : Config} → Run f x → (a : ℕ) → a < f .arrays → holds (maskOf f (x .stmt) a) (x .states a) ≡ true
+  pub term-3 : Listed f → {x : Config} → Run f x → (a : ℕ) → a < f .arrays → holds (maskLeft f st (x .stmt) a) (x .states a) ≡ true
   term-3 listed r a l = let q = run-brings f wf listed r in term-2-complete (q .0) l (copy (q .1 .0) (q .1 .1 a))

@@ -1,13 +1,13 @@
 -- Document 01, "Subroutines and the doubled graph", first paragraph: lines that enter, body walk, touched arrays, opaque bodies and calls.
 -- Each term is an inductive type with one constructor a rule; beside it stands the function that decides it.
 use Prim.Native.Nat.{ℕ}
-use mathlib.Core.Bool.{Bool, true, false, cond, _&&_, _||_}
-use mathlib.Core.List.{List, [], _∷_, _++_}
+use mathlib.Core.Bool.{Bool, true, false, cond, _||_}
+use mathlib.Core.List.{List, [], _∷_}
 use mathlib.Core.Option.{Option, none, some}
 use mathlib.Core.Path.{_≡_}
-use Rattle.flow.specs.Flow.{Flow, Kind, Statement, Item, size, statement, enters}
+use Rattle.flow.specs.Flow.{Flow, Kind, Item, size, statement, enters}
 pub use Rattle.flow.specs.Flow.{callLines, continuation as continuationOf}
-use Rattle.theory.specs.Lists.{In, any, has, concatMap, optionList}
+use Rattle.theory.specs.Lists.{In, any, elem, concatMap, optionList}
 use Rattle.theory.specs.Reach.{Reach, reached}
 
 abbrev pub kind : Flow → ℕ → Kind
@@ -106,10 +106,10 @@ unfoldable pub bodies : Flow → ℕ → List ℕ
 bodies f e = reached (called f) (size f) e
 
 unfoldable pub touches : Flow → ℕ → ℕ → Bool
-touches f e a = any (λ b. any (λ i. has a (references f i)) (walked f b)) (bodies f e)
+touches f e a = any (λ b. any (λ i. elem a (references f i)) (walked f b)) (bodies f e)
 
 unfoldable pub onCycle : Flow → ℕ → Bool
-onCycle f e = any (λ b. has e (bodies f b)) (called f e)
+onCycle f e = any (λ b. elem e (bodies f b)) (called f e)
 
 unfoldable pub opaque : Flow → ℕ → Bool
 opaque f e = any (λ b. any (λ i. wipes (kind f i)) (walked f b) || onCycle f b) (bodies f e)

@@ -1,273 +1,331 @@
--- Document 01, "Flows worked through": P5 to P10, and a flow for each point of "Where a port goes astray" and each rule that a wrong definition would fail.
--- A case is a flow with its masks, statement by statement, its visits and term 1's bound; or a flow with its live sets.
-use Prim.Native.Nat.{ℕ, _+_}
+-- Document 01, "Flows worked through", as one table: P1 to P10 and the line "Also", then a file for each point of "Where a port goes astray" and for each rule that
+-- a wrong definition would fail. A case is a step, or a file as bytes with the verdict on it and what is known of it: masks, visits, term 1's bound, live sets, listing.
+use Prim.Native.Nat.{ℕ, _/_}
+use Prim.Native.Char.{code}
+use Prim.Native.String.{String, [] as []ˢ, _∷_ as _∷ˢ_}
 use mathlib.Core.Bool.{Bool, true, false, _&&_}
-use mathlib.Core.List.{List, [], _∷_, map}
-use mathlib.Core.Option.{Option, none, some}
+use mathlib.Core.List.{List, [], _∷_, _++_, map}
 use lib.Dec.{eqb}
-use Rattle.flow.specs.Flow.{Flow, Kind, Statement, Item, Line, size}
+use lib.ListN.{length, replicate}
+use Rattle.masks.specs.declared.Effect.{Effect}
+use Rattle.masks.specs.declared.Effect.the-variants.{Reference, Touched}
+use Rattle.masks.specs.Step.{stepOf}
+use Rattle.flow.specs.Flow.{Flow, size}
+use Rattle.flow.specs.Limits.{noContinuation}
+use Rattle.flow.specs.Format.{Verdict, verdict, fileChecks, areaChecks, flowOf}
+use Rattle.flow.specs.Format.{verdictNumber, verdictPlace}
+use Rattle.flow.specs.Cases.{u16s, FH, FN, FL, FE}
 use Rattle.theory.specs.Lists.{concatMap, upTo}
 use Rattle.theory.specs.Queue.{visitBound}
 use Rattle.theory.specs.Doubled.{doubled}
-use Rattle.theory.specs.Masks.{maskOf, visitsOf}
+use Rattle.theory.specs.Computed.{maskOf, visitsOf}
 use Rattle.theory.specs.Live.{liveInWord, liveOutWord}
+use Rattle.theory.specs.Listing.{listing, longText}
 
-pub record Case : Type 0 where
-  pub flow : Flow
-  pub masks : List ℕ
-  pub visits : ℕ
-  pub bound : ℕ
+-- what is known of a file
+pub data Fact : Type 0 where
+  -- statement by statement
+  masks live-in live-out : List ℕ → Fact
+  visits bound : ℕ → Fact
+  -- the lines that the listing program prints
+  prints : List String → Fact
+  -- areas for masks, live-in, live-out and work of these lengths: refused by this number, or 0
+  areas : ℕ → ℕ → ℕ → ℕ → ℕ → Fact
 
-pub record LiveCase : Type 0 where
-  pub flow : Flow
-  pub live-in : List ℕ
-  pub live-out : List ℕ
+pub data Case : Type 0 where
+  -- an effect on a mask, and what it gives
+  step : Effect → ℕ → ℕ → Case
+  accepted : List ℕ → List Fact → Case
+  -- by this number, at this place
+  refused : List ℕ → ℕ → ℕ → List Fact → Case
+  -- the lines that are printed for an input that is too long
+  long : List String → Case
 
--- statements with names: line, kind, successors, references, names written, names read
-abbrev stmt : ℕ → Kind → List ℕ → List ℕ → ℕ → ℕ → Statement
-stmt l k ss rs w r = record { line = l; kind = k; successors = ss; references = rs; written = w; read = r }
+-- A statement's record, by its kind: line, successors and references; it writes and reads no name
 
-abbrev line : ℕ → ℕ → Line
-line l i = record { number = l; first = i }
+abbrev pub other : ℕ → List ℕ → List ℕ → List ℕ
+other l ss rs = FN l 0 ss rs 0 0
 
-abbrev pub item : ℕ → ℕ → Item
-item a g = record { array = a; flag = g }
+abbrev pub returns : ℕ → List ℕ → List ℕ
+returns l ss = FN l 1 ss [] 0 0
 
-abbrev tens : List Line
-tens = line 10 0 ∷ line 20 1 ∷ line 30 2 ∷ line 40 3 ∷ []
+abbrev pub clr : ℕ → List ℕ → List ℕ → List ℕ
+clr l ss rs = FN l 2 ss rs 0 0
 
--- P5 with another call and its successors, and another statement 2 and its references
-abbrev p5From : Kind → List ℕ → Kind → List ℕ → Flow
-p5From c ss k rs = record {
-  arrays = 1;
-  names = 1;
-  entry = 0;
-  statements =
-      stmt 10 c ss [] 0 0
-      ∷ stmt 20 Kind.other [] (0 ∷ []) 0 1
-      ∷ stmt 30 k (3 ∷ []) rs 0 0
-      ∷ stmt 40 Kind.return [] [] 0 0
-      ∷ [];
-  lines = tens;
-}
+abbrev pub run : ℕ → List ℕ → List ℕ → List ℕ
+run l ss rs = FN l 3 ss rs 0 0
 
-abbrev pub p5With : Kind → List ℕ → Flow
-p5With k rs = p5From (Kind.gosub 30 (some 1)) (2 ∷ []) k rs
+-- with its items, each an array and a flag
+abbrev pub dim : ℕ → List ℕ → List ℕ → List ℕ → List ℕ
+dim l items ss rs = FN l 4 ss rs 0 0 ++ (length items / 2 ∷ items)
 
-abbrev pub p5 : Flow
-p5 = p5With Kind.other (0 ∷ [])
+-- with its line and its continuation
+abbrev pub gosub : ℕ → ℕ → ℕ → List ℕ → List ℕ → List ℕ
+gosub l to k ss rs = FN l 5 ss rs 0 0 ++ u16s (to ∷ k ∷ [])
 
--- P5 with ON GOSUB 30, which may also go to its continuation
-abbrev pub p5On : Flow
-p5On = p5From (Kind.onGosub (30 ∷ []) (some 1)) (2 ∷ 1 ∷ []) Kind.other (0 ∷ [])
+abbrev pub onGosub : ℕ → List ℕ → ℕ → List ℕ → List ℕ → List ℕ
+onGosub l tos k ss rs = FN l 6 ss rs 0 0 ++ (length tos ∷ u16s tos) ++ u16s (k ∷ [])
 
-abbrev pub p6 : Flow
-p6 = p5With (Kind.dim (item 0 1 ∷ [])) []
+-- P5 from this entry on, with this call and this statement 2: lines 10, 20, 30, 40 at statements 0 to 3; 1 reads name 0 and references array 0; 3 RETURN;
+-- 1 array, 1 name
+abbrev pub p5From : ℕ → List ℕ → List ℕ → List ℕ
+p5From entry call body =
+    FH 4 1 1 entry
+    ++ call
+    ++ FN 20 0 [] (0 ∷ []) 0 1
+    ++ body
+    ++ returns 40 []
+    ++ FL 10 0 ++ FL 20 1 ++ FL 30 2 ++ FL 40 3
+    ++ FE
 
-abbrev pub p7 : Flow
-p7 = p5With (Kind.dim (item 0 0 ∷ [])) []
+-- 0 is GOSUB 30, continuation 1, successor 2
+abbrev pub p5With : List ℕ → List ℕ
+p5With body = p5From 0 (gosub 10 30 1 (2 ∷ []) []) body
 
-abbrev pub p8 : Flow
-p8 = p5With Kind.clr []
+-- 2 references array 0, successor 3
+abbrev pub p5 : List ℕ
+p5 = p5With (other 30 (3 ∷ []) (0 ∷ []))
 
-abbrev pub p9 : Flow
-p9 = record {
-  arrays = 1;
-  names = 0;
-  entry = 0;
-  statements = stmt 10 (Kind.gosub 10 (some 1)) (0 ∷ []) [] 0 0 ∷ stmt 20 Kind.return [] [] 0 0 ∷ [];
-  lines = line 10 0 ∷ line 20 1 ∷ [];
-}
+-- P5 with 2 a DIM of array 0, flag 1, no reference
+abbrev pub p6 : List ℕ
+p6 = p5With (dim 30 (0 ∷ 1 ∷ []) (3 ∷ []) [])
 
-abbrev pub p10 : Flow
-p10 = record { arrays = 0; names = 0; entry = 0; statements = []; lines = [] }
+-- flag 0
+abbrev pub p7 : List ℕ
+p7 = p5With (dim 30 (0 ∷ 0 ∷ []) (3 ∷ []) [])
+
+-- CLR instead
+abbrev pub p8 : List ℕ
+p8 = p5With (clr 30 (3 ∷ []) [])
+
+-- 0 is GOSUB to itself, successor 0, continuation 1 a RETURN, 1 array, entry 0
+abbrev pub p9 : List ℕ
+p9 = FH 2 1 0 0 ++ gosub 10 10 1 (0 ∷ []) [] ++ returns 20 [] ++ FL 10 0 ++ FL 20 1 ++ FE
+
+-- n 0
+abbrev pub p10 : List ℕ
+p10 = FH 0 0 0 0 ++ FE
+
+-- "Also"
+
+-- one statement and so many arrays
+abbrev pub withArrays : ℕ → List ℕ
+withArrays k = FH 1 k 0 0 ++ other 10 [] [] ++ FE
+
+abbrev pub withEntry : ℕ → List ℕ
+withEntry i = p5From i (gosub 10 30 1 (2 ∷ []) []) (other 30 (3 ∷ []) (0 ∷ []))
 
 -- "Where a port goes astray"
 
 -- a DIM without dimensions makes its body opaque: statement 1 keeps no NONE
-abbrev pub dimFlag0 : Flow
-dimFlag0 = p5With (Kind.dim (item 0 0 ∷ [])) (0 ∷ [])
+abbrev pub dimFlag0 : List ℕ
+dimFlag0 = p5With (dim 30 (0 ∷ 0 ∷ []) (3 ∷ []) (0 ∷ []))
 
 -- statements 4 and 5 end an opaque body and are one that is not: only in base 0 does their RETURN go back to statement 1
-abbrev pub sharedReturn : Flow
-sharedReturn = record {
-  arrays = 1;
-  names = 0;
-  entry = 0;
-  statements =
-      stmt 10 (Kind.gosub 40 (some 1)) (3 ∷ []) [] 0 0
-      ∷ stmt 20 (Kind.gosub 50 (some 2)) (4 ∷ []) (0 ∷ []) 0 0
-      ∷ stmt 30 Kind.other [] [] 0 0
-      ∷ stmt 40 Kind.clr (4 ∷ []) [] 0 0
-      ∷ stmt 50 Kind.other (5 ∷ []) [] 0 0
-      ∷ stmt 60 Kind.return [] [] 0 0
-      ∷ [];
-  lines = line 40 3 ∷ line 50 4 ∷ [];
-}
+abbrev pub sharedReturn : List ℕ
+sharedReturn =
+    FH 6 1 0 0
+    ++ gosub 10 40 1 (3 ∷ []) []
+    ++ gosub 20 50 2 (4 ∷ []) (0 ∷ [])
+    ++ other 30 [] []
+    ++ clr 40 (4 ∷ []) []
+    ++ other 50 (5 ∷ []) []
+    ++ returns 60 []
+    ++ FL 40 3 ++ FL 50 4
+    ++ FE
 
 -- in base n statement 1 enters its own continuation: that one edge carries the touched step
-abbrev pub enteredContinuation : Flow
-enteredContinuation = record {
-  arrays = 1;
-  names = 0;
-  entry = 0;
-  statements =
-      stmt 10 (Kind.gosub 20 (some 4)) (1 ∷ []) [] 0 0
-      ∷ stmt 20 (Kind.gosub 30 (some 2)) (2 ∷ []) [] 0 0
-      ∷ stmt 30 Kind.other (3 ∷ []) (0 ∷ []) 0 0
-      ∷ stmt 40 Kind.return [] [] 0 0
-      ∷ stmt 50 Kind.other [] [] 0 0
-      ∷ [];
-  lines = line 20 1 ∷ line 30 2 ∷ [];
-}
+abbrev pub enteredContinuation : List ℕ
+enteredContinuation =
+    FH 5 1 0 0
+    ++ gosub 10 20 4 (1 ∷ []) []
+    ++ gosub 20 30 2 (2 ∷ []) []
+    ++ other 30 (3 ∷ []) (0 ∷ [])
+    ++ returns 40 []
+    ++ other 50 [] []
+    ++ FL 20 1 ++ FL 30 2
+    ++ FE
 
 -- the loop brings AUTO to statement 1 at its second visit only, and statement 2 must hear of it
-abbrev pub secondVisit : Flow
-secondVisit = record {
-  arrays = 1;
-  names = 0;
-  entry = 0;
-  statements = stmt 10 Kind.other (1 ∷ []) [] 0 0 ∷ stmt 20 Kind.other (2 ∷ []) [] 0 0 ∷ stmt 30 Kind.other (1 ∷ []) (0 ∷ []) 0 0 ∷ [];
-  lines = [];
-}
+abbrev pub secondVisit : List ℕ
+secondVisit = FH 3 1 0 0 ++ other 10 (1 ∷ []) [] ++ other 20 (2 ∷ []) [] ++ other 30 (1 ∷ []) (0 ∷ []) ++ FE
 
 -- no walk comes to statement 2, so its edge brings nothing; statement 1 is listed twice and waits once
-abbrev pub unvisited : Flow
-unvisited = record {
-  arrays = 1;
-  names = 0;
-  entry = 0;
-  statements = stmt 10 Kind.other (1 ∷ 1 ∷ []) [] 0 0 ∷ stmt 20 Kind.other [] [] 0 0 ∷ stmt 30 (Kind.dim (item 0 1 ∷ [])) (1 ∷ []) [] 0 0 ∷ [];
-  lines = [];
-}
+abbrev pub unvisited : List ℕ
+unvisited = FH 3 1 0 0 ++ other 10 (1 ∷ 1 ∷ []) [] ++ other 20 [] [] ++ dim 30 (0 ∷ 1 ∷ []) (1 ∷ []) [] ++ FE
 
 -- The rules one by one
 
+-- RUN in a body that references array 0: it makes the body opaque, and the mask NONE
+abbrev pub runInBody : List ℕ
+runInBody = p5With (run 30 (3 ∷ []) (0 ∷ []))
+
+-- P5 with ON GOSUB 30, which may also go to its continuation
+abbrev pub p5On : List ℕ
+p5On = p5From 0 (onGosub 10 (30 ∷ []) 1 (2 ∷ 1 ∷ []) []) (other 30 (3 ∷ []) (0 ∷ []))
+
 -- the entry is statement 1; a DIM steps its own array only, CLR and RUN all; a reference comes before CLR
-abbrev pub steps : Flow
-steps = record {
-  arrays = 2;
-  names = 0;
-  entry = 1;
-  statements =
-      stmt 10 Kind.other [] [] 0 0
-      ∷ stmt 20 Kind.other (2 ∷ []) (0 ∷ 1 ∷ []) 0 0
-      ∷ stmt 30 (Kind.dim (item 1 1 ∷ [])) (3 ∷ []) [] 0 0
-      ∷ stmt 40 Kind.clr (4 ∷ []) (0 ∷ []) 0 0
-      ∷ stmt 50 Kind.other (5 ∷ []) (0 ∷ []) 0 0
-      ∷ stmt 60 Kind.run (6 ∷ []) [] 0 0
-      ∷ stmt 70 (Kind.dim (item 0 1 ∷ [])) (7 ∷ []) (0 ∷ []) 0 0
-      ∷ stmt 80 Kind.other [] [] 0 0
-      ∷ [];
-  lines = [];
-}
+abbrev pub steps : List ℕ
+steps =
+    FH 8 2 0 1
+    ++ other 10 [] []
+    ++ other 20 (2 ∷ []) (0 ∷ 1 ∷ [])
+    ++ dim 30 (1 ∷ 1 ∷ []) (3 ∷ []) []
+    ++ clr 40 (4 ∷ []) (0 ∷ [])
+    ++ other 50 (5 ∷ []) (0 ∷ [])
+    ++ run 60 (6 ∷ []) []
+    ++ dim 70 (0 ∷ 1 ∷ []) (7 ∷ []) (0 ∷ [])
+    ++ other 80 [] []
+    ++ FE
 
 -- a DIM without items leaves its body as it is
-abbrev pub noItems : Flow
-noItems = p5With (Kind.dim []) (0 ∷ [])
+abbrev pub noItems : List ℕ
+noItems = p5With (dim 30 [] (3 ∷ []) (0 ∷ []))
 
 -- statement 2 has no continuation: it calls no body, and the CLR at its line is not met
-abbrev pub ordinaryCall : Flow
-ordinaryCall = record {
-  arrays = 1;
-  names = 0;
-  entry = 0;
-  statements =
-      stmt 10 (Kind.gosub 30 (some 1)) (2 ∷ []) [] 0 0
-      ∷ stmt 20 Kind.other [] [] 0 0
-      ∷ stmt 30 (Kind.gosub 50 none) (3 ∷ []) (0 ∷ []) 0 0
-      ∷ stmt 40 Kind.return [] [] 0 0
-      ∷ stmt 50 Kind.clr [] [] 0 0
-      ∷ [];
-  lines = line 30 2 ∷ line 50 4 ∷ [];
-}
+abbrev pub ordinaryCall : List ℕ
+ordinaryCall =
+    FH 5 1 0 0
+    ++ gosub 10 30 1 (2 ∷ []) []
+    ++ other 20 [] []
+    ++ gosub 30 50 noContinuation (3 ∷ []) (0 ∷ [])
+    ++ returns 40 []
+    ++ clr 50 [] []
+    ++ FL 30 2 ++ FL 50 4
+    ++ FE
 
 -- the body at 2 calls an opaque one, and its walk goes to the continuation 3 only: the RETURN at 5 does not go back to statement 1
-abbrev pub nestedOpaque : Flow
-nestedOpaque = record {
-  arrays = 1;
-  names = 0;
-  entry = 0;
-  statements =
-      stmt 10 (Kind.gosub 30 (some 1)) (2 ∷ []) [] 0 0
-      ∷ stmt 20 Kind.other [] [] 0 0
-      ∷ stmt 30 (Kind.gosub 50 (some 3)) (4 ∷ []) [] 0 0
-      ∷ stmt 40 Kind.other (6 ∷ []) (0 ∷ []) 0 0
-      ∷ stmt 50 Kind.clr (5 ∷ []) [] 0 0
-      ∷ stmt 60 Kind.return [] [] 0 0
-      ∷ stmt 70 Kind.return [] [] 0 0
-      ∷ [];
-  lines = line 30 2 ∷ line 50 4 ∷ [];
-}
+abbrev pub nestedOpaque : List ℕ
+nestedOpaque =
+    FH 7 1 0 0
+    ++ gosub 10 30 1 (2 ∷ []) []
+    ++ other 20 [] []
+    ++ gosub 30 50 3 (4 ∷ []) []
+    ++ other 40 (6 ∷ []) (0 ∷ [])
+    ++ clr 50 (5 ∷ []) []
+    ++ returns 60 []
+    ++ returns 70 []
+    ++ FL 30 2 ++ FL 50 4
+    ++ FE
 
 -- the body at 2 touches array 0 by a call, and array 1 not; its walk stops at the RETURN before the CLR; 2 goes to 4 before its continuation
-abbrev pub nestedTouched : Flow
-nestedTouched = record {
-  arrays = 2;
-  names = 0;
-  entry = 0;
-  statements =
-      stmt 10 (Kind.gosub 30 (some 1)) (2 ∷ []) [] 0 0
-      ∷ stmt 20 Kind.other [] [] 0 0
-      ∷ stmt 30 (Kind.gosub 50 (some 3)) (4 ∷ []) [] 0 0
-      ∷ stmt 40 Kind.return (6 ∷ []) [] 0 0
-      ∷ stmt 50 Kind.other (5 ∷ 3 ∷ []) (0 ∷ []) 0 0
-      ∷ stmt 60 Kind.return [] [] 0 0
-      ∷ stmt 70 Kind.clr [] [] 0 0
-      ∷ [];
-  lines = line 30 2 ∷ line 50 4 ∷ [];
-}
+abbrev pub nestedTouched : List ℕ
+nestedTouched =
+    FH 7 2 0 0
+    ++ gosub 10 30 1 (2 ∷ []) []
+    ++ other 20 [] []
+    ++ gosub 30 50 3 (4 ∷ []) []
+    ++ returns 40 (6 ∷ [])
+    ++ other 50 (5 ∷ 3 ∷ []) (0 ∷ [])
+    ++ returns 60 []
+    ++ clr 70 [] []
+    ++ FL 30 2 ++ FL 50 4
+    ++ FE
 
 -- lines in listed order, one twice and one that enters nothing; successor 4 is neither entered nor the continuation
-abbrev pub manyLines : Flow
-manyLines = record {
-  arrays = 1;
-  names = 0;
-  entry = 0;
-  statements =
-      stmt 10 (Kind.onGosub (40 ∷ 30 ∷ 40 ∷ 99 ∷ []) (some 1)) (2 ∷ 3 ∷ 1 ∷ 4 ∷ []) [] 0 0
-      ∷ stmt 20 Kind.other [] [] 0 0
-      ∷ stmt 30 Kind.other (3 ∷ []) (0 ∷ []) 0 0
-      ∷ stmt 40 Kind.other (5 ∷ []) [] 0 0
-      ∷ stmt 50 Kind.other [] [] 0 0
-      ∷ stmt 60 Kind.return [] [] 0 0
-      ∷ [];
-  lines = line 30 2 ∷ line 40 3 ∷ [];
-}
+abbrev pub manyLines : List ℕ
+manyLines =
+    FH 6 1 0 0
+    ++ onGosub 10 (40 ∷ 30 ∷ 40 ∷ 99 ∷ []) 1 (2 ∷ 3 ∷ 1 ∷ 4 ∷ []) []
+    ++ other 20 [] []
+    ++ other 30 (3 ∷ []) (0 ∷ [])
+    ++ other 40 (5 ∷ []) []
+    ++ other 50 [] []
+    ++ returns 60 []
+    ++ FL 30 2 ++ FL 40 3
+    ++ FE
 
 -- the RETURN goes to the continuations 1 and 2, rising
-abbrev pub twoContinuations : Flow
-twoContinuations = record {
-  arrays = 1;
-  names = 0;
-  entry = 0;
-  statements =
-      stmt 10 (Kind.gosub 40 (some 1)) (3 ∷ []) [] 0 0
-      ∷ stmt 20 (Kind.gosub 40 (some 2)) (3 ∷ 2 ∷ []) (0 ∷ []) 0 0
-      ∷ stmt 30 Kind.other [] [] 0 0
-      ∷ stmt 40 Kind.clr (4 ∷ []) [] 0 0
-      ∷ stmt 50 Kind.return [] [] 0 0
-      ∷ [];
-  lines = line 40 3 ∷ [];
-}
+abbrev pub twoContinuations : List ℕ
+twoContinuations =
+    FH 5 1 0 0
+    ++ gosub 10 40 1 (3 ∷ []) []
+    ++ gosub 20 40 2 (3 ∷ 2 ∷ []) (0 ∷ [])
+    ++ other 30 [] []
+    ++ clr 40 (4 ∷ []) []
+    ++ returns 50 []
+    ++ FL 40 3
+    ++ FE
 
 -- name 0 is written at 0, read and written at 1, read at 2; name 1 is read at 1 and 3, written at 2, which loops
-abbrev pub twoNames : Flow
-twoNames = record {
-  arrays = 0;
-  names = 2;
-  entry = 0;
-  statements =
-      stmt 10 Kind.other (1 ∷ []) [] 1 0
-      ∷ stmt 20 Kind.other (2 ∷ 0 ∷ []) [] 1 3
-      ∷ stmt 30 Kind.other (2 ∷ []) [] 2 1
-      ∷ stmt 40 Kind.other (1 ∷ []) [] 0 2
-      ∷ [];
-  lines = [];
-}
+abbrev pub twoNames : List ℕ
+twoNames =
+    FH 4 0 2 0
+    ++ FN 10 0 (1 ∷ []) [] 1 0
+    ++ FN 20 0 (2 ∷ 0 ∷ []) [] 1 3
+    ++ FN 30 0 (2 ∷ []) [] 2 1
+    ++ FN 40 0 (1 ∷ []) [] 0 2
+    ++ FE
 
-abbrev pub masksOf : Flow → List ℕ
-masksOf f = concatMap (λ i. map (maskOf f i) (upTo (f .arrays))) (upTo (size f))
+abbrev pub cases : List Case
+cases =
+    -- P1 to P4
+    step Reference 1 2
+    ∷ step Reference 5 6
+    ∷ step Reference 4 4
+    ∷ step Touched 5 7
+    -- P5 to P10
+    ∷ accepted p5
+    (masks (1 ∷ 3 ∷ 1 ∷ 2 ∷ [])
+    ∷ visits 4
+    ∷ bound 19
+    ∷ live-in (0 ∷ 1 ∷ 0 ∷ 0 ∷ [])
+    ∷ live-out (0 ∷ 0 ∷ 0 ∷ 0 ∷ [])
+    ∷ prints
+    ("F 4 1 1"
+    ∷ "0 10 1 0000000000000000 0000000000000000"
+    ∷ "1 20 3 0000000000000001 0000000000000000"
+    ∷ "2 30 1 0000000000000000 0000000000000000"
+    ∷ "3 40 2 0000000000000000 0000000000000000"
+    ∷ [])
+    ∷ [])
+    ∷ accepted p6 (masks (1 ∷ 4 ∷ 1 ∷ 4 ∷ []) ∷ visits 4 ∷ bound 16 ∷ [])
+    ∷ accepted p7 (masks (1 ∷ 1 ∷ 1 ∷ 1 ∷ []) ∷ visits 4 ∷ bound 16 ∷ [])
+    ∷ accepted p8 (masks (1 ∷ 1 ∷ 1 ∷ 1 ∷ []) ∷ visits 4 ∷ bound 16 ∷ [])
+    ∷ accepted p9 (masks (1 ∷ 0 ∷ []) ∷ visits 2 ∷ bound 10 ∷ [])
+    ∷ accepted p10 (masks [] ∷ visits 0 ∷ bound 1 ∷ prints ("F 0 0 0" ∷ []) ∷ areas 0 0 0 0 0 ∷ [])
+    -- Also: 64 arrays accepted, 65 refused 3; entry n-1 accepted, n refused 3; work 64 × n accepted, one word less refused 10
+    ∷ accepted (withArrays 64) (masks (replicate 64 1) ∷ visits 1 ∷ bound 1 ∷ [])
+    ∷ refused (withArrays 65) 3 0 (prints ("R 3 0" ∷ []) ∷ [])
+    ∷ accepted (withEntry 3) (masks (0 ∷ 0 ∷ 0 ∷ 1 ∷ []) ∷ visits 1 ∷ bound 19 ∷ [])
+    ∷ refused (withEntry 4) 3 0 []
+    ∷ accepted p5 (areas 4 4 4 256 0 ∷ areas 4 4 4 255 10 ∷ [])
+    -- the listing program's other lines: a refusal with its place, no array, an input that is too long
+    ∷ refused (FH 1 0 0 0 ++ FE) 2 8 (prints ("R 2 8" ∷ []) ∷ [])
+    ∷ accepted twoNames
+    (masks []
+    ∷ visits 5
+    ∷ bound 11
+    ∷ live-in (2 ∷ 3 ∷ 1 ∷ 3 ∷ [])
+    ∷ live-out (3 ∷ 3 ∷ 1 ∷ 3 ∷ [])
+    ∷ prints
+    ("F 4 0 2"
+    ∷ "0 10 - 0000000000000002 0000000000000003"
+    ∷ "1 20 - 0000000000000003 0000000000000003"
+    ∷ "2 30 - 0000000000000001 0000000000000001"
+    ∷ "3 40 - 0000000000000003 0000000000000003"
+    ∷ [])
+    ∷ [])
+    ∷ long ("L" ∷ [])
+    -- Where a port goes astray
+    ∷ accepted dimFlag0 (masks (1 ∷ 2 ∷ 1 ∷ 2 ∷ []) ∷ visits 4 ∷ bound 16 ∷ [])
+    ∷ accepted sharedReturn (masks (1 ∷ 1 ∷ 2 ∷ 1 ∷ 3 ∷ 3 ∷ []) ∷ visits 8 ∷ bound 34 ∷ [])
+    ∷ accepted enteredContinuation (masks (1 ∷ 1 ∷ 3 ∷ 2 ∷ 3 ∷ []) ∷ visits 5 ∷ bound 28 ∷ [])
+    ∷ accepted secondVisit (masks (1 ∷ 3 ∷ 3 ∷ []) ∷ visits 6 ∷ bound 19 ∷ [])
+    ∷ accepted unvisited (masks (1 ∷ 1 ∷ 0 ∷ []) ∷ visits 2 ∷ bound 19 ∷ [])
+    -- the rules one by one
+    ∷ accepted runInBody (masks (1 ∷ 1 ∷ 1 ∷ 1 ∷ []) ∷ visits 4 ∷ bound 16 ∷ [])
+    ∷ accepted p5On (masks (1 ∷ 3 ∷ 1 ∷ 2 ∷ []) ∷ visits 4 ∷ bound 19 ∷ [])
+    ∷ accepted steps (masks (0 ∷ 0 ∷ 1 ∷ 1 ∷ 2 ∷ 2 ∷ 2 ∷ 4 ∷ 1 ∷ 1 ∷ 2 ∷ 1 ∷ 1 ∷ 1 ∷ 4 ∷ 1 ∷ []) ∷ visits 7 ∷ bound 61 ∷ [])
+    ∷ accepted noItems (masks (1 ∷ 3 ∷ 1 ∷ 2 ∷ []) ∷ visits 4 ∷ bound 19 ∷ [])
+    ∷ accepted ordinaryCall (masks (1 ∷ 3 ∷ 1 ∷ 2 ∷ 0 ∷ []) ∷ visits 4 ∷ bound 19 ∷ [])
+    ∷ accepted nestedOpaque (masks (1 ∷ 2 ∷ 1 ∷ 1 ∷ 1 ∷ 1 ∷ 2 ∷ []) ∷ visits 7 ∷ bound 31 ∷ [])
+    ∷ accepted nestedTouched (masks (1 ∷ 1 ∷ 3 ∷ 1 ∷ 1 ∷ 1 ∷ 3 ∷ 1 ∷ 1 ∷ 1 ∷ 2 ∷ 1 ∷ 0 ∷ 0 ∷ []) ∷ visits 6 ∷ bound 61 ∷ [])
+    ∷ accepted manyLines (masks (1 ∷ 3 ∷ 1 ∷ 3 ∷ 1 ∷ 3 ∷ []) ∷ visits 8 ∷ bound 37 ∷ [])
+    ∷ accepted twoContinuations (masks (1 ∷ 1 ∷ 3 ∷ 3 ∷ 1 ∷ []) ∷ visits 7 ∷ bound 31 ∷ [])
+    ∷ []
+
+-- Whether a case is right
 
 abbrev pub sameList : List ℕ → List ℕ → Bool
 sameList [] [] = true
@@ -275,45 +333,40 @@ sameList [] (y ∷ ys) = false
 sameList (x ∷ xs) [] = false
 sameList (x ∷ xs) (y ∷ ys) = eqb x y && sameList xs ys
 
+-- the bytes of a line's text, and of lines that a newline ends
+abbrev pub bytes : String → List ℕ
+bytes []ˢ = 10 ∷ []
+bytes (c ∷ˢ s) = code c ∷ bytes s
+
+abbrev pub masksOf : Flow → List ℕ
+masksOf f = concatMap (λ i. map (maskOf f i) (upTo (f .arrays))) (upTo (size f))
+
+abbrev pub wordsOf : Flow → (Flow → ℕ → ℕ) → List ℕ
+wordsOf f w = map (w f) (upTo (size f))
+
+abbrev pub factHolds : Verdict → Flow → Fact → Bool
+factHolds v f (masks ms) = sameList (masksOf f) ms
+factHolds v f (live-in ws) = sameList (wordsOf f liveInWord) ws
+factHolds v f (live-out ws) = sameList (wordsOf f liveOutWord) ws
+factHolds v f (visits k) = eqb (visitsOf f) k
+factHolds v f (bound k) = eqb (visitBound (doubled f)) k
+factHolds v f (prints ls) = sameList (listing v f) (concatMap bytes ls)
+factHolds v f (areas m i o w k) = eqb (verdictNumber (verdict (areaChecks (size f) (f .arrays) m i o w))) k
+
+abbrev pub factsHold : Verdict → Flow → List Fact → Bool
+factsHold v f [] = true
+factsHold v f (x ∷ xs) = factHolds v f x && factsHold v f xs
+
+-- the verdict's number and place, 0 and 0 where the file is accepted, and the facts
+abbrev pub judgedSo : Verdict → ℕ → ℕ → Flow → List Fact → Bool
+judgedSo v k p f xs = eqb (verdictNumber v) k && (eqb (verdictPlace v) p && factsHold v f xs)
+
 abbrev pub right : Case → Bool
-right c =
-    sameList (masksOf (c .flow)) (c .masks)
-    && (eqb (visitsOf (c .flow)) (c .visits) && eqb (visitBound (doubled (c .flow))) (c .bound))
+right (step e m r) = eqb (stepOf e m) r
+right (accepted s xs) = judgedSo (verdict (fileChecks s)) 0 0 (flowOf s) xs
+right (refused s k p xs) = judgedSo (verdict (fileChecks s)) k p (flowOf s) xs
+right (long ls) = sameList longText (concatMap bytes ls)
 
 abbrev pub allRight : List Case → Bool
 allRight [] = true
 allRight (c ∷ cs) = right c && allRight cs
-
-abbrev pub cases : List Case
-cases =
-    record { flow = p5; masks = 1 ∷ 3 ∷ 1 ∷ 2 ∷ []; visits = 4; bound = 19 }
-    ∷ record { flow = p6; masks = 1 ∷ 4 ∷ 1 ∷ 4 ∷ []; visits = 4; bound = 16 }
-    ∷ record { flow = p7; masks = 1 ∷ 1 ∷ 1 ∷ 1 ∷ []; visits = 4; bound = 16 }
-    ∷ record { flow = p8; masks = 1 ∷ 1 ∷ 1 ∷ 1 ∷ []; visits = 4; bound = 16 }
-    ∷ record { flow = p9; masks = 1 ∷ 0 ∷ []; visits = 2; bound = 10 }
-    ∷ record { flow = p10; masks = []; visits = 0; bound = 1 }
-    ∷ record { flow = dimFlag0; masks = 1 ∷ 2 ∷ 1 ∷ 2 ∷ []; visits = 4; bound = 16 }
-    ∷ record { flow = sharedReturn; masks = 1 ∷ 1 ∷ 2 ∷ 1 ∷ 3 ∷ 3 ∷ []; visits = 8; bound = 34 }
-    ∷ record { flow = enteredContinuation; masks = 1 ∷ 1 ∷ 3 ∷ 2 ∷ 3 ∷ []; visits = 5; bound = 28 }
-    ∷ record { flow = secondVisit; masks = 1 ∷ 3 ∷ 3 ∷ []; visits = 6; bound = 19 }
-    ∷ record { flow = unvisited; masks = 1 ∷ 1 ∷ 0 ∷ []; visits = 2; bound = 19 }
-    ∷ record { flow = steps; masks = 0 ∷ 0 ∷ 1 ∷ 1 ∷ 2 ∷ 2 ∷ 2 ∷ 4 ∷ 1 ∷ 1 ∷ 2 ∷ 1 ∷ 1 ∷ 1 ∷ 4 ∷ 1 ∷ []; visits = 7; bound = 61 }
-    ∷ record { flow = noItems; masks = 1 ∷ 3 ∷ 1 ∷ 2 ∷ []; visits = 4; bound = 19 }
-    ∷ record { flow = ordinaryCall; masks = 1 ∷ 3 ∷ 1 ∷ 2 ∷ 0 ∷ []; visits = 4; bound = 19 }
-    ∷ record { flow = nestedOpaque; masks = 1 ∷ 2 ∷ 1 ∷ 1 ∷ 1 ∷ 1 ∷ 2 ∷ []; visits = 7; bound = 31 }
-    ∷ record { flow = nestedTouched; masks = 1 ∷ 1 ∷ 3 ∷ 1 ∷ 1 ∷ 1 ∷ 3 ∷ 1 ∷ 1 ∷ 1 ∷ 2 ∷ 1 ∷ 0 ∷ 0 ∷ []; visits = 6; bound = 61 }
-    ∷ record { flow = manyLines; masks = 1 ∷ 3 ∷ 1 ∷ 3 ∷ 1 ∷ 3 ∷ []; visits = 8; bound = 37 }
-    ∷ record { flow = twoContinuations; masks = 1 ∷ 1 ∷ 3 ∷ 3 ∷ 1 ∷ []; visits = 7; bound = 31 }
-    ∷ []
-
-abbrev pub liveCases : List LiveCase
-liveCases =
-    record { flow = p5; live-in = 0 ∷ 1 ∷ 0 ∷ 0 ∷ []; live-out = 0 ∷ 0 ∷ 0 ∷ 0 ∷ [] }
-    ∷ record { flow = twoNames; live-in = 2 ∷ 3 ∷ 1 ∷ 3 ∷ []; live-out = 3 ∷ 3 ∷ 1 ∷ 3 ∷ [] }
-    ∷ []
-
-abbrev pub liveRight : List LiveCase → Bool
-liveRight [] = true
-liveRight (c ∷ cs) =
-    sameList (map (liveInWord (c .flow)) (upTo (size (c .flow)))) (c .live-in)
-    && (sameList (map (liveOutWord (c .flow)) (upTo (size (c .flow)))) (c .live-out) && liveRight cs)

@@ -1,20 +1,18 @@
 -- Document 01, the doubled graph: statements exist twice, as doubled numbers i and n + i; each doubled number's edges, in the paper's order, with the
 -- effect of each edge on each array. Order and repeats count for the visits and the bound.
-use Prim.Native.Nat.{ℕ, _+_, _-_, _*_}
+use Prim.Native.Nat.{ℕ, _+_, _-_}
 use mathlib.Core.Bool.{Bool, true, false, cond, not, _&&_, _||_}
 use mathlib.Core.List.{List, [], _∷_, _++_, map}
 use mathlib.Core.Option.{Option, none, some}
 use lib.Dec.{eqb, ltb}
 use Rattle.masks.specs.declared.Effect.{Effect}
-use Rattle.masks.specs.declared.Effect.the-variants.{Reference, Dim, Clear, Touched}
+use Rattle.masks.specs.declared.Effect.the-variants.{Reference, Dim, Reset, Touched}
+use Rattle.flow.specs.declared.Base.{Base}
+use Rattle.flow.specs.declared.Base.the-variants.{Zero, N}
 use Rattle.flow.specs.Flow.{Flow, Kind, Item, size}
-use Rattle.theory.specs.Lists.{any, has, select, upTo}
+use Rattle.theory.specs.Lists.{any, elem, select, upTo}
 use Rattle.theory.specs.Body.{kind, successors, references, continuationOf, entered, callees, isReturn, walked, opaqueCall, callTouches}
 use Rattle.theory.specs.Queue.{Arc, Graph}
-
--- base 0 and base n
-pub data Base : Type 0 where
-  zero n : Base
 
 -- a doubled number: a statement in base 0 or in base n. A statement number is no doubled number
 pub record Node : Type 0 where
@@ -24,16 +22,26 @@ pub record Node : Type 0 where
 abbrev pub at : Base → ℕ → Node
 at b i = record { base = b; stmt = i }
 
-abbrev pub offset : Flow → Base → ℕ
-offset f Base.zero = 0
-offset f Base.n = size f
+-- the doubled number as a number from 0 to 2 n - 1, and back: of n statements, and of a flow
 
--- the doubled number as a number from 0 to 2 n - 1
+abbrev pub offsetIn : ℕ → Base → ℕ
+offsetIn n Zero = 0
+offsetIn n N = n
+
+abbrev pub numberIn : ℕ → Node → ℕ
+numberIn n v = offsetIn n (v .base) + (v .stmt)
+
+abbrev pub nodeIn : ℕ → ℕ → Node
+nodeIn n d = cond (ltb d n) (at Zero d) (at N (d - n))
+
+abbrev pub offset : Flow → Base → ℕ
+offset f b = offsetIn (size f) b
+
 abbrev pub number : Flow → Node → ℕ
-number f v = offset f (v .base) + (v .stmt)
+number f v = numberIn (size f) v
 
 abbrev pub node : Flow → ℕ → Node
-node f d = cond (ltb d (size f)) (at Base.zero d) (at Base.n (d - size f))
+node f d = nodeIn (size f) d
 
 -- an edge: where it goes, and whether it is the edge to base + continuation of a call that is not opaque
 pub record Edge : Type 0 where
@@ -44,10 +52,10 @@ abbrev pub plain : Node → Edge
 plain v = record { to = v; continues = false }
 
 abbrev pub sameBase : Base → Base → Bool
-sameBase Base.zero Base.zero = true
-sameBase Base.zero Base.n = false
-sameBase Base.n Base.zero = false
-sameBase Base.n Base.n = true
+sameBase Zero Zero = true
+sameBase Zero N = false
+sameBase N Zero = false
+sameBase N N = true
 
 abbrev pub sameNode : Node → Node → Bool
 sameNode v w = sameBase (v .base) (w .base) && eqb (v .stmt) (w .stmt)
@@ -58,12 +66,12 @@ isSome (some j) k = eqb j k
 
 -- an opaque call with the continuation k that enters a body whose walk meets r
 unfoldable pub returnsTo : Flow → ℕ → ℕ → ℕ → Bool
-returnsTo f r k c = isSome (continuationOf (kind f c)) k && (opaqueCall f c && any (λ b. has r (walked f b)) (callees f c))
+returnsTo f r k c = isSome (continuationOf (kind f c)) k && (opaqueCall f c && any (λ b. elem r (walked f b)) (callees f c))
 
 -- RETURN: base 0 goes to the continuations of opaque calls that enter a body whose walk meets it, rising, each once; base n goes nowhere
 unfoldable pub returnEdges : Flow → Base → ℕ → List Edge
-returnEdges f Base.zero r = map (λ k. plain (at Base.zero k)) (select (λ k. any (returnsTo f r k) (upTo (size f))) (upTo (size f)))
-returnEdges f Base.n r = []
+returnEdges f Zero r = map (λ k. plain (at Zero k)) (select (λ k. any (returnsTo f r k) (upTo (size f))) (upTo (size f)))
+returnEdges f N r = []
 
 -- each target once, the first of its edges
 unfoldable pub once : List Edge → List Edge
@@ -75,8 +83,8 @@ once (e ∷ es) = e ∷ select (λ x. not (sameNode (x .to) (e .to))) (once es)
 unfoldable pub callEdges : Flow → Base → ℕ → ℕ → List Edge
 callEdges f b i k =
     once (map (λ v. record { to = v; continues = sameNode v (at b k) })
-    (map (at Base.n) (entered f i)
-    ++ (at b k ∷ map (at b) (select (λ j. not (has j (entered f i) || eqb j k)) (successors f i)))))
+    (map (at N) (entered f i)
+    ++ (at b k ∷ map (at b) (select (λ j. not (elem j (entered f i) || eqb j k)) (successors f i)))))
 
 -- all others: base + listed successors
 unfoldable pub listedEdges : Flow → Base → ℕ → List Edge
@@ -94,17 +102,27 @@ edges f v = edgesOf f (v .base) (v .stmt) (continuationOf (kind f (v .stmt)))
 abbrev pub dims : ℕ → Item → Bool
 dims a x = eqb (x .array) a && eqb (x .flag) 1
 
+-- CLR and RUN: every array becomes NONE
+abbrev pub resets : Kind → Bool
+resets Kind.other = false
+resets Kind.return = false
+resets Kind.clr = true
+resets Kind.run = true
+resets (Kind.dim items) = false
+resets (Kind.gosub l c) = false
+resets (Kind.onGosub ls c) = false
+
 unfoldable pub kindEffects : Kind → ℕ → List Effect
 kindEffects Kind.other a = []
 kindEffects Kind.return a = []
-kindEffects Kind.clr a = Clear ∷ []
-kindEffects Kind.run a = Clear ∷ []
+kindEffects Kind.clr a = Reset ∷ []
+kindEffects Kind.run a = Reset ∷ []
 kindEffects (Kind.dim items) a = cond (any (dims a) items) (Dim ∷ []) []
 kindEffects (Kind.gosub l c) a = []
 kindEffects (Kind.onGosub ls c) a = []
 
 unfoldable pub statementEffects : Flow → ℕ → ℕ → List Effect
-statementEffects f i a = cond (has a (references f i)) (Reference ∷ []) [] ++ kindEffects (kind f i) a
+statementEffects f i a = cond (elem a (references f i)) (Reference ∷ []) [] ++ kindEffects (kind f i) a
 
 -- the effect of an edge of statement i on array a: the statement's, then the touched step on the edge to base + continuation
 unfoldable pub edgeEffects : Flow → ℕ → Edge → ℕ → List Effect
@@ -121,7 +139,7 @@ unfoldable pub doubled : Flow → Graph
 doubled f = record {
   nodes = size f + size f;
   arrays = f .arrays;
-  entry = number f (at Base.zero (f .entry));
+  entry = number f (at Zero (f .entry));
   boundary = boundary f;
   arcs = arcsOf f;
 }

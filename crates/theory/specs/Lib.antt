@@ -1,11 +1,13 @@
 pub mod Lists
 pub mod Reach
 pub mod Body
-pub mod WellFormed
 pub mod Doubled
 pub mod Queue
 pub mod Walks
 pub mod Masks
+pub mod Computed
 pub mod Live
 pub mod Runs
+pub mod Listing
 pub mod Cases
+pub mod contracts

@@ -1,5 +1,5 @@
 -- Small functions on lists and on numbers below a bound that the other definitions are written with. Membership in a list is
--- `List·Memᴰ`, here called `In`; `has` is its test.
+-- `List·Memᴰ`, here called `In`; `elem` is its test.
 use Prim.Native.Nat.{ℕ, zero, suc, _+_}
 use mathlib.Core.Bool.{Bool, true, false, cond, not, _&&_, _||_}
 use mathlib.Core.List.{List, [], _∷_, _++_, List·Memᴰ}
@@ -14,9 +14,9 @@ unfoldable pub any : {A : Type 0} → (A → Bool) → List A → Bool
 any p [] = false
 any p (x ∷ xs) = p x || any p xs
 
-unfoldable pub has : ℕ → List ℕ → Bool
-has x [] = false
-has x (y ∷ ys) = eqb x y || has x ys
+unfoldable pub elem : ℕ → List ℕ → Bool
+elem x [] = false
+elem x (y ∷ ys) = eqb x y || elem x ys
 
 -- no number stands in the list twice
 pub data Distinct : List ℕ → Type 0 where
@@ -51,6 +51,10 @@ sumBelow (suc k) f = sumBelow k f + f k
 unfoldable pub allBelow : ℕ → (ℕ → Bool) → Bool
 allBelow zero p = true
 allBelow (suc k) p = allBelow k p && p k
+
+-- two functions have other values at some number below k
+abbrev pub differ : ℕ → (ℕ → ℕ) → (ℕ → ℕ) → Bool
+differ k f g = not (allBelow k (λ i. eqb (f i) (g i)))
 
 -- f with the value v at j
 unfoldable pub upd : {A : Type 0} → (ℕ → A) → ℕ → A → ℕ → A

@@ -1,12 +1,12 @@
 -- Live names, by walks over the listed graph: a name is live at a statement's start exactly when a walk from there reads it before any write. Document
 -- 01's equations follow (live-in is reads together with live-out less writes); alone they have other solutions, as a self loop with no read shows.
-use Prim.Native.Nat.{ℕ, zero, suc, _+_, _*_, _/_, _%_, _^_, _<_}
+use Prim.Native.Nat.{ℕ, _*_, _/_, _%_, _^_, _<_}
 use mathlib.Core.Bool.{Bool, true, false, cond, not, _&&_, _||_}
-use mathlib.Core.List.{List, [], _∷_, _++_}
+use mathlib.Core.List.{List, []}
 use mathlib.Core.Path.{_≡_}
 use lib.Dec.{eqb}
 use Rattle.flow.specs.Flow.{Flow, size, statement}
-use Rattle.theory.specs.Lists.{In, any, has, concatMap, select, upTo, sumBelow}
+use Rattle.theory.specs.Lists.{In, any, sumBelow}
 use Rattle.theory.specs.Reach.{reached}
 use Rattle.theory.specs.Body.{successors}
 
@@ -47,11 +47,11 @@ abbrev pub bitOf : Bool → ℕ
 bitOf b = cond b 1 0
 
 -- a set of names as a word: bit x is name x, below the number of names
-unfoldable pub wordOf : Flow → (ℕ → Bool) → ℕ
-wordOf f p = sumBelow (f .names) (λ x. bitOf (p x) * 2 ^ x)
+unfoldable pub namesWord : Flow → (ℕ → Bool) → ℕ
+namesWord f p = sumBelow (f .names) (λ x. bitOf (p x) * 2 ^ x)
 
 unfoldable pub liveInWord : Flow → ℕ → ℕ
-liveInWord f i = wordOf f (λ x. liveIn f x i)
+liveInWord f i = namesWord f (λ x. liveIn f x i)
 
 unfoldable pub liveOutWord : Flow → ℕ → ℕ
-liveOutWord f i = wordOf f (λ x. liveOut f x i)
+liveOutWord f i = namesWord f (λ x. liveOut f x i)

@@ -1,10 +1,10 @@
 -- Reachability over lists of next numbers: body walks and calls between bodies are instances of it. `Reach` is the definition; `reached`
 -- is the list that decides it for numbers below n.
 use Prim.Native.Nat.{ℕ, zero, suc, _+_}
-use mathlib.Core.Bool.{Bool, true, false, cond}
+use mathlib.Core.Bool.{true, false}
 use mathlib.Core.List.{List, [], _∷_, _++_}
 use lib.ListN.{length}
-use Rattle.theory.specs.Lists.{In, has, sumBelow}
+use Rattle.theory.specs.Lists.{In, elem, sumBelow}
 
 -- a walk of any length from e to i
 pub data Reach (next : ℕ → List ℕ) (e : ℕ) : ℕ → Type 0 where
@@ -16,7 +16,7 @@ unfoldable pub closure : ℕ → (ℕ → List ℕ) → List ℕ → List ℕ �
 closure zero next seen todo = seen
 closure (suc fuel) next seen [] = seen
 closure (suc fuel) next seen (x ∷ todo) =
-    elim (has x seen) [ true ↦ closure fuel next seen todo | false ↦ closure fuel next (x ∷ seen) (next x ++ todo) ]
+    elim (elem x seen) [ true ↦ closure fuel next seen todo | false ↦ closure fuel next (x ∷ seen) (next x ++ todo) ]
 
 -- each number is looked at once for each way to it, and once as the start
 unfoldable pub closureFuel : ℕ → (ℕ → List ℕ) → ℕ

@@ -6,7 +6,7 @@ use mathlib.Core.List.{List, [], _∷_}
 use mathlib.Core.Option.{Option, none, some}
 use mathlib.Core.Path.{_≡_}
 use Rattle.masks.specs.declared.Effect.{Effect}
-use Rattle.masks.specs.declared.Effect.the-variants.{None, Reference, Dim, Clear, Touched}
+use Rattle.masks.specs.declared.Effect.the-variants.{None, Reference, Dim, Reset, Touched}
 use Rattle.masks.specs.State.{State, referenced}
 use Rattle.flow.specs.Flow.{Flow, Kind, size}
 use Rattle.theory.specs.Lists.{In}
@@ -36,7 +36,7 @@ abbrev pub become : Effect → State → State
 become None s = s
 become Reference s = referenced s
 become Dim s = State.dimmed
-become Clear s = State.none
+become Reset s = State.none
 become Touched s = s
 
 unfoldable pub becomeAll : List Effect → State → State
@@ -71,7 +71,7 @@ empties (Kind.onGosub ls c) = false
 pub data Move (f : Flow) : Config → Config → Type 0 where
   next : {i j : ℕ} {s : ℕ → State} {k : List Frame} → goesOn (kind f i) ≡ true → In j (successors f i)
       → Move f (config i s k) (config j (act f i s) k)
-  clear : {i j : ℕ} {s : ℕ → State} {k : List Frame} → empties (kind f i) ≡ true → In j (successors f i)
+  reset : {i j : ℕ} {s : ℕ → State} {k : List Frame} → empties (kind f i) ≡ true → In j (successors f i)
       → Move f (config i s k) (config j (act f i s) [])
   gosub : {i e l : ℕ} {c : Option ℕ} {s : ℕ → State} {k : List Frame} → kind f i ≡ Kind.gosub l c → In e (entered f i)
       → Move f (config i s k) (config e (act f i s) (frameOf c ∷ k))

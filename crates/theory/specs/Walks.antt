@@ -1,6 +1,6 @@
 -- Walks of a graph that bring a state of an array to a number: "over all walks from the entry (arrays NONE there). The empty walk counts".
 -- An edge turns a state by its effects on the array, one after the other.
-use Prim.Native.Nat.{ℕ, _<_}
+use Prim.Native.Nat.{ℕ}
 use mathlib.Core.Bool.{true}
 use mathlib.Core.List.{List, [], _∷_}
 use mathlib.Core.Path.{_≡_}

@@ -14,8 +14,8 @@ use lib.Bits.{bitAnd, bitOr, or-shr, or-step, and-shr, and-step, and-mask}
 use lib.Count.{trailingZeros, under}
 use lib.Dec.{eqb}
 use lib.Pow.{pow-mono, pow-lt, pow-pos, shr-shr}
-use Rattle.words.specs.Row.{bit}
-use Rattle.words.specs.Change.{without}
+use Rattle.words.specs.contracts.Row.{bit}
+use Rattle.words.specs.contracts.Change.{without}
 
 pub bit-lt : (n k : ℕ) → bit n k < 2
 unfolding bit

@@ -12,9 +12,9 @@ use lib.Bits.{bitOr, or-shr, or-mod}
 use lib.ListN.{length, getD, length-set}
 use lib.Pow.{pow-pos, pow-add, shr-lt, shr-shr, shl-exact, split, high, low, field, mod-mod-pow}
 use lib.Seq.{getD-set-same, getD-set-other}
-use Rattle.words.specs.Row.{bit, has, Words}
-use Rattle.words.specs.Change.{unioned, ReadFirst}
-use Rattle.words.specs.Byte.{byteOf, byteAt, withByte, byteSet}
+use Rattle.words.specs.contracts.Row.{bit, has, Words}
+use Rattle.words.specs.contracts.Change.{unioned, ReadFirst}
+use Rattle.words.specs.contracts.Byte.{byteOf, byteAt, withByte, byteSet}
 use Rattle.words.proofs.Bit.{bit-shr, bit-mod}
 use Rattle.words.proofs.Row.{words-set}
 use Rattle.words.proofs.Unioned.{unioned-word}

@@ -10,8 +10,8 @@ use lib.Bits.{bitOr, or-lt}
 use lib.ListN.{length, getD, length-set}
 use lib.Pow.{pow-lt}
 use lib.Seq.{getD-set-same, getD-set-other}
-use Rattle.words.specs.Row.{bit, has, Words, members}
-use Rattle.words.specs.Change.{joined, inserted}
+use Rattle.words.specs.contracts.Row.{bit, has, Words, members}
+use Rattle.words.specs.contracts.Change.{joined, inserted}
 use Rattle.words.proofs.Bit.{bit-or, bit-pow-same, bit-pow-other}
 use Rattle.words.proofs.Tally.{tally-suc}
 use Rattle.words.proofs.Row.{has-lt, has-cong, words-set}

@@ -4,6 +4,6 @@ pub mod Row
 pub mod Inserted
 pub mod Rewritten
 pub mod Unioned
-pub mod Cleared
+pub mod Zeroed
 pub mod NextMember
 pub mod Bytes

@@ -1,7 +1,7 @@
 -- The next member of a row: numbers that are no members are passed over, a member is the answer, and what the answer means.
 -- By induction on the numbers that are left. Assumes nothing.
 use mathlib.Core.Path.{_≡_, refl, sym, ap, ap₂, _∙_, subst}
-use mathlib.Core.Bool.{Bool, true, false}
+use mathlib.Core.Bool.{Bool, true, false, cond}
 use mathlib.Core.List.{List}
 use Prim.Native.Nat.{ℕ, zero, suc, _+_, _-_, _*_, _/_, _%_, _^_, _≤_, _<_, zero-le, suc-le-suc, min}
 use native.Mathlib.Nat.{le-refl, lt-of-le-of-lt, zero-add, add-zero, suc-add, div-one}
@@ -12,7 +12,7 @@ use lib.Count.{trailingZeros}
 use lib.Dec.{eqb}
 use lib.ListN.{getD}
 use lib.Pow.{shr-lt, shr-le}
-use Rattle.words.specs.Row.{bit, has, pick, seek, nextMember, First}
+use Rattle.words.specs.contracts.Row.{bit, has, seek, nextMember, First}
 use Rattle.words.proofs.Bit.{bit-shr, bit-high, bit-of-zero, trailing-zero, trailing-one, trailing-lt}
 use Rattle.words.proofs.Row.{has-lt}
 
@@ -23,7 +23,7 @@ seek-skip ws base i (suc d) n h =
     let here : has ws base i ≡ 0 = ap (has ws base) (sym (add-zero i)) ∙ h 0 (suc-le-suc zero-le) in
     let on : i + 1 + d ≡ i + suc d = omega arith in
     ap (seek ws base i) (suc-add d n)
-    ∙ ap (λ (b : Bool). pick b i (seek ws base (i + 1) (d + n))) (ap (λ (x : ℕ). eqb x 1) here)
+    ∙ ap (λ (b : Bool). cond b i (seek ws base (i + 1) (d + n))) (ap (λ (x : ℕ). eqb x 1) here)
     ∙ seek-skip ws base (i + 1) d n (λ k l. subst (λ (x : ℕ). has ws base x ≡ 0) (omega arith) (h (suc k) (suc-le-suc l)))
     ∙ ap (λ (x : ℕ). seek ws base x n) on
 
@@ -40,7 +40,7 @@ pub next-here : (ws : List ℕ) (base i bound : ℕ) → has ws base i ≡ 1 →
 unfolding nextMember seek
 next-here ws base i bound h l =
     let left : bound - i ≡ suc (bound - (i + 1)) = omega arith in
-    ap (seek ws base i) left ∙ ap (λ (x : ℕ). pick (eqb x 1) i (seek ws base (i + 1) (bound - (i + 1)))) h
+    ap (seek ws base i) left ∙ ap (λ (x : ℕ). cond (eqb x 1) i (seek ws base (i + 1) (bound - (i + 1)))) h
 
 -- at the bound or past it the search stays where it is
 pub next-past : (ws : List ℕ) (base i bound : ℕ) → bound ≤ i → nextMember ws base i bound ≡ i
@@ -56,7 +56,7 @@ sought ws base i zero =
 sought ws base i (suc n) = at (sought ws base (i + 1) n) (eqb (has ws base i) 1) refl
   where
     at : First ws base (i + 1) (i + 1 + n) (seek ws base (i + 1) n) → (b : Bool) → eqb (has ws base i) 1 ≡ b
-        → First ws base i (i + suc n) (pick b i (seek ws base (i + 1) n))
+        → First ws base i (i + suc n) (cond b i (seek ws base (i + 1) n))
     at rest true e =
         record { low = le-refl i; high = omega arith; none = λ j a b. absurd (omega arith); member = λ l. eqb-true (has ws base i) 1 e }
     at rest false e =

@@ -12,8 +12,8 @@ use borrow.Author.Tests.{eq-eqb, eqb-true, not-false}
 use lib.ListN.{length, getD, set, length-set}
 use lib.Dec.{eqb}
 use lib.Seq.{getD-set-same, getD-set-other, ext-getD}
-use Rattle.words.specs.Row.{has, Words, members}
-use Rattle.words.specs.Change.{rewritten, differs}
+use Rattle.words.specs.contracts.Row.{has, Words, members}
+use Rattle.words.specs.contracts.Change.{rewritten, differs}
 use Rattle.words.proofs.Bit.{bits-below}
 use Rattle.words.proofs.Tally.{tally-mono, tally-eq}
 use Rattle.words.proofs.Row.{has-word, words-set}

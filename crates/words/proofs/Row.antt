@@ -8,7 +8,7 @@ use native.Mathlib.Omega.{arith}
 use lib.ListN.{length, getD, set}
 use lib.Count.{ones}
 use lib.Seq.{getD-set-same, getD-set-other, set-out}
-use Rattle.words.specs.Row.{bit, has, Words, tally, members}
+use Rattle.words.specs.contracts.Row.{bit, has, Words, tally, members}
 use Rattle.words.proofs.Bit.{bit-lt}
 use Rattle.words.proofs.Tally.{tally-cong, tally-le, tally-add, ones-tally}
 

@@ -10,8 +10,8 @@ use native.Mathlib.Omega.{arith}
 use lib.Bits.{bitOr, or-lt}
 use lib.ListN.{length, getD}
 use lib.Dec.{eqb}
-use Rattle.words.specs.Row.{bit, has, Words, members}
-use Rattle.words.specs.Change.{joined, Joined, Unioned, rewritten, unioned, ReadFirst, differs}
+use Rattle.words.specs.contracts.Row.{bit, has, Words, members}
+use Rattle.words.specs.contracts.Change.{joined, Joined, Unioned, rewritten, unioned, ReadFirst, differs}
 use Rattle.words.proofs.Bit.{bit-or}
 use Rattle.words.proofs.Tally.{tally-cong, tally-mono}
 use Rattle.words.proofs.Inserted.{length-joined, joined-word, joined-other}

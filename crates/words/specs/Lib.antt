@@ -1,3 +1,1 @@
-pub mod Row
-pub mod Change
-pub mod Byte
+pub mod contracts

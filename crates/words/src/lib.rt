@@ -4,9 +4,9 @@ ghost use mathlib.Core.Path.{_≡_};
 ghost use Prim.Native.Nat.{_+_, _-_, _*_, _/_, _^_, _≤_, _<_, min};
 ghost use lib.Dec.{eqb};
 ghost use lib.ListN.{length};
-ghost use Rattle.words.specs.Row.{has, members, nextMember};
-ghost use Rattle.words.specs.Change.{Joined, Inserted, Unioned, cleared, without};
-ghost use Rattle.words.specs.Byte.{byteAt, byteSet};
+ghost use Rattle.words.specs.contracts.Row.{has, members, nextMember};
+ghost use Rattle.words.specs.contracts.Change.{Joined, Inserted, Unioned, zeroed, without};
+ghost use Rattle.words.specs.contracts.Byte.{byteAt, byteSet};
 
 pub fn contains(ws: &[u64], base: usize, i: usize) -> bool
     requires { ⌜ base + i / 64 < length (now ws) ⌝ }
@@ -57,9 +57,9 @@ pub fn difference(a: u64, b: u64) -> u64
     a & !b
 }
 
-pub fn clear(ws: &mut [u64], base: usize, width: usize)
+pub fn zero_row(ws: &mut [u64], base: usize, width: usize)
     requires { ⌜ base + width ≤ length (now ws) ⌝ }
-    ensures { λ _. ⌜ now (ws .exit) ≡ cleared (now (ws .entry)) base width ⌝ }
+    ensures { λ _. ⌜ now (ws .exit) ≡ zeroed (now (ws .entry)) base width ⌝ }
 {
     let mut k = 0;
     while k < width {

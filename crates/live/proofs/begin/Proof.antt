@@ -23,13 +23,13 @@ mul-live-in : tie.Need-mul-live-in Inv-loop μ-loop
 mul-live-in c = omega (arith, c .before .loop .inv .low, ready-most (c .before .before .before .before .before .before .pre .ready))
 
 slice-write-live-in : tie.Need-slice-write-live-in Inv-loop μ-loop
-slice-write-live-in c = omega (arith, c .before .loop .inv .low, c .before .loop .inv .ins-clear .area .size, c .before .before .before .before .before .before .pre .in-room)
+slice-write-live-in c = omega (arith, c .before .loop .inv .low, c .before .loop .inv .ins-zero .area .size, c .before .before .before .before .before .before .pre .in-room)
 
 mul-live-out : tie.Need-mul-live-out Inv-loop μ-loop
 mul-live-out c = omega (arith, c .before .loop .inv .low, ready-most (c .before .before .before .before .before .before .pre .ready))
 
 slice-write-live-out : tie.Need-slice-write-live-out Inv-loop μ-loop
-slice-write-live-out c = omega (arith, c .before .loop .inv .low, c .before .loop .inv .outs-clear .area .size, c .before .before .before .before .before .before .pre .out-room)
+slice-write-live-out c = omega (arith, c .before .loop .inv .low, c .before .loop .inv .outs-zero .area .size, c .before .before .before .before .before .before .pre .out-room)
 
 note-predecessors-requires : tie.Need-note-predecessors-requires Inv-loop μ-loop
 note-predecessors-requires c κs =
@@ -60,10 +60,10 @@ same-length : tie.Need-same-length Inv-loop μ-loop
 same-length c = c .before .loop .inv .kept .size
 
 same-length-2 : tie.Need-same-length-2 Inv-loop μ-loop
-same-length-2 c = c .before .loop .inv .ins-clear .area .size
+same-length-2 c = c .before .loop .inv .ins-zero .area .size
 
 same-length-3 : tie.Need-same-length-3 Inv-loop μ-loop
-same-length-3 c = c .before .loop .inv .outs-clear .area .size
+same-length-3 c = c .before .loop .inv .outs-zero .area .size
 
 returns : tie.Need-returns Inv-loop μ-loop
 returns c = beginning-all (c .before .loop .inv) (omega arith)

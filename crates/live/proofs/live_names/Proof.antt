@@ -4,14 +4,14 @@ use Prim.Native.Nat.{_+_}
 use mathlib.Core.Path.{_∙_}
 use native.Mathlib.Omega.{arith}
 use Rattle.flow.specs.Format.{flowOf}
-use Rattle.live.specs.Spread.{missing}
-use Rattle.live.specs.LiveNames.{Begun}
+use Rattle.live.specs.contracts.Spread.{missing}
+use Rattle.live.specs.contracts.LiveNames.{AllWaiting}
 use Rattle.live.proofs.Finishing.{begun-here, begun-more, begun-ready, finished}
 use Rattle.live.proofs.live_names.Statement.{statement}
 use Rattle.live.proofs.live_names.Tie as tie
 
 abbrev Inv-loop : tie.InvT-loop
-Inv-loop file work₀ live-in₀ live-out₀ n queue₀ work live-in live-out queue = Begun (flowOf file) n work₀ work live-in₀ live-in live-out₀ live-out queue
+Inv-loop file work₀ live-in₀ live-out₀ n queue₀ work live-in live-out queue = AllWaiting (flowOf file) n work₀ work live-in₀ live-in live-out₀ live-out queue
 
 abbrev μ-loop : tie.MeasureT-loop
 μ-loop file work₀ live-in₀ live-out₀ n queue₀ work live-in live-out queue = queue .len + missing live-out n

@@ -5,7 +5,7 @@ use native.Mathlib.Omega.{arith}
 use mathlib.Core.Path.{ap, _∙_}
 use Rattle.flow.specs.Format.{flowOf}
 use Rattle.theory.specs.Body.{successors}
-use Rattle.statements.specs.Layout.{rowAt}
+use Rattle.statements.specs.contracts.Layout.{rowAt}
 use Rattle.statements.proofs.Keeps.{ready-keeps, ready-most, ready-room}
 use Rattle.statements.proofs.WorkArea.{row-fits, member-word}
 use Rattle.live.proofs.Facts.{target-in}
@@ -14,7 +14,7 @@ use Rattle.live.proofs.note_predecessors.Statement.{statement}
 use Rattle.live.proofs.note_predecessors.Tie as tie
 
 abbrev Inv-loop : tie.InvT-loop
-Inv-loop file work₀ n i count k₀ work k = Noting (successors (flowOf file) i) work₀ work n i k
+Inv-loop file work₀ n i count k₀ work k = Noting (successors (flowOf file) (i .0)) work₀ work n (i .0) k
 
 abbrev μ-loop : tie.MeasureT-loop
 μ-loop file work₀ n i count k₀ work k = count - k
@@ -33,13 +33,13 @@ successor-requires c κs =
 row-requires : tie.Need-row-requires Inv-loop μ-loop
 row-requires c κs =
     let start = c .before .before .before .before .before .before .before .before .before in
-    (ready-most (start .pre .0), omega (arith, c .before .successor .ensures, target-in (start .pre .0) (start .args .i) (c .before .before .before .before .loop .k) (omega arith)))
+    (ready-most (start .pre .0), omega (arith, c .before .successor .ensures, target-in (start .pre .0) (start .args .i .0) (c .before .before .before .before .loop .k) (omega arith)))
 
 insert-requires : tie.Need-insert-requires Inv-loop μ-loop
 insert-requires c κs =
     let start = c .before .before .before .before .before .before .before .before .before .before in
     let k = c .before .before .before .before .before .loop .k in
-    let short = target-in (start .pre .0) (start .args .i) k (omega arith) in
+    let short = target-in (start .pre .0) (start .args .i .0) k (omega arith) in
     let place = c .row .ensures ∙ ap (rowAt (start .args .n)) (c .before .before .successor .ensures) in
     omega (arith, row-fits (start .args .n) short, member-word (start .pre .1), ready-room (start .pre .0) (omega arith), c .before .before .before .before .before .loop .inv .kept .size)
 
@@ -55,7 +55,7 @@ loop-again c =
     let inv = c .before .before .before .before .before .before .before .before .loop .inv in
     let k = c .before .before .before .before .before .before .before .before .loop .k in
     let place = c .before .before .before .row .ensures ∙ ap (rowAt (start .args .n)) (c .before .before .before .before .before .successor .ensures) in
-    noting-more inv (omega arith) (start .pre .1) (target-in (start .pre .0) (start .args .i) k (omega arith))
+    noting-more inv (omega arith) (start .pre .1) (target-in (start .pre .0) (start .args .i .0) k (omega arith))
     (omega (arith, ready-room (start .pre .0) (omega arith), inv .kept .size))
     place
     (c .before .before .insert .ensures)

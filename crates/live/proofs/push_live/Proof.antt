@@ -9,10 +9,10 @@ use Rattle.live.proofs.push_live.Statement.{statement}
 use Rattle.live.proofs.push_live.Tie as tie
 
 abbrev Inv-loop : tie.InvT-loop
-Inv-loop work₀ live-out₀ n j live row queue₀ i₀ work live-out queue i = Pushing work₀ work live-out₀ live-out n queue₀ queue j live i
+Inv-loop work₀ live-out₀ n live row queue₀ i₀ work live-out queue i = Pushing work₀ work live-out₀ live-out n queue₀ queue row live i
 
 abbrev μ-loop : tie.MeasureT-loop
-μ-loop work₀ live-out₀ n j live row queue₀ i₀ work live-out queue i = n - i
+μ-loop work₀ live-out₀ n live row queue₀ i₀ work live-out queue i = n - i
 
 row-requires : tie.Need-row-requires Inv-loop μ-loop
 row-requires c κs = omega arith
@@ -23,7 +23,7 @@ next-requires c κs =
     row-room (c .before .row .ensures) (start .pre .3) (start .pre .1)
 
 loop-holds : tie.Need-loop-holds Inv-loop μ-loop
-loop-holds c = pushing-none (c .before .before .row .ensures) (c .next .ensures)
+loop-holds c = pushing-none (c .next .ensures)
 
 push-to-requires : tie.Need-push-to-requires Inv-loop μ-loop
 push-to-requires c κs =
@@ -59,7 +59,7 @@ same-length-2 : tie.Need-same-length-2 Inv-loop μ-loop
 same-length-2 c = c .before .loop .inv .size
 
 returns : tie.Need-returns Inv-loop μ-loop
-returns c = pushing-all (c .before .loop .inv) (omega arith)
+returns c = pushing-all (c .before .before .before .before .row .ensures) (c .before .loop .inv) (omega arith)
 
 pub push-live-spec : {M : Type 1} → statement M
 push-live-spec =

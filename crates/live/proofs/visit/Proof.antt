@@ -3,7 +3,7 @@
 use mathlib.Core.Path.{_∙_, ap, ap₂}
 use native.Mathlib.Omega.{arith}
 use lib.Bits.{bitOr}
-use Rattle.words.specs.Change.{without}
+use Rattle.words.specs.contracts.Change.{without}
 use Rattle.statements.proofs.Keeps.{ready-most, ready-room}
 use Rattle.live.proofs.Visits.{rest-ready, taken-small, taken-held, visited}
 use borrow.Author.Needs.{needs}

@@ -1,10 +1,10 @@
 -- `call_line` meets its contract, by the kind that was read: the lines of a call lie within its record (`call-line-fits`).
 -- Assumes nothing.
 use borrow.Author.Needs.{needs}
-use Rattle.flow.specs.Fields.{callLineAt}
+use Rattle.records.specs.contracts.Fields.{callLineAt}
 use Rattle.flow.specs.Format.{kindAt, dataPlace}
 use borrow.Author.Tests.{ne-eqb}
-use Rattle.flow.proofs.Records.{call-line-fits}
+use Rattle.records.proofs.KindData.{call-line-fits}
 use denote.Ref.{now}
 use lib.ListN.{length}
 use Prim.Native.Nat.{_+_, _*_, _≤_}

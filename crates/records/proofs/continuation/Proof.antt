@@ -1,10 +1,11 @@
 -- `continuation` meets its contract: the two bytes that end a call's record are its continuation (`continuation-ends`).
 -- Assumes nothing.
 use borrow.Author.Needs.{needs}
-use Rattle.flow.specs.Fields.{continuationTo}
+use Rattle.records.specs.contracts.Fields.{continuationTo}
 use Rattle.flow.specs.Format.{u16At, recordEnd}
 use borrow.Author.Tests.{ne-eqb}
-use Rattle.flow.proofs.Records.{end-fits, data-before-end, continuation-none, continuation-ends}
+use Rattle.flow.proofs.Records.{end-fits, data-before-end}
+use Rattle.records.proofs.KindData.{continuation-none, continuation-ends}
 use denote.Ref.{now}
 use Prim.Native.Nat.{_-_}
 use mathlib.Core.Path.{_≡_, refl, sym, ap}

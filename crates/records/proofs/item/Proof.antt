@@ -1,7 +1,7 @@
 -- `item` meets its contract: only a DIM has items, and they lie within its record (`item-fits`).
 -- Assumes nothing.
 use borrow.Author.Needs.{needs}
-use Rattle.flow.proofs.Records.{item-fits}
+use Rattle.records.proofs.KindData.{item-fits}
 use native.Mathlib.Omega.{arith}
 use Rattle.records.proofs.item.Statement.{statement}
 use Rattle.records.proofs.item.Tie as tie

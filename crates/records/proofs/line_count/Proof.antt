@@ -2,9 +2,9 @@
 -- Assumes nothing.
 use borrow.Author.Needs.{needs}
 use borrow.Author.Tests.{ne-eqb}
-use Rattle.flow.specs.Fields.{callLineCount}
+use Rattle.records.specs.contracts.Fields.{callLineCount}
 use Rattle.flow.proofs.Records.{end-is, end-fits}
-use Rattle.flow.specs.Format.{kindAt, dataCount}
+use Rattle.flow.specs.Format.{kindAt}
 use denote.Ref.{now}
 use mathlib.Core.Path.{_≡_}
 use native.Mathlib.Omega.{arith}

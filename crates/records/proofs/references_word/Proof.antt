@@ -4,7 +4,7 @@ use borrow.Author.Needs.{needs}
 use denote.Ref.{now}
 use lib.ListN.{length}
 use native.Mathlib.Numerals.{add-one}
-use Rattle.flow.specs.Fields.{wordOf}
+use Rattle.records.specs.contracts.Fields.{setWord}
 use Rattle.flow.specs.Format.{referenceAt, referenceCount, referencesPlace}
 use Prim.Native.Nat.{_+_, _-_, _≤_}
 use mathlib.Core.Path.{_≡_, refl, ap, _∙_}
@@ -14,7 +14,7 @@ use Rattle.records.proofs.references_word.Statement.{statement}
 use Rattle.records.proofs.references_word.Tie as tie
 
 abbrev Inv-loop : tie.InvT-loop
-Inv-loop file p w at n word₀ k₀ word k = (k ≤ n) × (word ≡ wordOf k (referenceAt file p) w)
+Inv-loop file p w at n word₀ k₀ word k = (k ≤ n) × (word ≡ setWord k (referenceAt file p) w)
 
 abbrev μ-loop : tie.MeasureT-loop
 μ-loop file p w at n word₀ k₀ word k = n - k
@@ -34,7 +34,7 @@ u8-at-requires : tie.Need-u8-at-requires Inv-loop μ-loop
 u8-at-requires c κs = omega (arith, references-fit (c .before .before .pre))
 
 loop-holds : tie.Need-loop-holds Inv-loop μ-loop
-unfolding wordOf
+unfolding setWord
 loop-holds c = (omega arith, refl)
 
 add-u8-at : tie.Need-add-u8-at Inv-loop μ-loop
@@ -56,13 +56,13 @@ loop-less : tie.Need-loop-less Inv-loop μ-loop
 loop-less c = omega arith
 
 loop-again : tie.Need-loop-again Inv-loop μ-loop
-unfolding wordOf
+unfolding setWord
 loop-again c = (omega arith, rw add-one (cc))
 
 returns : tie.Need-returns Inv-loop μ-loop
 returns c = let a = c .before .before .before .before .before .args in
     let all : c .before .loop .k ≡ referenceCount (now (a .file)) (a .p) = omega (arith, count (c .before .before)) in
-    c .before .loop .inv .1 ∙ ap (λ k. wordOf k (referenceAt (now (a .file)) (a .p)) (a .w)) all
+    c .before .loop .inv .1 ∙ ap (λ k. setWord k (referenceAt (now (a .file)) (a .p)) (a .w)) all
 
 pub references-word-spec : {M : Type 1} → statement M
 references-word-spec =

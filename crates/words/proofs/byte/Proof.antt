@@ -2,7 +2,7 @@
 -- Assumes nothing.
 use mathlib.Core.Path.{refl}
 use borrow.Author.Needs.{needs}
-use Rattle.words.specs.Byte.{byteOf, byteAt}
+use Rattle.words.specs.contracts.Byte.{byteOf, byteAt}
 use Rattle.words.proofs.byte.Statement.{statement}
 use Rattle.words.proofs.byte.Tie as tie
 

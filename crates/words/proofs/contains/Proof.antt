@@ -2,7 +2,7 @@
 -- Assumes nothing.
 use mathlib.Core.Path.{refl}
 use borrow.Author.Needs.{needs}
-use Rattle.words.specs.Row.{bit, has}
+use Rattle.words.specs.contracts.Row.{bit, has}
 use Rattle.words.proofs.contains.Statement.{statement}
 use Rattle.words.proofs.contains.Tie as tie
 

@@ -5,7 +5,7 @@ use Prim.Native.Nat.{_+_, _-_, _≤_}
 use native.Mathlib.Omega.{arith}
 use borrow.Author.Needs.{needs}
 use lib.Count.{ones-le}
-use Rattle.words.specs.Row.{tally, members}
+use Rattle.words.specs.contracts.Row.{tally, members}
 use Rattle.words.proofs.Row.{members-le, members-suc}
 use Rattle.words.proofs.count.Statement.{statement}
 use Rattle.words.proofs.count.Tie as tie

@@ -9,8 +9,8 @@ use denote.Ref.{now}
 use lib.Bits.{bitOr}
 use lib.Dec.{eqb}
 use lib.ListN.{getD}
-use Rattle.words.specs.Row.{has}
-use Rattle.words.specs.Change.{joined, inserted}
+use Rattle.words.specs.contracts.Row.{has}
+use Rattle.words.specs.contracts.Change.{joined, inserted}
 use Rattle.words.proofs.Bit.{one-shl, or-changes}
 use Rattle.words.proofs.insert.Statement.{statement}
 use Rattle.words.proofs.insert.Tie as tie

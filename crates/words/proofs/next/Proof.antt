@@ -8,7 +8,7 @@ use borrow.Author.Needs.{needs}
 use denote.Ref.{now}
 use lib.Count.{trailing-le}
 use lib.Dec.{lit<}
-use Rattle.words.specs.Row.{bit, has, nextMember}
+use Rattle.words.specs.contracts.Row.{bit, has, nextMember}
 use Rattle.words.proofs.NextMember.{next-past, next-here, next-word, next-bit}
 use Rattle.words.proofs.next.Statement.{statement}
 use Rattle.words.proofs.next.Tie as tie

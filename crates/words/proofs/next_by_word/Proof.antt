@@ -1,14 +1,14 @@
 -- `words::next_by_word` meets its contract. The invariant: the next member from the first word on is the next one from word k on. A word that is zero is
 -- passed over, and the lowest bit of one that is not is the answer. Assumes nothing.
 use mathlib.Core.Path.{_≡_, refl, sym, ap, _∙_}
-use Prim.Native.Nat.{ℕ, _+_, _-_, _*_, _/_, min}
+use Prim.Native.Nat.{ℕ, _+_, _-_, _*_, min}
 use native.Mathlib.Nat.{le-refl, lt-of-le-of-lt}
 use native.Mathlib.Omega.{arith}
 use borrow.Author.Needs.{needs}
 use denote.Ref.{now}
 use lib.Count.{trailing-le}
 use lib.Dec.{lit<}
-use Rattle.words.specs.Row.{nextMember}
+use Rattle.words.specs.contracts.Row.{nextMember}
 use Rattle.words.proofs.NextMember.{next-past, next-zero-word, next-whole-bit}
 use Rattle.words.proofs.next_by_word.Statement.{statement}
 use Rattle.words.proofs.next_by_word.Tie as tie

@@ -6,7 +6,7 @@ use native.Mathlib.Omega.{arith}
 use borrow.Author.Needs.{needs}
 use denote.Ref.{now}
 use lib.ListN.{getD, set}
-use Rattle.words.specs.Byte.{byteSet}
+use Rattle.words.specs.contracts.Byte.{byteSet}
 use Rattle.words.proofs.Bytes.{withByte-lt, withByte-taken, withByte-put}
 use Rattle.words.proofs.set_byte.Statement.{statement}
 use Rattle.words.proofs.set_byte.Tie as tie

@@ -4,7 +4,7 @@ use mathlib.Core.Path.{_≡_, ap, _∙_}
 use Prim.Native.Nat.{_-_}
 use native.Mathlib.Omega.{arith}
 use borrow.Author.Needs.{needs}
-use Rattle.words.specs.Change.{unioned, differs}
+use Rattle.words.specs.contracts.Change.{unioned, differs}
 use Rattle.words.proofs.Unioned.{Joining, joining-none, joining-more}
 use Rattle.words.proofs.union.Statement.{statement}
 use Rattle.words.proofs.union.Tie as tie

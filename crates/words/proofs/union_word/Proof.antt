@@ -2,7 +2,7 @@
 -- Assumes nothing.
 use mathlib.Core.Path.{refl}
 use borrow.Author.Needs.{needs}
-use Rattle.words.specs.Change.{joined}
+use Rattle.words.specs.contracts.Change.{joined}
 use Rattle.words.proofs.union_word.Statement.{statement}
 use Rattle.words.proofs.union_word.Tie as tie
 

@@ -1,72 +1,45 @@
--- `edge` meets its contract: a number below n is a statement in base 0, and the others are those in base n.
+-- `edge` meets its contract: the number is taken apart into a copy and its statement, and the edges are theirs.
 -- Assumes nothing.
-use Prim.Native.Nat.{ℕ, _-_}
-use mathlib.Core.Path.{_≡_, refl, sym, ap, ap₂, _∙_, subst}
-use native.Mathlib.Omega.{arith}
+use Prim.Native.Nat.{ℕ, _<_}
+use mathlib.Core.Path.{_≡_, sym, ap, _∙_, subst}
+use borrow.Author.Needs.{needs}
 use denote.Ref.{now}
 use lib.ListN.{drop}
 use Rattle.flow.specs.Format.{flowOf}
-use Rattle.theory.specs.Doubled.{Base, Node, at, node, offset}
+use Rattle.theory.specs.Doubled.{Node, at, node, nodeIn}
+use Rattle.statements.proofs.Copies.{node-below}
 use Rattle.statements.proofs.Keeps.{ready-size}
-use Rattle.calls.specs.Held.{EnteredRow}
-use Rattle.calls.specs.Slots.{slots, edgeFrom, copyOf}
-use Rattle.calls.proofs.Found.{node-low, node-high, copy-n}
+use Rattle.calls.specs.contracts.Held.{EnteredRow}
+use Rattle.calls.specs.contracts.Slots.{slots, edgeFrom}
 use Rattle.calls.proofs.edges.edge.Statement.{statement}
 use Rattle.calls.proofs.edges.edge.Tie as tie
 
-low : (c : tie.Then1) → let a = c .before .before .before .args in node (flowOf (now (a .file))) (a .d .0) ≡ at Base.zero (a .d .0)
-low c =
+-- the copy is the node of the flow
+is-node : (c : tie.After-copy-of) → let a = c .before .before .before .args in at (c .copy-of .result .base) (c .copy-of .result .stmt .0) ≡ node (flowOf (now (a .file))) (a .d .0)
+is-node c =
     let start = c .before .before .before in
-    let a = start .args in
-    node-low (flowOf (now (a .file))) (a .d .0) (omega (arith, ready-size (start .pre .0)))
+    c .copy-of .ensures ∙ sym (ap (λ (n : ℕ). nodeIn n (start .args .d .0)) (ready-size (start .pre .0 .ready)))
 
-high : (c : tie.Else1) → let a = c .before .before .before .args in node (flowOf (now (a .file))) (a .d .0) ≡ at (copyOf (a .h .statements)) (a .d .0 - a .h .statements)
-high c =
-    let start = c .before .before .before in
-    let a = start .args in
-    let z = ready-size (start .pre .0) in
-    node-high (flowOf (now (a .file))) (a .d .0) (omega arith)
-    ∙ ap₂ at (sym (copy-n (a .h .statements) (omega arith))) (ap (λ (m : ℕ). a .d .0 - m) z)
+copy-of-requires : tie.Need-copy-of-requires
+copy-of-requires c κs = search needs
 
 edge-of-requires : tie.Need-edge-of-requires
 edge-of-requires c κs =
-    let start = c .before .before .before in
+    let start = c .before .before .before .before in
     let a = start .args in
-    let p = start .pre in (
+    let p = start .pre in
+    let n = a .h .statements in (
       p .0,
       p .1,
-      p .2,
-      c .if1 .taken,
-      refl,
-      subst (λ (v : Node). EnteredRow (flowOf (now (a .file))) (now (a .work)) (a .h .statements) (v .stmt)) (low c) (p .4),
+      subst (λ (v : Node). v .stmt < n) (sym (c .before .copy-of .ensures)) (node-below n (a .d .0) (p .2)),
+      subst (λ (v : Node). EnteredRow (flowOf (now (a .file))) (now (a .work)) n (v .stmt)) (sym (is-node (c .before))) (p .3),
     )
 
 returns : tie.Need-returns
 returns c =
-    let a = c .before .before .before .before .args in
+    let a = c .before .before .before .before .before .args in
     let f = flowOf (now (a .file)) in
-    c .edge-of .ensures ∙ sym (ap (λ (v : Node). edgeFrom f (drop (a .cursor) (slots f v)) (a .cursor)) (low (c .before)))
-
-edge-of-requires-2 : tie.Need-edge-of-requires-2
-edge-of-requires-2 c κs =
-    let start = c .before .before .before in
-    let a = start .args in
-    let p = start .pre in
-    let f = flowOf (now (a .file)) in
-    let n = a .h .statements in (
-      p .0,
-      p .1,
-      p .2,
-      omega arith,
-      ap (offset f) (copy-n n (omega arith)) ∙ ready-size (p .0),
-      subst (λ (v : Node). EnteredRow f (now (a .work)) n (v .stmt)) (high c) (p .4),
-    )
-
-returns-2 : tie.Need-returns-2
-returns-2 c =
-    let a = c .before .before .before .before .args in
-    let f = flowOf (now (a .file)) in
-    c .edge-of2 .ensures ∙ sym (ap (λ (v : Node). edgeFrom f (drop (a .cursor) (slots f v)) (a .cursor)) (high (c .before)))
+    c .edge-of .ensures ∙ ap (λ (v : Node). edgeFrom f (drop (a .cursor) (slots f v)) (a .cursor)) (is-node (c .before .before))
 
 pub edge-spec : {M : Type 1} → statement M
-edge-spec = tie.close (tie.spec edge-of-requires returns edge-of-requires-2 returns-2)
+edge-spec = tie.close (tie.spec copy-of-requires edge-of-requires returns)

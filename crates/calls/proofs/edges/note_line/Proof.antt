@@ -6,7 +6,7 @@ use native.Mathlib.Omega.{arith}
 use borrow.Author.Needs.{needs}
 use denote.Ref.{now}
 use lib.ListN.{getD}
-use Rattle.words.specs.Change.{Inserted}
+use Rattle.words.specs.contracts.Change.{Inserted}
 use Rattle.flow.specs.Flow.{enters}
 use Rattle.flow.specs.Format.{flowOf}
 use Rattle.theory.specs.Body.{kind, callLines}
@@ -28,14 +28,14 @@ below : (c : tie.After-b) → c .b .given .0 .0 .0 < c .before .before .before .
 below c =
     let start = c .before .before .before .before .before .before in
     let a = start .args in
-    let ready = start .pre .0 in
-    ready-below ready (ready-formed ready .first (getD (callLines (kind (flowOf (now (a .file))) (a .i))) (a .l) 0) (c .b .given .0 .0 .0) (enters-at _ _ (sym (c .before .before .entered .ensures) ∙ c .b .given .1)))
+    let ready = start .pre .0 .ready in
+    ready-below ready (ready-formed ready .first (getD (callLines (kind (flowOf (now (a .file))) (a .i .0))) (a .l) 0) (c .b .given .0 .0 .0) (enters-at _ _ (sym (c .before .before .entered .ensures) ∙ c .b .given .1)))
 
-entered-requires-2 : tie.Need-entered-requires-2
-entered-requires-2 c κs = ready-most (c .before .before .before .before .before .before .before .before .pre .0)
+entered-row-requires : tie.Need-entered-row-requires
+entered-row-requires c κs = ready-most (c .before .before .before .before .before .before .before .before .pre .0 .ready)
 
 insert-requires : tie.Need-insert-requires
-insert-requires c κs = omega (arith, entered-word (c .before .before .before .before .before .before .before .before .before .pre .0) (below (c .before .before .before)), c .entered2 .ensures)
+insert-requires c κs = omega (arith, entered-word (c .before .before .before .before .before .before .before .before .before .pre .0 .ready) (below (c .before .before .before)), c .entered-row .ensures)
 
 enum-told : tie.Need-enum-told
 enum-told c = search needs
@@ -49,9 +49,9 @@ returns c =
     let a = start .args in
     let f = flowOf (now (a .file)) in
     let turn = c .before .before .before .before .before .before in
-    adds-entered (λ bs. bs) (enters f (getD (callLines (kind f (a .i))) (a .l) 0)) (sym (turn .before .before .entered .ensures) ∙ turn .b .given .1)
-    (adds-insert (subst (λ (at : ℕ). Inserted (now (a .work)) (c .before .before .insert .last .0) at (turn .b .given .0 .0 .0) (c .before .before .insert .result)) (c .before .before .before .entered2 .ensures) (c .before .before .insert .ensures))
-    (below turn) (entered-room (start .pre .0) (start .pre .2)))
+    adds-entered (λ bs. bs) (enters f (getD (callLines (kind f (a .i .0))) (a .l) 0)) (sym (turn .before .before .entered .ensures) ∙ turn .b .given .1)
+    (adds-insert (subst (λ (at : ℕ). Inserted (now (a .work)) (c .before .before .insert .last .0) at (turn .b .given .0 .0 .0) (c .before .before .insert .result)) (c .before .before .before .entered-row .ensures) (c .before .before .insert .ensures))
+    (below turn) (entered-room (start .pre .0 .ready) (start .pre .1)))
 
 same-length-2 : tie.Need-same-length-2
 same-length-2 c = search needs
@@ -60,7 +60,7 @@ returns-2 : tie.Need-returns-2
 returns-2 c =
     let a = c .before .before .before .before .before .before .args in
     let f = flowOf (now (a .file)) in
-    adds-nothing (λ bs. bs) (enters f (getD (callLines (kind f (a .i))) (a .l) 0)) (sym (c .before .before .entered .ensures) ∙ c .enum-told .given .1) refl
+    adds-nothing (λ bs. bs) (enters f (getD (callLines (kind f (a .i .0))) (a .l) 0)) (sym (c .before .before .entered .ensures) ∙ c .enum-told .given .1) refl
 
 pub note-line-spec : {M : Type 1} → statement M
 note-line-spec =
@@ -68,7 +68,7 @@ note-line-spec =
     (tie.spec
     entered-requires
     enum-known-b
-    entered-requires-2
+    entered-row-requires
     insert-requires
     enum-told
     same-length

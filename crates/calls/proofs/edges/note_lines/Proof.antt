@@ -10,15 +10,15 @@ use Rattle.flow.specs.Format.{flowOf}
 use Rattle.theory.specs.Lists.{concatMap}
 use Rattle.theory.specs.Body.{kind, callLines}
 use Rattle.statements.proofs.WorkArea.{row-from}
-use Rattle.statements.proofs.Keeps.{ready-keeps}
-use Rattle.calls.specs.Joins.{Adds}
+use Rattle.statements.proofs.Keeps.{indexed-keeps}
+use Rattle.calls.specs.contracts.Joins.{Adds}
 use Rattle.calls.proofs.Joined.{adds-none}
 use Rattle.calls.proofs.Lines.{enteredBy, adds-line, adds-lines}
 use Rattle.calls.proofs.edges.note_lines.Statement.{statement}
 use Rattle.calls.proofs.edges.note_lines.Tie as tie
 
 abbrev Inv-loop : tie.InvT-loop
-Inv-loop file h work₀ i n count l₀ work l = (l ≤ count) × Adds work₀ work n (enteredBy (flowOf file) (take l (callLines (kind (flowOf file) i))))
+Inv-loop file h work₀ i n count l₀ work l = (l ≤ count) × Adds work₀ work n (enteredBy (flowOf file) (take l (callLines (kind (flowOf file) (i .0)))))
 
 abbrev μ-loop : tie.MeasureT-loop
 μ-loop file h work₀ i n count l₀ work l = count - l
@@ -34,7 +34,7 @@ note-line-requires : tie.Need-note-line-requires Inv-loop μ-loop
 note-line-requires c κs =
     let start = c .before .before .before .before .before .before .before in
     let n = start .args .h .statements in
-    (ready-keeps (start .pre .0) (c .before .before .loop .inv .1 .kept) (omega (arith, row-from n n)), start .pre .1, start .pre .2, omega (arith, c .before .before .before .line-count .ensures))
+    (indexed-keeps (start .pre .0) (c .before .before .loop .inv .1 .kept) (omega (arith, row-from n n)), start .pre .1, omega (arith, c .before .before .before .line-count .ensures))
 
 add-l : tie.Need-add-l Inv-loop μ-loop
 add-l c = omega arith
@@ -47,7 +47,7 @@ loop-again c =
     let a = c .before .before .before .before .before .before .before .before .before .before .args in
     let turn = c .before .before .before .before .before in
     let f = flowOf (now (a .file)) in
-    (omega arith, adds-line (λ bs. bs) (λ xs ys. refl) f (callLines (kind f (a .i))) (turn .loop .l) (omega (arith, turn .before .line-count .ensures)) (turn .loop .inv .1) (c .before .before .note-line .ensures))
+    (omega arith, adds-line (λ bs. bs) (λ xs ys. refl) f (callLines (kind f (a .i .0))) (turn .loop .l) (omega (arith, turn .before .line-count .ensures)) (turn .loop .inv .1) (c .before .before .note-line .ensures))
 
 same-length : tie.Need-same-length Inv-loop μ-loop
 same-length c = c .before .loop .inv .1 .kept .size
@@ -55,7 +55,7 @@ same-length c = c .before .loop .inv .1 .kept .size
 returns : tie.Need-returns Inv-loop μ-loop
 returns c =
     let a = c .before .before .before .before .before .before .args in
-    adds-lines (λ bs. bs) (flowOf (now (a .file))) (a .i) (c .before .loop .l) (omega (arith, c .before .before .line-count .ensures)) (c .before .loop .inv .1)
+    adds-lines (λ bs. bs) (flowOf (now (a .file))) (a .i .0) (c .before .loop .l) (omega (arith, c .before .before .line-count .ensures)) (c .before .loop .inv .1)
 
 pub note-lines-spec : {M : Type 1} → statement M
 note-lines-spec =

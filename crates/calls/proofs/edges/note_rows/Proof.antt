@@ -1,12 +1,12 @@
--- `note_rows` meets its contract. The invariant: the rows of the clear calls before i are noted. The measure is how many statements are left.
+-- `note_rows` meets its contract. The invariant: the rows of the transparent calls before i are noted. The measure is how many statements are left.
 -- By the laws of `Notes`. Assumes nothing.
 use Prim.Native.Nat.{ℕ, _-_, _≤_}
 use mathlib.Core.Path.{_≡_, subst}
 use native.Mathlib.Omega.{arith}
 use denote.Ref.{now}
 use Rattle.flow.specs.Format.{flowOf}
-use Rattle.statements.proofs.Keeps.{ready-keeps}
-use Rattle.calls.specs.Joins.{Notes}
+use Rattle.statements.proofs.Keeps.{indexed-keeps}
+use Rattle.calls.specs.contracts.Joins.{Notes}
 use Rattle.calls.proofs.CallRows.{notes-none, notes-then}
 use Rattle.calls.proofs.edges.note_rows.Statement.{statement}
 use Rattle.calls.proofs.edges.note_rows.Tie as tie
@@ -23,7 +23,7 @@ loop-holds c = (omega arith, notes-none 0)
 note-row-requires : tie.Need-note-row-requires Inv-loop μ-loop
 note-row-requires c κs =
     let p = c .before .before .before .before .before .pre in
-    (ready-keeps (p .0) (c .before .before .loop .inv .1 .kept) (omega arith), p .1, c .before .loop-test .taken)
+    (indexed-keeps p (c .before .before .loop .inv .1 .kept) (omega arith), c .before .loop-test .taken)
 
 add-i : tie.Need-add-i Inv-loop μ-loop
 add-i c = omega arith

@@ -10,7 +10,7 @@ use Rattle.flow.specs.Flow.{enters}
 use Rattle.flow.specs.Format.{flowOf}
 use Rattle.theory.specs.Body.{kind, callLines}
 use Rattle.statements.proofs.Keeps.{ready-formed, ready-below}
-use Rattle.calls.specs.Joins.{Adds, walks}
+use Rattle.calls.specs.contracts.Joins.{Adds, walks}
 use Rattle.calls.proofs.Checked.{enters-at}
 use Rattle.calls.proofs.Lines.{entered-line, adds-entered, adds-nothing}
 use Rattle.calls.proofs.Gathered.{walks-none, walks-one}
@@ -28,12 +28,12 @@ join-walk-requires c κs =
     let start = c .before .before .before .before .before .before .before .before in
     let a = start .args in
     let f = flowOf (now (a .file)) in
-    let ready = start .pre .0 in
+    let ready = start .pre .0 .ready in
     let b = c .before .before .b .given .0 .0 .0 in
     let e = enters-at _ _ (sym (c .before .before .before .before .entered .ensures) ∙ c .before .before .b .given .1) in (
       ready,
-      ready-below ready (ready-formed ready .first (getD (callLines (kind f (a .c))) (a .l) 0) b e),
-      start .pre .4 b (entered-line f (a .c) (a .l) b (start .pre .3) e),
+      ready-below ready (ready-formed ready .first (getD (callLines (kind f (a .c .0))) (a .l) 0) b e),
+      start .pre .3 b (entered-line f (a .c .0) (a .l) b (start .pre .2) e),
     )
 
 enum-told : tie.Need-enum-told
@@ -47,7 +47,7 @@ returns c =
     let a = c .before .before .before .before .before .before .before .before .before .before .before .args in
     let f = flowOf (now (a .file)) in
     let turn = c .before .before .before .before .before in
-    adds-entered (walks f) (enters f (getD (callLines (kind f (a .c))) (a .l) 0)) (sym (turn .before .before .entered .ensures) ∙ turn .b .given .1)
+    adds-entered (walks f) (enters f (getD (callLines (kind f (a .c .0))) (a .l) 0)) (sym (turn .before .before .entered .ensures) ∙ turn .b .given .1)
     (subst (λ (xs : List ℕ). Adds (now (a .work)) (c .before .before .join-walk .last .1 .0) (a .h .statements) xs) (sym (walks-one f (turn .b .given .0 .0 .0))) (c .before .before .join-walk .ensures))
 
 same-length-2 : tie.Need-same-length-2
@@ -57,7 +57,7 @@ returns-2 : tie.Need-returns-2
 returns-2 c =
     let a = c .before .before .before .before .before .before .args in
     let f = flowOf (now (a .file)) in
-    adds-nothing (walks f) (enters f (getD (callLines (kind f (a .c))) (a .l) 0)) (sym (c .before .before .entered .ensures) ∙ c .enum-told .given .1) (walks-none f)
+    adds-nothing (walks f) (enters f (getD (callLines (kind f (a .c .0))) (a .l) 0)) (sym (c .before .before .entered .ensures) ∙ c .enum-told .given .1) (walks-none f)
 
 pub join-line-spec : {M : Type 1} → statement M
 join-line-spec =

@@ -9,8 +9,8 @@ use Rattle.flow.specs.Format.{flowOf}
 use Rattle.theory.specs.Lists.{concatMap}
 use Rattle.theory.specs.Body.{kind, callLines}
 use Rattle.statements.proofs.WorkArea.{row-from}
-use Rattle.statements.proofs.Keeps.{ready-keeps, ready-formed, ready-size}
-use Rattle.calls.specs.Joins.{Adds, walks}
+use Rattle.statements.proofs.Keeps.{indexed-keeps, ready-formed, ready-size}
+use Rattle.calls.specs.contracts.Joins.{Adds, walks}
 use Rattle.calls.proofs.Joined.{adds-none}
 use Rattle.calls.proofs.Lines.{enteredBy, adds-line, adds-lines}
 use Rattle.calls.proofs.Gathered.{rows-stay, walks-append}
@@ -19,7 +19,7 @@ use Rattle.calls.proofs.returns.join_lines.Tie as tie
 
 abbrev Inv-loop : tie.InvT-loop
 Inv-loop file h work₀ c n count l₀ work l =
-    (l ≤ count) × Adds work₀ work n (walks (flowOf file) (enteredBy (flowOf file) (take l (callLines (kind (flowOf file) c)))))
+    (l ≤ count) × Adds work₀ work n (walks (flowOf file) (enteredBy (flowOf file) (take l (callLines (kind (flowOf file) (c .0))))))
 
 abbrev μ-loop : tie.MeasureT-loop
 μ-loop file h work₀ c n count l₀ work l = count - l
@@ -37,11 +37,10 @@ join-line-requires c κs =
     let p = start .pre in
     let n = start .args .h .statements in
     let kept = c .before .before .loop .inv .1 .kept in (
-      ready-keeps (p .0) kept (omega (arith, row-from n n)),
+      indexed-keeps (p .0) kept (omega (arith, row-from n n)),
       p .1,
-      p .2,
       omega (arith, c .before .before .before .line-count .ensures),
-      rows-stay (start .args .c) (ready-formed (p .0)) (ready-size (p .0)) kept (p .3),
+      rows-stay (start .args .c .0) (ready-formed (p .0 .ready)) (ready-size (p .0 .ready)) kept (p .2),
     )
 
 add-l : tie.Need-add-l Inv-loop μ-loop
@@ -55,7 +54,7 @@ loop-again c =
     let a = c .before .before .before .before .before .before .before .before .before .before .args in
     let turn = c .before .before .before .before .before in
     let f = flowOf (now (a .file)) in
-    (omega arith, adds-line (walks f) (walks-append f) f (callLines (kind f (a .c))) (turn .loop .l) (omega (arith, turn .before .line-count .ensures)) (turn .loop .inv .1) (c .before .before .join-line .ensures))
+    (omega arith, adds-line (walks f) (walks-append f) f (callLines (kind f (a .c .0))) (turn .loop .l) (omega (arith, turn .before .line-count .ensures)) (turn .loop .inv .1) (c .before .before .join-line .ensures))
 
 same-length : tie.Need-same-length Inv-loop μ-loop
 same-length c = c .before .loop .inv .1 .kept .size
@@ -64,7 +63,7 @@ returns : tie.Need-returns Inv-loop μ-loop
 returns c =
     let a = c .before .before .before .before .before .before .args in
     let f = flowOf (now (a .file)) in
-    adds-lines (walks f) f (a .c) (c .before .loop .l) (omega (arith, c .before .before .line-count .ensures)) (c .before .loop .inv .1)
+    adds-lines (walks f) f (a .c .0) (c .before .loop .l) (omega (arith, c .before .before .line-count .ensures)) (c .before .loop .inv .1)
 
 pub join-lines-spec : {M : Type 1} → statement M
 join-lines-spec =

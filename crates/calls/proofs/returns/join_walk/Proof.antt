@@ -5,11 +5,10 @@ use mathlib.Core.Path.{sym, _∙_, subst}
 use native.Mathlib.Omega.{arith}
 use borrow.Author.Needs.{needs}
 use denote.Ref.{now}
-use Rattle.words.specs.Change.{Inserted}
+use Rattle.words.specs.contracts.Change.{Inserted}
 use Rattle.flow.specs.Flow.{size}
 use Rattle.flow.specs.Format.{flowOf}
 use Rattle.theory.specs.Body.{walked}
-use Rattle.statements.specs.Layout.{enteredAt}
 use Rattle.statements.proofs.WorkArea.{row-fits, row-words-le}
 use Rattle.statements.proofs.Keeps.{ready-most, ready-formed, ready-size, ready-room}
 use Rattle.calls.proofs.Checked.{entered-room, entered-word}
@@ -21,15 +20,15 @@ use Rattle.calls.proofs.returns.join_walk.Tie as tie
 is-return-requires : tie.Need-is-return-requires
 is-return-requires c κs = search needs
 
-entered-requires : tie.Need-entered-requires
-entered-requires c κs = ready-most (c .before .before .before .before .before .before .pre .0)
+entered-row-requires : tie.Need-entered-row-requires
+entered-row-requires c κs = ready-most (c .before .before .before .before .before .before .pre .0)
 
 insert-requires : tie.Need-insert-requires
 insert-requires c κs = let start = c .before .before .before .before .before .before .before in
-    omega (arith, entered-word (start .pre .0) (start .pre .1), c .entered .ensures)
+    omega (arith, entered-word (start .pre .0) (start .pre .1), c .entered-row .ensures)
 
-entered-requires-2 : tie.Need-entered-requires-2
-entered-requires-2 c κs = ready-most (c .before .before .before .before .before .before .pre .0)
+entered-row-requires-2 : tie.Need-entered-row-requires-2
+entered-row-requires-2 c κs = ready-most (c .before .before .before .before .before .before .pre .0)
 
 row-requires : tie.Need-row-requires
 row-requires c κs = (ready-most (c .before .before .before .before .before .before .before .pre .0), omega arith)
@@ -43,7 +42,7 @@ union-requires c κs =
     let n = start .args .n in
     let room = ready-room (start .pre .0) (omega arith) in
     let words = c .row-words .ensures in (
-      omega (arith, c .before .before .entered2 .ensures, row-words-le n),
+      omega (arith, c .before .before .entered-row2 .ensures, row-words-le n),
       omega (arith, c .before .row .ensures, row-fits n (start .pre .1)),
     )
 
@@ -56,9 +55,9 @@ returns c =
     let a = start .args in
     let ready = start .pre .0 in
     let f = flowOf (now (a .file)) in
-    let inside : a .e < size f = let z = ready-size ready in omega arith in
+    let inside : a .e .0 < size f = let z = ready-size ready in omega arith in
     adds-same
-    (adds-insert (subst (λ (at : ℕ). Inserted (now (a .work)) (c .before .before .insert .last .0) at (a .e) (c .before .before .insert .result)) (c .before .before .before .entered .ensures) (c .before .before .insert .ensures))
+    (adds-insert (subst (λ (at : ℕ). Inserted (now (a .work)) (c .before .before .insert .last .0) at (a .e .0) (c .before .before .insert .result)) (c .before .before .before .entered-row .ensures) (c .before .before .insert .ensures))
     (start .pre .1) (entered-room ready (start .pre .1)))
     (return-walk (ready-formed ready) inside (sym (c .before .before .before .before .before .before .is-return .ensures) ∙ c .before .before .before .before .before .if1 .taken))
 
@@ -70,8 +69,8 @@ returns-2 c =
     let start = c .before .before .before .before .before .before .before .before .before .before .before .before in
     let a = start .args in
     let ready = start .pre .0 in
-    let joined = union-at (c .before .before .before .before .before .entered2 .ensures) (c .before .before .before .before .row .ensures) (c .before .before .before .row-words .ensures) (c .before .before .union .ensures) in
-    adds-union (walked (flowOf (now (a .file))) (a .e)) joined (start .pre .1) (entered-room ready (start .pre .1))
+    let joined = union-at (c .before .before .before .before .before .entered-row2 .ensures) (c .before .before .before .before .row .ensures) (c .before .before .before .row-words .ensures) (c .before .before .union .ensures) in
+    adds-union (walked (flowOf (now (a .file))) (a .e .0)) joined (start .pre .1) (entered-room ready (start .pre .1))
     (row-walked (ready-formed ready) (ready-size ready) (start .pre .1) (start .pre .2 (sym (c .before .before .before .before .before .before .before .before .is-return .ensures) ∙ c .before .before .before .before .before .before .before .if1 .left)))
 
 pub join-walk-spec : {M : Type 1} → statement M
@@ -79,9 +78,9 @@ join-walk-spec =
     tie.close
     (tie.spec
     is-return-requires
-    entered-requires
+    entered-row-requires
     insert-requires
-    entered-requires-2
+    entered-row-requires-2
     row-requires
     row-words-requires
     union-requires

@@ -10,12 +10,12 @@ use Rattle.flow.specs.Format.{flowOf}
 use Rattle.theory.specs.Body.{kind, continuationOf}
 use Rattle.statements.proofs.Keeps.{ready-most, ready-formed, ready-below}
 use Rattle.calls.proofs.Checked.{continues-to, continues-nowhere}
-use Rattle.calls.proofs.Gathered.{call-none, call-clear, call-opaque}
+use Rattle.calls.proofs.Gathered.{call-none, call-transparent, call-opaque}
 use Rattle.calls.proofs.returns.note_call.Statement.{statement}
 use Rattle.calls.proofs.returns.note_call.Tie as tie
 
 calls-requires : tie.Need-calls-requires
-calls-requires c κs = ready-most (c .before .before .pre .0)
+calls-requires c κs = ready-most (c .before .before .pre .0 .ready)
 
 add-if1 : tie.Need-add-if1
 add-if1 c = search needs
@@ -28,9 +28,9 @@ slice-read-if1 c = search needs
 
 returns : tie.Need-returns
 returns c =
-    let start = c .before .before .before .before .before in
+    let start = c .before .before .before .before .before .before in
     let a = start .args in
-    call-clear (a .c) (start .pre .3) (λ e. c .if1 .taken (ap (λ (b : ℕ). getD (now (a .work)) (b + a .c) 0) (c .before .before .calls .ensures) ∙ e))
+    call-transparent (a .c .0) (start .pre .2) (λ e. c .if1 .taken (ap (λ (b : ℕ). getD (now (a .work)) (b + a .c .0) 0) (c .before .before .before .calls .ensures) ∙ e))
 
 continuation-requires : tie.Need-continuation-requires
 continuation-requires c κs = search needs
@@ -39,16 +39,16 @@ enum-known-k : tie.Need-enum-known-k
 enum-known-k c = search needs
 
 -- the call goes on at k
-continued : (c : tie.After-k) → let a = c .before .before .before .before .before .before .before .before .before .args in continuationOf (kind (flowOf (now (a .file))) (a .c)) ≡ some (c .k .given .0 .0 .0)
+continued : (c : tie.After-k) → let a = c .before .before .before .before .before .before .before .before .before .before .args in continuationOf (kind (flowOf (now (a .file))) (a .c .0)) ≡ some (c .k .given .0 .0 .0)
 continued c = continues-to _ _ (sym (c .before .before .continuation .ensures) ∙ c .k .given .1)
 
 note-bodies-requires : tie.Need-note-bodies-requires
 note-bodies-requires c κs =
-    let start = c .before .before .before .before .before .before .before .before .before .before .before in
+    let start = c .before .before .before .before .before .before .before .before .before .before .before .before in
     let p = start .pre in
     let k = c .before .before .k .given .0 .0 .0 in
     let e = continued (c .before .before) in
-    (p .0, p .1, p .2, ready-below (p .0) (ready-formed (p .0) .continuation (start .args .c) k e), p .3 .bodies k e)
+    (p .0, p .1, ready-below (p .0 .ready) (ready-formed (p .0 .ready) .continuation (start .args .c .0) k e), p .2 .bodies k e)
 
 enum-told : tie.Need-enum-told
 enum-told c = search needs
@@ -58,18 +58,18 @@ same-length c = search needs
 
 returns-2 : tie.Need-returns-2
 returns-2 c =
-    let start = c .before .before .before .before .before .before .before .before .before .before .before .before .before .before in
+    let start = c .before .before .before .before .before .before .before .before .before .before .before .before .before .before .before in
     let a = start .args in
-    call-opaque (a .c) (c .before .before .before .before .before .k .given .0 .0 .0) (start .pre .3)
-    (sym (ap (λ (b : ℕ). getD (now (a .work)) (b + a .c) 0) (c .before .before .before .before .before .before .before .before .before .before .before .calls .ensures)) ∙ c .before .before .before .before .before .before .before .before .before .if1 .left) (continued (c .before .before .before .before .before)) (c .before .before .note-bodies .ensures)
+    call-opaque (a .c .0) (c .before .before .before .before .before .k .given .0 .0 .0) (start .pre .2)
+    (sym (ap (λ (b : ℕ). getD (now (a .work)) (b + a .c .0) 0) (c .before .before .before .before .before .before .before .before .before .before .before .before .calls .ensures)) ∙ c .before .before .before .before .before .before .before .before .before .if1 .left) (continued (c .before .before .before .before .before)) (c .before .before .note-bodies .ensures)
 
 same-length-2 : tie.Need-same-length-2
 same-length-2 c = search needs
 
 returns-3 : tie.Need-returns-3
 returns-3 c =
-    let a = c .before .before .before .before .before .before .before .before .before .args in
-    call-none (a .c) (continues-nowhere (continuationOf (kind (flowOf (now (a .file))) (a .c))) (sym (c .before .before .continuation .ensures) ∙ c .enum-told .given .1))
+    let a = c .before .before .before .before .before .before .before .before .before .before .args in
+    call-none (a .c .0) (continues-nowhere (continuationOf (kind (flowOf (now (a .file))) (a .c .0))) (sym (c .before .before .continuation .ensures) ∙ c .enum-told .given .1))
 
 pub note-call-spec : {M : Type 1} → statement M
 note-call-spec =

@@ -15,12 +15,12 @@ use Rattle.flow.specs.Format.{flowOf}
 use Rattle.flow.specs.Limits.{workWords}
 use Rattle.theory.specs.Lists as lists
 use Rattle.theory.specs.Body.{kind, callLines, continuationOf, callees, Walks}
-use Rattle.statements.specs.Layout.{callsAt, bodiesAt, matrixAt, enteredAt}
-use Rattle.statements.specs.Ready.{Ready, Keeps}
-use Rattle.statements.proofs.Keeps.{ready-keeps, keeps-set, ready-most, ready-size, ready-formed}
+use Rattle.statements.specs.contracts.Layout.{callsAt, bodiesAt, matrixAt, enteredRowAt}
+use Rattle.statements.specs.contracts.Ready.{Ready, Indexed, Keeps}
+use Rattle.statements.proofs.Keeps.{indexed-keeps, ready-keeps, keeps-set, ready-most, ready-size, ready-formed}
 use Rattle.statements.proofs.WorkArea.{row-from}
-use Rattle.calls.specs.Held.{unentered, opened, clear, EmptyRow, Walked}
-use Rattle.calls.specs.Summing.{body, call, settled, Summing, OnwardBut, Onward, Leads, BodySummed, CallSummed}
+use Rattle.calls.specs.contracts.Held.{unentered, opened, transparent, EmptyRow, Walked}
+use Rattle.calls.specs.contracts.Summing.{body, Summing, OnwardBut, Onward, Leads, BodySummed, CallSummed}
 use Rattle.calls.proofs.Checked.{row-room, continues-to, continues-nowhere, enters-at, enters-nothing}
 use Rattle.calls.proofs.Summing.{onward-refl, onward-trans, onward-but, body-open, onward-open, summing-open, rows-set, callee-low}
 use Rattle.calls.proofs.BodySummary.{BodyLoop, PassedBelow, body-next, passed-none, body-turn, body-done, body-leads, return-done, referred-summing, referred-onward, next-low, unentered-row}
@@ -37,7 +37,7 @@ use Rattle.calls.proofs.summary.+call_summary+sub_effect.Lts-sub_effect
 use Rattle.calls.proofs.summary.join_body.Reads as join-body-reads
 use Rattle.calls.proofs.summary.join_call.Reads as join-call-reads
 use Rattle.calls.proofs.summary.join_references.Reads as join-references-reads
-use Rattle.calls.proofs.summary.settled.Reads as settled-reads
+use Rattle.calls.proofs.summary.summary_state.Reads as summary-state-reads
 use Rattle.calls.proofs.walk.walk.Reads as walk-reads
 use Rattle.statements.proofs.fields.continuation.Reads as continuation-reads
 use Rattle.statements.proofs.fields.entered.Reads as entered-reads
@@ -85,8 +85,8 @@ call-claims t = (
   sub-effect.Post,
   join-body-reads.Asked,
   join-body-reads.Learnt,
-  settled-reads.Asked,
-  settled-reads.Learnt,
+  summary-state-reads.Asked,
+  summary-state-reads.Learnt,
 )
 
 abbrev sub-claims : ℕ → sub-effect-lts.Claims
@@ -109,50 +109,50 @@ sub-claims t = (
   call-summary.Post,
   join-call-reads.Asked,
   join-call-reads.Learnt,
-  settled-reads.Asked,
-  settled-reads.Learnt,
+  summary-state-reads.Asked,
+  summary-state-reads.Learnt,
 )
 
 abbrev call-summary-Inv-loop : call-summary-lts.InvT-loop
-call-summary-Inv-loop file h work₀ c n at count opaque₀ k₀ work opaque k = CallLoop (flowOf file) work₀ work n c opaque k
+call-summary-Inv-loop file h work₀ c n at count opaque₀ k₀ work opaque k = CallLoop (flowOf file) work₀ work n (c .0) opaque k
 
 abbrev call-summary-μ-loop : call-summary-lts.MeasureT-loop
 call-summary-μ-loop file h work₀ c n at count opaque₀ k₀ work opaque k = count - k
 
 abbrev sub-effect-Inv-loop : sub-effect-lts.InvT-loop
-sub-effect-Inv-loop file h work₀ e n at row opaque₀ i₀ work opaque i = BodyLoop (flowOf file) work₀ work n e opaque i
+sub-effect-Inv-loop file h work₀ e n at row opaque₀ i₀ work opaque i = BodyLoop (flowOf file) work₀ work n (e .0) opaque i
 
 abbrev sub-effect-μ-loop : sub-effect-lts.MeasureT-loop
 sub-effect-μ-loop file h work₀ e n at row opaque₀ i₀ work opaque i = n - i
 
 -- call_summary
 
-call-bounds : (t : ℕ) (c : call-summary-lts.After-calls (call-claims t) (call-summary-at t) call-summary.Post call-summary-Inv-loop call-summary-μ-loop) → c .calls .result + c .before .before .before .args .c < 2 * c .before .before .before .args .h .statements
-call-bounds t c = omega (arith, c .calls .ensures, c .before .before .before .pre .1 .2)
+call-bounds : (t : ℕ) (c : call-summary-lts.After-calls (call-claims t) (call-summary-at t) call-summary.Post call-summary-Inv-loop call-summary-μ-loop) → c .calls .result + c .before .before .before .args .c .0 < 2 * c .before .before .before .args .h .statements
+call-bounds t c = omega (arith, c .calls .ensures, c .before .before .before .pre .1 .1)
 
 call-summary-calls-requires : (t : ℕ) → call-summary-lts.Need-calls-requires (call-claims t) (call-summary-at t) call-summary.Post call-summary-Inv-loop call-summary-μ-loop
-call-summary-calls-requires t c κs = ready-most (c .before .before .pre .1 .0)
+call-summary-calls-requires t c κs = ready-most (c .before .before .pre .1 .0 .ready)
 
 call-summary-add-at : (t : ℕ) → call-summary-lts.Need-add-at (call-claims t) (call-summary-at t) call-summary.Post call-summary-Inv-loop call-summary-μ-loop
-call-summary-add-at t c = omega (arith, call-bounds t c, ready-most (c .before .before .before .pre .1 .0))
+call-summary-add-at t c = omega (arith, call-bounds t (c .before), ready-most (c .before .before .before .before .pre .1 .0 .ready))
 
 call-summary-mul-if1 : (t : ℕ) → call-summary-lts.Need-mul-if1 (call-claims t) (call-summary-at t) call-summary.Post call-summary-Inv-loop call-summary-μ-loop
-call-summary-mul-if1 t c = omega (arith, call-bounds t c, ready-most (c .before .before .before .pre .1 .0))
+call-summary-mul-if1 t c = omega (arith, call-bounds t (c .before), ready-most (c .before .before .before .before .pre .1 .0 .ready))
 
 call-summary-slice-read-if1 : (t : ℕ) → call-summary-lts.Need-slice-read-if1 (call-claims t) (call-summary-at t) call-summary.Post call-summary-Inv-loop call-summary-μ-loop
-call-summary-slice-read-if1 t c = omega (arith, call-bounds t (c .before), c .before .before .before .before .pre .1 .0 .room)
+call-summary-slice-read-if1 t c = omega (arith, call-bounds t (c .before .before), c .before .before .before .before .before .pre .1 .0 .ready .room)
 
 call-summary-returns : (t : ℕ) → call-summary-lts.Need-returns (call-claims t) (call-summary-at t) call-summary.Post call-summary-Inv-loop call-summary-μ-loop
 call-summary-returns t c =
-    let s = c .before .before .before .before .before in
+    let s = c .before .before .before .before .before .before in
     record {
-      summing = s .pre .1 .3;
+      summing = s .pre .1 .2;
       onward = onward-refl _ _ _;
-      done = λ k e q. c .if1 .taken (ap (λ x. getD (s .args .work .now) (x + s .args .c) 0) (c .before .before .calls .ensures) ∙ q);
+      done = λ k e q. c .if1 .taken (ap (λ x. getD (s .args .work .now) (x + s .args .c .0) 0) (c .before .before .before .calls .ensures) ∙ q);
     }
 
 call-summary-continuation-requires : (t : ℕ) → call-summary-lts.Need-continuation-requires (call-claims t) (call-summary-at t) call-summary.Post call-summary-Inv-loop call-summary-μ-loop
-call-summary-continuation-requires t c κs = let p = c .before .before .before .before .before .before .pre .1 in (p .0, p .2)
+call-summary-continuation-requires t c κs = let p = c .before .before .before .before .before .before .before .pre .1 in (p .0 .ready, p .1)
 
 call-summary-enum-told : (t : ℕ) → call-summary-lts.Need-enum-told (call-claims t) (call-summary-at t) call-summary.Post call-summary-Inv-loop call-summary-μ-loop
 call-summary-enum-told t c = search needs
@@ -166,26 +166,26 @@ call-summary-same-length t c = search needs
 call-summary-returns-2 : (t : ℕ) → call-summary-lts.Need-returns-2 (call-claims t) (call-summary-at t) call-summary.Post call-summary-Inv-loop call-summary-μ-loop
 call-summary-returns-2 t c =
     record {
-      summing = c .before .before .before .before .before .before .before .before .before .pre .1 .3;
+      summing = c .before .before .before .before .before .before .before .before .before .before .pre .1 .2;
       onward = onward-refl _ _ _;
       done = λ k e q. none-some (continues-nowhere _ (sym (c .before .before .continuation .ensures) ∙ c .enum-told2 .given .1)) e;
     }
 
 call-summary-line-count-requires : (t : ℕ) → call-summary-lts.Need-line-count-requires (call-claims t) (call-summary-at t) call-summary.Post call-summary-Inv-loop call-summary-μ-loop
-call-summary-line-count-requires t c κs = let p = c .before .before .before .before .before .before .before .before .before .before .pre .1 in (p .0, p .2)
+call-summary-line-count-requires t c κs = let p = c .before .before .before .before .before .before .before .before .before .before .before .pre .1 in (p .0 .ready, p .1)
 
 call-summary-loop-holds : (t : ℕ) → call-summary-lts.Need-loop-holds (call-claims t) (call-summary-at t) call-summary.Post call-summary-Inv-loop call-summary-μ-loop
-call-summary-loop-holds t c = call-first (c .before .before .before .before .before .before .before .before .before .before .before .pre .1 .3)
+call-summary-loop-holds t c = call-first (c .before .before .before .before .before .before .before .before .before .before .before .before .pre .1 .2)
 
 -- the call has a continuation
 module _ (t : ℕ) (c : call-summary-lts.After-line-count (call-claims t) (call-summary-at t) call-summary.Post call-summary-Inv-loop call-summary-μ-loop) where
   abbrev call-start : call-summary-lts.Start (call-claims t) (call-summary-at t) call-summary.Post call-summary-Inv-loop call-summary-μ-loop
-  call-start = c .before .before .before .before .before .before .before .before .before .before .before
+  call-start = c .before .before .before .before .before .before .before .before .before .before .before .before
 
   abbrev call-lines : List ℕ
-  call-lines = callLines (kind (flowOf (call-start .args .file .now)) (call-start .args .c))
+  call-lines = callLines (kind (flowOf (call-start .args .file .now)) (call-start .args .c .0))
 
-  continued : (k : ℕ) × (continuationOf (kind (flowOf (call-start .args .file .now)) (call-start .args .c)) ≡ some k)
+  continued : (k : ℕ) × (continuationOf (kind (flowOf (call-start .args .file .now)) (call-start .args .c .0)) ≡ some k)
   continued = (_, continues-to _ _ (sym (c .before .before .before .before .continuation .ensures) ∙ c .before .before .enum-told .given .1))
 
 -- a turn
@@ -196,8 +196,8 @@ module _ (t : ℕ) (c : call-summary-lts.In-loop (call-claims t) (call-summary-a
   call-inside : c .before .loop .k < length (call-lines t call-begun)
   call-inside = omega (arith, c .loop-test .taken, call-begun .line-count .ensures)
 
-  call-ready : Ready (call-start t call-begun .args .file .now) (c .before .loop .work) (call-start t call-begun .args .h .statements)
-  call-ready = ready-keeps (call-start t call-begun .pre .1 .0) (c .before .loop .inv .onward .keeps) (omega arith)
+  call-indexed : Indexed (call-start t call-begun .args .file .now) (call-start t call-begun .args .h) (c .before .loop .work)
+  call-indexed = indexed-keeps (call-start t call-begun .pre .1 .0) (c .before .loop .inv .onward .keeps) (omega arith)
 
 -- a line enters b
 module _ (t : ℕ) (c : call-summary-lts.After-b (call-claims t) (call-summary-at t) call-summary.Post call-summary-Inv-loop call-summary-μ-loop) where
@@ -210,19 +210,19 @@ module _ (t : ℕ) (c : call-summary-lts.After-b (call-claims t) (call-summary-a
   entered-is : enters (flowOf (from .args .file .now)) (getD (call-lines t (call-begun t call-turn)) (call-turn .before .loop .k) 0) ≡ some (c .b .given .0 .0 .0)
   entered-is = enters-at _ _ (sym (c .before .before .entered .ensures) ∙ c .b .given .1)
 
-  is-callee : lists.In (c .b .given .0 .0 .0) (callees (flowOf (from .args .file .now)) (from .args .c))
-  is-callee = line-callee (flowOf (from .args .file .now)) (from .args .c) (continued t (call-begun t call-turn) .1) (call-inside t call-turn) entered-is
+  is-callee : lists.In (c .b .given .0 .0 .0) (callees (flowOf (from .args .file .now)) (from .args .c .0))
+  is-callee = line-callee (flowOf (from .args .file .now)) (from .args .c .0) (continued t (call-begun t call-turn) .1) (call-inside t call-turn) entered-is
 
   call-leads : Leads (flowOf (from .args .file .now)) (call-turn .before .loop .work) (from .args .h .statements) (c .b .given .0 .0 .0)
-  call-leads = leads-onward (call-turn .before .loop .inv .onward) (from .pre .1 .4 (c .b .given .0 .0 .0) is-callee)
+  call-leads = leads-onward (call-turn .before .loop .inv .onward) (from .pre .1 .3 (c .b .given .0 .0 .0) is-callee)
 
   callee-below : c .b .given .0 .0 .0 < from .args .h .statements
-  callee-below = let r = from .pre .1 .0 in callee-low (ready-formed r) (ready-size r) (from .args .c) (c .b .given .0 .0 .0) is-callee
+  callee-below = let r = from .pre .1 .0 .ready in callee-low (ready-formed r) (ready-size r) (from .args .c .0) (c .b .given .0 .0 .0) is-callee
 
 call-summary-entered-requires : (t : ℕ) → call-summary-lts.Need-entered-requires (call-claims t) (call-summary-at t) call-summary.Post call-summary-Inv-loop call-summary-μ-loop
 call-summary-entered-requires t c κs =
     let p = call-start t (call-begun t (c .before)) .pre .1 in
-    (call-ready t (c .before), p .1, p .2, call-inside t (c .before))
+    (call-indexed t (c .before), p .1, call-inside t (c .before))
 
 call-summary-enum-known-b : (t : ℕ) → call-summary-lts.Need-enum-known-b (call-claims t) (call-summary-at t) call-summary.Post call-summary-Inv-loop call-summary-μ-loop
 call-summary-enum-known-b t c = search needs
@@ -233,13 +233,13 @@ call-summary-sub-effect-requires t c κs =
     let turn = call-turn t d in
     let s = from t d in
     let less : 2 * unenteredCount (turn .before .loop .work) (s .args .h .statements) < t = omega (arith, s .pre .0, unentered-le (turn .before .loop .inv .onward)) in
-    (less, (call-ready t turn, s .pre .1 .1, callee-below t d, turn .before .loop .inv .summing, call-leads t d))
+    (less, (call-indexed t turn, callee-below t d, turn .before .loop .inv .summing, call-leads t d))
 
 call-summary-join-body-requires : (t : ℕ) → call-summary-lts.Need-join-body-requires (call-claims t) (call-summary-at t) call-summary.Post call-summary-Inv-loop call-summary-μ-loop
 call-summary-join-body-requires t c κs =
     let d = c .before .before .before .before .before .before in
     let s = from t d in
-    (record { few = ready-most (s .pre .1 .0); room = omega (arith, call-ready t (call-turn t d) .room, c .before .before .before .sub-effect .kept .1 .1 .0) }, s .pre .1 .2, callee-below t d)
+    (record { few = ready-most (s .pre .1 .0 .ready); room = omega (arith, call-indexed t (call-turn t d) .ready .room, c .before .before .before .sub-effect .kept .1 .1 .0) }, s .pre .1 .1, callee-below t d)
 
 call-summary-enum-told-3 : (t : ℕ) → call-summary-lts.Need-enum-told-3 (call-claims t) (call-summary-at t) call-summary.Post call-summary-Inv-loop call-summary-μ-loop
 call-summary-enum-told-3 t c = search needs
@@ -254,27 +254,27 @@ call-summary-loop-again : (t : ℕ) → call-summary-lts.Need-loop-again (call-c
 call-summary-loop-again t c =
     let turn = c .before .before .before in
     let s = call-start t (call-begun t turn) in
-    let r = s .pre .1 .0 in
-    let After : List ℕ → Bool → Type 0 = λ ws hidden. CallLoop (flowOf (s .args .file .now)) (s .args .work .now) ws (s .args .h .statements) (s .args .c) hidden (turn .before .loop .k + 1) in
+    let r = s .pre .1 .0 .ready in
+    let After : List ℕ → Bool → Type 0 = λ ws found-opaque. CallLoop (flowOf (s .args .file .now)) (s .args .work .now) ws (s .args .h .statements) (s .args .c .0) found-opaque (turn .before .loop .k + 1) in
     ⊎-elim
     (λ w.
     let d : call-summary-lts.After-b (call-claims t) (call-summary-at t) call-summary.Post call-summary-Inv-loop call-summary-μ-loop = record { before = record { before = c .before; match2 = w .0 }; b = w .1 } in
     subst₂ After (sym (w .11)) (sym (w .12))
-    (call-line (flowOf (s .args .file .now)) (s .args .c) (continued t (call-begun t turn) .1) (ready-formed r) (ready-size r) (s .pre .1 .2) (omega (arith, call-ready t turn .room)) (turn .before .loop .inv)
+    (call-line (flowOf (s .args .file .now)) (s .args .c .0) (continued t (call-begun t turn) .1) (ready-formed r) (ready-size r) (s .pre .1 .1) (omega (arith, call-indexed t turn .ready .room)) (turn .before .loop .inv)
     (call-inside t turn) (entered-is t d) (call-leads t d) (w .4 .ensures) (w .8 .ensures)))
     (λ w.
     subst₂ After (sym (w .2)) (sym (w .3))
     (call-nothing (turn .before .loop .inv) (call-inside t turn) (enters-nothing _ (sym (c .before .entered .ensures) ∙ w .1 .given .1))))
     (c .match2 .came)
 
-call-summary-settled-requires : (t : ℕ) → call-summary-lts.Need-settled-requires (call-claims t) (call-summary-at t) call-summary.Post call-summary-Inv-loop call-summary-μ-loop
-call-summary-settled-requires t c κs = search needs
+call-summary-summary-state-requires : (t : ℕ) → call-summary-lts.Need-summary-state-requires (call-claims t) (call-summary-at t) call-summary.Post call-summary-Inv-loop call-summary-μ-loop
+call-summary-summary-state-requires t c κs = search needs
 
 call-summary-mul-work : (t : ℕ) → call-summary-lts.Need-mul-work (call-claims t) (call-summary-at t) call-summary.Post call-summary-Inv-loop call-summary-μ-loop
-call-summary-mul-work t c = omega (arith, call-bounds t (c .before .before .before .before .before .before .before .before .before .before .before), ready-most (c .before .before .before .before .before .before .before .before .before .before .before .before .before .before .pre .1 .0))
+call-summary-mul-work t c = omega (arith, call-bounds t (c .before .before .before .before .before .before .before .before .before .before .before .before), ready-most (c .before .before .before .before .before .before .before .before .before .before .before .before .before .before .before .pre .1 .0 .ready))
 
 call-summary-slice-write-work : (t : ℕ) → call-summary-lts.Need-slice-write-work (call-claims t) (call-summary-at t) call-summary.Post call-summary-Inv-loop call-summary-μ-loop
-call-summary-slice-write-work t c = omega (arith, call-bounds t (c .before .before .before .before .before .before .before .before .before .before .before), c .before .before .before .before .before .before .before .before .before .before .before .before .before .before .pre .1 .0 .room, c .before .before .loop .inv .onward .keeps .size)
+call-summary-slice-write-work t c = omega (arith, call-bounds t (c .before .before .before .before .before .before .before .before .before .before .before .before), c .before .before .before .before .before .before .before .before .before .before .before .before .before .before .before .pre .1 .0 .ready .room, c .before .before .loop .inv .onward .keeps .size)
 
 call-summary-same-length-2 : (t : ℕ) → call-summary-lts.Need-same-length-2 (call-claims t) (call-summary-at t) call-summary.Post call-summary-Inv-loop call-summary-μ-loop
 call-summary-same-length-2 t c = length-set (c .before .before .loop .work) _ _ ∙ c .before .before .loop .inv .onward .keeps .size
@@ -283,60 +283,60 @@ call-summary-returns-3 : (t : ℕ) → call-summary-lts.Need-returns-3 (call-cla
 call-summary-returns-3 t c =
     let begun = c .before .before .before in
     let s = call-start t begun in
-    let r = s .pre .1 .0 in
+    let r = s .pre .1 .0 .ready in
     let p = c .before .before .loop .inv in
-    subst (λ x. CallSummed (flowOf (s .args .file .now)) (s .args .work .now) (set (c .before .before .loop .work) (x + s .args .c) (c .settled .result)) (s .args .h .statements) (s .args .c)) (sym (c .before .before .before .before .before .before .before .before .before .before .before .calls .ensures))
-    (call-done (flowOf (s .args .file .now)) (s .args .c) (continued t begun .1) (ready-formed r) (ready-size r) (s .pre .1 .2) (omega (arith, r .room, p .onward .keeps .size)) p
-    (omega (arith, c .before .loop-test .left, begun .line-count .ensures)) (c .settled .result) (c .settled .ensures))
+    subst (λ x. CallSummed (flowOf (s .args .file .now)) (s .args .work .now) (set (c .before .before .loop .work) (x + s .args .c .0) (c .summary-state .result)) (s .args .h .statements) (s .args .c .0)) (sym (c .before .before .before .before .before .before .before .before .before .before .before .before .calls .ensures))
+    (call-done (flowOf (s .args .file .now)) (s .args .c .0) (continued t begun .1) (ready-formed r) (ready-size r) (s .pre .1 .1) (omega (arith, r .room, p .onward .keeps .size)) p
+    (omega (arith, c .before .loop-test .left, begun .line-count .ensures)) (c .summary-state .result) (c .summary-state .ensures))
 
 -- sub_effect
 
-body-bounds : (t : ℕ) (c : sub-effect-lts.After-bodies (sub-claims t) (sub-effect-at t) sub-effect.Post sub-effect-Inv-loop sub-effect-μ-loop) → c .bodies .result + c .before .before .before .args .e < 4 * c .before .before .before .args .h .statements
-body-bounds t c = omega (arith, c .bodies .ensures, c .before .before .before .pre .1 .2)
+body-bounds : (t : ℕ) (c : sub-effect-lts.After-bodies (sub-claims t) (sub-effect-at t) sub-effect.Post sub-effect-Inv-loop sub-effect-μ-loop) → c .bodies .result + c .before .before .before .args .e .0 < 4 * c .before .before .before .args .h .statements
+body-bounds t c = omega (arith, c .bodies .ensures, c .before .before .before .pre .1 .1)
 
 sub-effect-bodies-requires : (t : ℕ) → sub-effect-lts.Need-bodies-requires (sub-claims t) (sub-effect-at t) sub-effect.Post sub-effect-Inv-loop sub-effect-μ-loop
-sub-effect-bodies-requires t c κs = ready-most (c .before .before .pre .1 .0)
+sub-effect-bodies-requires t c κs = ready-most (c .before .before .pre .1 .0 .ready)
 
 sub-effect-add-at : (t : ℕ) → sub-effect-lts.Need-add-at (sub-claims t) (sub-effect-at t) sub-effect.Post sub-effect-Inv-loop sub-effect-μ-loop
-sub-effect-add-at t c = omega (arith, body-bounds t c, ready-most (c .before .before .before .pre .1 .0))
+sub-effect-add-at t c = omega (arith, body-bounds t (c .before), ready-most (c .before .before .before .before .pre .1 .0 .ready))
 
 sub-effect-mul-if1 : (t : ℕ) → sub-effect-lts.Need-mul-if1 (sub-claims t) (sub-effect-at t) sub-effect.Post sub-effect-Inv-loop sub-effect-μ-loop
-sub-effect-mul-if1 t c = omega (arith, body-bounds t c, ready-most (c .before .before .before .pre .1 .0))
+sub-effect-mul-if1 t c = omega (arith, body-bounds t (c .before), ready-most (c .before .before .before .before .pre .1 .0 .ready))
 
 sub-effect-slice-read-if1 : (t : ℕ) → sub-effect-lts.Need-slice-read-if1 (sub-claims t) (sub-effect-at t) sub-effect.Post sub-effect-Inv-loop sub-effect-μ-loop
-sub-effect-slice-read-if1 t c = omega (arith, body-bounds t (c .before), c .before .before .before .before .pre .1 .0 .room)
+sub-effect-slice-read-if1 t c = omega (arith, body-bounds t (c .before .before), c .before .before .before .before .before .pre .1 .0 .ready .room)
 
 sub-effect-returns : (t : ℕ) → sub-effect-lts.Need-returns (sub-claims t) (sub-effect-at t) sub-effect.Post sub-effect-Inv-loop sub-effect-μ-loop
 sub-effect-returns t c =
-    let s = c .before .before .before .before .before in
+    let s = c .before .before .before .before .before .before in
     record {
-      summing = s .pre .1 .3;
+      summing = s .pre .1 .2;
       onward = onward-refl _ _ _;
-      done = λ q. c .if1 .taken (ap (λ x. getD (s .args .work .now) (x + s .args .e) 0) (c .before .before .bodies .ensures) ∙ q);
+      done = λ q. c .if1 .taken (ap (λ x. getD (s .args .work .now) (x + s .args .e .0) 0) (c .before .before .before .bodies .ensures) ∙ q);
     }
 
 -- the body was unentered
 module _ (t : ℕ) (c : sub-effect-lts.Else1 (sub-claims t) (sub-effect-at t) sub-effect.Post sub-effect-Inv-loop sub-effect-μ-loop) where
   abbrev body-start : sub-effect-lts.Start (sub-claims t) (sub-effect-at t) sub-effect.Post sub-effect-Inv-loop sub-effect-μ-loop
-  body-start = c .before .before .before .before .before
+  body-start = c .before .before .before .before .before .before
 
-  was-unentered : body (body-start .args .work .now) (body-start .args .h .statements) (body-start .args .e) ≡ unentered
-  was-unentered = sym (ap (λ x. getD (body-start .args .work .now) (x + body-start .args .e) 0) (c .before .before .bodies .ensures)) ∙ c .if1 .left
+  was-unentered : body (body-start .args .work .now) (body-start .args .h .statements) (body-start .args .e .0) ≡ unentered
+  was-unentered = sym (ap (λ x. getD (body-start .args .work .now) (x + body-start .args .e .0) 0) (c .before .before .before .bodies .ensures)) ∙ c .if1 .left
 
   body-room : matrixAt (body-start .args .h .statements) ≤ length (body-start .args .work .now)
-  body-room = omega (arith, body-start .pre .1 .0 .room)
+  body-room = omega (arith, body-start .pre .1 .0 .ready .room)
 
 sub-effect-is-return-requires : (t : ℕ) → sub-effect-lts.Need-is-return-requires (sub-claims t) (sub-effect-at t) sub-effect.Post sub-effect-Inv-loop sub-effect-μ-loop
-sub-effect-is-return-requires t c κs = let p = c .before .before .before .before .before .before .pre .1 in (p .0, p .2)
+sub-effect-is-return-requires t c κs = let p = c .before .before .before .before .before .before .before .pre .1 in (p .0 .ready, p .1)
 
 sub-effect-join-references-requires : (t : ℕ) → sub-effect-lts.Need-join-references-requires (sub-claims t) (sub-effect-at t) sub-effect.Post sub-effect-Inv-loop sub-effect-μ-loop
-sub-effect-join-references-requires t c κs = let p = c .before .before .before .before .before .before .before .before .before .pre .1 in (p .0, p .2, p .2)
+sub-effect-join-references-requires t c κs = let p = c .before .before .before .before .before .before .before .before .before .before .pre .1 in (p .0 .ready, p .1, p .1)
 
 sub-effect-mul-work : (t : ℕ) → sub-effect-lts.Need-mul-work (sub-claims t) (sub-effect-at t) sub-effect.Post sub-effect-Inv-loop sub-effect-μ-loop
-sub-effect-mul-work t c = omega (arith, body-bounds t (c .before .before .before .before .before .before .before .before .before), ready-most (c .before .before .before .before .before .before .before .before .before .before .before .before .pre .1 .0))
+sub-effect-mul-work t c = omega (arith, body-bounds t (c .before .before .before .before .before .before .before .before .before .before), ready-most (c .before .before .before .before .before .before .before .before .before .before .before .before .before .pre .1 .0 .ready))
 
 sub-effect-slice-write-work : (t : ℕ) → sub-effect-lts.Need-slice-write-work (sub-claims t) (sub-effect-at t) sub-effect.Post sub-effect-Inv-loop sub-effect-μ-loop
-sub-effect-slice-write-work t c = omega (arith, body-bounds t (c .before .before .before .before .before .before .before .before .before), c .before .before .before .before .before .before .before .before .before .before .before .before .pre .1 .0 .room, c .before .before .join-references .kept .1 .0)
+sub-effect-slice-write-work t c = omega (arith, body-bounds t (c .before .before .before .before .before .before .before .before .before .before), c .before .before .before .before .before .before .before .before .before .before .before .before .before .pre .1 .0 .ready .room, c .before .before .join-references .kept .1 .0)
 
 sub-effect-same-length : (t : ℕ) → sub-effect-lts.Need-same-length (sub-claims t) (sub-effect-at t) sub-effect.Post sub-effect-Inv-loop sub-effect-μ-loop
 sub-effect-same-length t c = length-set (c .before .before .join-references .last .1 .0) _ _ ∙ c .before .before .join-references .kept .1 .0
@@ -345,36 +345,36 @@ sub-effect-returns-2 : (t : ℕ) → sub-effect-lts.Need-returns-2 (sub-claims t
 sub-effect-returns-2 t c =
     let d = c .before .before .before .before .before .before .before in
     let s = body-start t d in
-    let r = s .pre .1 .0 in
-    subst (λ x. BodySummed (flowOf (s .args .file .now)) (s .args .work .now) (set (c .before .before .join-references .last .1 .0) (x + s .args .e) clear) (s .args .h .statements) (s .args .e)) (sym (c .before .before .before .before .before .before .before .before .before .bodies .ensures))
-    (return-done (ready-formed r) (ready-size r) (s .pre .1 .3) (body-room t d) (s .pre .1 .2) (was-unentered t d) (sym (c .before .before .before .before .before .is-return .ensures) ∙ c .before .before .before .before .if2 .taken) (c .before .before .join-references .ensures))
+    let r = s .pre .1 .0 .ready in
+    subst (λ x. BodySummed (flowOf (s .args .file .now)) (s .args .work .now) (set (c .before .before .join-references .last .1 .0) (x + s .args .e .0) transparent) (s .args .h .statements) (s .args .e .0)) (sym (c .before .before .before .before .before .before .before .before .before .before .bodies .ensures))
+    (return-done (ready-formed r) (ready-size r) (s .pre .1 .2) (body-room t d) (s .pre .1 .1) (was-unentered t d) (sym (c .before .before .before .before .before .is-return .ensures) ∙ c .before .before .before .before .if2 .taken) (c .before .before .join-references .ensures))
 
 sub-effect-mul-work-2 : (t : ℕ) → sub-effect-lts.Need-mul-work-2 (sub-claims t) (sub-effect-at t) sub-effect.Post sub-effect-Inv-loop sub-effect-μ-loop
-sub-effect-mul-work-2 t c = omega (arith, body-bounds t (c .before .before .before .before .before), ready-most (c .before .before .before .before .before .before .before .before .pre .1 .0))
+sub-effect-mul-work-2 t c = omega (arith, body-bounds t (c .before .before .before .before .before .before), ready-most (c .before .before .before .before .before .before .before .before .before .pre .1 .0 .ready))
 
 sub-effect-slice-write-work-2 : (t : ℕ) → sub-effect-lts.Need-slice-write-work-2 (sub-claims t) (sub-effect-at t) sub-effect.Post sub-effect-Inv-loop sub-effect-μ-loop
-sub-effect-slice-write-work-2 t c = omega (arith, body-bounds t (c .before .before .before .before .before), c .before .before .before .before .before .before .before .before .pre .1 .0 .room)
+sub-effect-slice-write-work-2 t c = omega (arith, body-bounds t (c .before .before .before .before .before .before), c .before .before .before .before .before .before .before .before .before .pre .1 .0 .ready .room)
 
 -- it is opened
 module _ (t : ℕ) (c : sub-effect-lts.Else1 (sub-claims t) (sub-effect-at t) sub-effect.Post sub-effect-Inv-loop sub-effect-μ-loop) where
   abbrev body-place : ℕ
-  body-place = c .before .before .bodies .result + body-start t c .args .e
+  body-place = c .before .before .before .bodies .result + body-start t c .args .e .0
 
-  body-opens : Keeps (callsAt (body-start t c .args .h .statements)) (enteredAt (body-start t c .args .h .statements)) (body-start t c .args .work .now) (set (body-start t c .args .work .now) body-place opened)
+  body-opens : Keeps (callsAt (body-start t c .args .h .statements)) (enteredRowAt (body-start t c .args .h .statements)) (body-start t c .args .work .now) (set (body-start t c .args .work .now) body-place opened)
   body-opens =
-      keeps-set (body-start t c .args .work .now) body-place opened (omega (arith, c .before .before .bodies .ensures))
-      (omega (arith, body-bounds t (c .before .before), row-from (body-start t c .args .h .statements) (body-start t c .args .h .statements)))
+      keeps-set (body-start t c .args .work .now) body-place opened (omega (arith, c .before .before .before .bodies .ensures))
+      (omega (arith, body-bounds t (c .before .before .before), row-from (body-start t c .args .h .statements) (body-start t c .args .h .statements)))
 
-  body-empty : EmptyRow (set (body-start t c .args .work .now) body-place opened) (body-start t c .args .h .statements) (body-start t c .args .e)
+  body-empty : EmptyRow (set (body-start t c .args .work .now) body-place opened) (body-start t c .args .h .statements) (body-start t c .args .e .0)
   body-empty i l =
-      rows-set (body-start t c .args .work .now) body-place opened (omega (arith, c .before .before .bodies .ensures)) (omega (arith, body-bounds t (c .before .before))) (body-start t c .args .e) i
-      ∙ unentered-row (was-unentered t c) (body-start t c .pre .1 .3 .bodies (body-start t c .args .e) (body-start t c .pre .1 .2)) i l
+      rows-set (body-start t c .args .work .now) body-place opened (omega (arith, c .before .before .before .bodies .ensures)) (omega (arith, body-bounds t (c .before .before .before))) (body-start t c .args .e .0) i
+      ∙ unentered-row (was-unentered t c) (body-start t c .pre .1 .2 .bodies (body-start t c .args .e .0) (body-start t c .pre .1 .1)) i l
 
 sub-effect-walk-requires : (t : ℕ) → sub-effect-lts.Need-walk-requires (sub-claims t) (sub-effect-at t) sub-effect.Post sub-effect-Inv-loop sub-effect-μ-loop
 sub-effect-walk-requires t c κs =
     let d = c .before .before .before .before in
     let s = body-start t d in
-    (ready-keeps (s .pre .1 .0) (body-opens t d) (omega arith), s .pre .1 .2, body-empty t d)
+    (ready-keeps (s .pre .1 .0 .ready) (body-opens t d) (omega arith), s .pre .1 .1, body-empty t d)
 
 -- its walk is in its row
 module _ (t : ℕ) (c : sub-effect-lts.After-walk (sub-claims t) (sub-effect-at t) sub-effect.Post sub-effect-Inv-loop sub-effect-μ-loop) where
@@ -387,37 +387,37 @@ module _ (t : ℕ) (c : sub-effect-lts.After-walk (sub-claims t) (sub-effect-at 
   abbrev walked : List ℕ
   walked = c .walk .last .1 .0
 
-  is-walked : Walked (flowOf (entry .args .file .now)) (set (entry .args .work .now) (bodiesAt (entry .args .h .statements) + entry .args .e) opened) walked (entry .args .h .statements) (entry .args .e)
+  is-walked : Walked (flowOf (entry .args .file .now)) (set (entry .args .work .now) (bodiesAt (entry .args .h .statements) + entry .args .e .0) opened) walked (entry .args .h .statements) (entry .args .e .0)
   is-walked =
-      subst (λ x. Walked (flowOf (entry .args .file .now)) (set (entry .args .work .now) (x + entry .args .e) opened) walked (entry .args .h .statements) (entry .args .e)) (unentered-at .before .before .bodies .ensures)
+      subst (λ x. Walked (flowOf (entry .args .file .now)) (set (entry .args .work .now) (x + entry .args .e .0) opened) walked (entry .args .h .statements) (entry .args .e .0)) (unentered-at .before .before .before .bodies .ensures)
       (c .walk .ensures)
 
-  walk-onward : OnwardBut (entry .args .e) (entry .args .work .now) walked (entry .args .h .statements)
-  walk-onward = let r = entry .pre .1 .0 in onward-open (ready-formed r) (ready-size r) (entry .pre .1 .3) (body-room t unentered-at) (entry .pre .1 .2) is-walked
+  walk-onward : OnwardBut (entry .args .e .0) (entry .args .work .now) walked (entry .args .h .statements)
+  walk-onward = let r = entry .pre .1 .0 .ready in onward-open (ready-formed r) (ready-size r) (entry .pre .1 .2) (body-room t unentered-at) (entry .pre .1 .1) is-walked
 
   walk-ready : Ready (entry .args .file .now) walked (entry .args .h .statements)
-  walk-ready = ready-keeps (entry .pre .1 .0) (walk-onward .keeps) (omega arith)
+  walk-ready = ready-keeps (entry .pre .1 .0 .ready) (walk-onward .keeps) (omega arith)
 
-  walk-open : body walked (entry .args .h .statements) (entry .args .e) ≡ opened
-  walk-open = let r = entry .pre .1 .0 in body-open (ready-formed r) (ready-size r) (entry .pre .1 .3) (body-room t unentered-at) (entry .pre .1 .2) is-walked
+  walk-open : body walked (entry .args .h .statements) (entry .args .e .0) ≡ opened
+  walk-open = let r = entry .pre .1 .0 .ready in body-open (ready-formed r) (ready-size r) (entry .pre .1 .2) (body-room t unentered-at) (entry .pre .1 .1) is-walked
 
   walk-summing : Summing (flowOf (entry .args .file .now)) walked (entry .args .h .statements)
   walk-summing =
-      let r = entry .pre .1 .0 in
-      summing-open (ready-formed r) (ready-size r) (entry .pre .1 .3) (body-room t unentered-at) (entry .pre .1 .2) is-walked (sym (c .before .before .before .is-return .ensures) ∙ c .before .before .if2 .left)
+      let r = entry .pre .1 .0 .ready in
+      summing-open (ready-formed r) (ready-size r) (entry .pre .1 .2) (body-room t unentered-at) (entry .pre .1 .1) is-walked (sym (c .before .before .before .is-return .ensures) ∙ c .before .before .if2 .left)
 
 sub-effect-row-requires : (t : ℕ) → sub-effect-lts.Need-row-requires (sub-claims t) (sub-effect-at t) sub-effect.Post sub-effect-Inv-loop sub-effect-μ-loop
-sub-effect-row-requires t c κs = let s = entry t (c .before .before) in (ready-most (s .pre .1 .0), omega (arith, s .pre .1 .2))
+sub-effect-row-requires t c κs = let s = entry t (c .before .before) in (ready-most (s .pre .1 .0 .ready), omega (arith, s .pre .1 .1))
 
 sub-effect-next-requires : (t : ℕ) → sub-effect-lts.Need-next-requires (sub-claims t) (sub-effect-at t) sub-effect.Post sub-effect-Inv-loop sub-effect-μ-loop
 sub-effect-next-requires t c κs =
     let d = c .before .before .before .before in
-    omega (arith, c .before .row .ensures, row-room (walk-ready t d) (entry t d .pre .1 .2))
+    omega (arith, c .before .row .ensures, row-room (walk-ready t d) (entry t d .pre .1 .1))
 
 sub-effect-loop-holds : (t : ℕ) → sub-effect-lts.Need-loop-holds (sub-claims t) (sub-effect-at t) sub-effect.Post sub-effect-Inv-loop sub-effect-μ-loop
 sub-effect-loop-holds t c =
     let d = c .before .before .before .before .before in
-    body-next (entry t d .pre .1 .2) zero-le (passed-none (walk-summing t d) (walk-open t d)) (c .before .before .row .ensures) (c .next .ensures)
+    body-next (entry t d .pre .1 .1) zero-le (passed-none (walk-summing t d) (walk-open t d)) (c .before .before .row .ensures) (c .next .ensures)
 
 -- a turn
 module _ (t : ℕ) (c : sub-effect-lts.In-loop (sub-claims t) (sub-effect-at t) sub-effect.Post sub-effect-Inv-loop sub-effect-μ-loop) where
@@ -427,20 +427,20 @@ module _ (t : ℕ) (c : sub-effect-lts.In-loop (sub-claims t) (sub-effect-at t) 
   abbrev given : sub-effect-lts.Start (sub-claims t) (sub-effect-at t) sub-effect.Post sub-effect-Inv-loop sub-effect-μ-loop
   given = entry t walk-done
 
-  on-walk : Walks (flowOf (given .args .file .now)) (given .args .e) (c .before .loop .i)
+  on-walk : Walks (flowOf (given .args .file .now)) (given .args .e .0) (c .before .loop .i)
   on-walk = c .before .loop .inv .member (c .loop-test .taken)
 
-  turn-onward : OnwardBut (given .args .e) (given .args .work .now) (c .before .loop .work) (given .args .h .statements)
-  turn-onward = onward-trans (walk-onward t walk-done) (onward-but (given .args .e) (c .before .loop .inv .below .onward))
+  turn-onward : OnwardBut (given .args .e .0) (given .args .work .now) (c .before .loop .work) (given .args .h .statements)
+  turn-onward = onward-trans (walk-onward t walk-done) (onward-but (given .args .e .0) (c .before .loop .inv .below .onward))
 
   turn-room : workWords (given .args .h .statements) ≤ length (c .before .loop .work)
-  turn-room = omega (arith, given .pre .1 .0 .room, turn-onward .keeps .size)
+  turn-room = omega (arith, given .pre .1 .0 .ready .room, turn-onward .keeps .size)
 
   turn-ready : Ready (given .args .file .now) (c .before .loop .work) (given .args .h .statements)
-  turn-ready = ready-keeps (given .pre .1 .0) (turn-onward .keeps) (omega arith)
+  turn-ready = ready-keeps (given .pre .1 .0 .ready) (turn-onward .keeps) (omega arith)
 
 sub-effect-join-references-requires-2 : (t : ℕ) → sub-effect-lts.Need-join-references-requires-2 (sub-claims t) (sub-effect-at t) sub-effect.Post sub-effect-Inv-loop sub-effect-μ-loop
-sub-effect-join-references-requires-2 t c κs = let turn = c .before in (turn-ready t turn, given t turn .pre .1 .2, turn .loop-test .taken)
+sub-effect-join-references-requires-2 t c κs = let turn = c .before in (turn-ready t turn, given t turn .pre .1 .1, turn .loop-test .taken)
 
 -- the references of i are noted
 module _ (t : ℕ) (c : sub-effect-lts.After-join-references2 (sub-claims t) (sub-effect-at t) sub-effect.Post sub-effect-Inv-loop sub-effect-μ-loop) where
@@ -452,21 +452,21 @@ module _ (t : ℕ) (c : sub-effect-lts.After-join-references2 (sub-claims t) (su
 
   noted-summing : Summing (flowOf (given t of-turn .args .file .now)) noted (given t of-turn .args .h .statements)
   noted-summing =
-      let r = given t of-turn .pre .1 .0 in
-      referred-summing (ready-formed r) (ready-size r) (of-turn .before .loop .inv .below .summing) (omega (arith, turn-room t of-turn)) (given t of-turn .pre .1 .2) (on-walk t of-turn) (c .join-references2 .ensures)
+      let r = given t of-turn .pre .1 .0 .ready in
+      referred-summing (ready-formed r) (ready-size r) (of-turn .before .loop .inv .below .summing) (omega (arith, turn-room t of-turn)) (given t of-turn .pre .1 .1) (on-walk t of-turn) (c .join-references2 .ensures)
 
   noted-onward : Onward (of-turn .before .loop .work) noted (given t of-turn .args .h .statements)
   noted-onward =
-      let r = given t of-turn .pre .1 .0 in
-      referred-onward (ready-formed r) (ready-size r) (of-turn .before .loop .inv .below .summing) (omega (arith, turn-room t of-turn)) (given t of-turn .pre .1 .2) (on-walk t of-turn) (c .join-references2 .ensures)
+      let r = given t of-turn .pre .1 .0 .ready in
+      referred-onward (ready-formed r) (ready-size r) (of-turn .before .loop .inv .below .summing) (omega (arith, turn-room t of-turn)) (given t of-turn .pre .1 .1) (on-walk t of-turn) (c .join-references2 .ensures)
 
-  noted-all : OnwardBut (given t of-turn .args .e) (given t of-turn .args .work .now) noted (given t of-turn .args .h .statements)
-  noted-all = onward-trans (turn-onward t of-turn) (onward-but (given t of-turn .args .e) noted-onward)
+  noted-all : OnwardBut (given t of-turn .args .e .0) (given t of-turn .args .work .now) noted (given t of-turn .args .h .statements)
+  noted-all = onward-trans (turn-onward t of-turn) (onward-but (given t of-turn .args .e .0) noted-onward)
 
 sub-effect-wipes-requires : (t : ℕ) → sub-effect-lts.Need-wipes-requires (sub-claims t) (sub-effect-at t) sub-effect.Post sub-effect-Inv-loop sub-effect-μ-loop
 sub-effect-wipes-requires t c κs =
     let d = c .before .before .before in
-    (ready-keeps (given t (of-turn t d) .pre .1 .0) (noted-all t d .keeps) (omega arith), of-turn t d .loop-test .taken)
+    (ready-keeps (given t (of-turn t d) .pre .1 .0 .ready) (noted-all t d .keeps) (omega arith), of-turn t d .loop-test .taken)
 
 sub-effect-call-summary-requires : (t : ℕ) → sub-effect-lts.Need-call-summary-requires (sub-claims t) (sub-effect-at t) sub-effect.Post sub-effect-Inv-loop sub-effect-μ-loop
 sub-effect-call-summary-requires t c κs =
@@ -479,42 +479,42 @@ sub-effect-call-summary-requires t c κs =
       s .pre .0,
       unentered-le (noted-onward t d),
       unentered-le (turn .before .loop .inv .below .onward),
-      unentered-falls (walk-onward t (walk-done t turn)) (s .pre .1 .2) (was-unentered t (unentered-at t (walk-done t turn))) (walk-open t (walk-done t turn)),
+      unentered-falls (walk-onward t (walk-done t turn)) (s .pre .1 .1) (was-unentered t (unentered-at t (walk-done t turn))) (walk-open t (walk-done t turn)),
     ) in
-    (less, (ready-keeps (s .pre .1 .0) (noted-all t d .keeps) (omega arith), s .pre .1 .1, turn .loop-test .taken, noted-summing t d, λ b m. body-leads (noted-all t d) (s .pre .1 .4) (on-walk t turn) m))
+    (less, (indexed-keeps (s .pre .1 .0) (noted-all t d .keeps) (omega arith), turn .loop-test .taken, noted-summing t d, λ b m. body-leads (noted-all t d) (s .pre .1 .3) (on-walk t turn) m))
 
 sub-effect-join-call-requires : (t : ℕ) → sub-effect-lts.Need-join-call-requires (sub-claims t) (sub-effect-at t) sub-effect.Post sub-effect-Inv-loop sub-effect-μ-loop
 sub-effect-join-call-requires t c κs =
     let d = c .before .before .before .before .before .before .before .before .before in
     let turn = of-turn t d in
     let s = given t turn in
-    (record { few = ready-most (s .pre .1 .0); room = omega (arith, turn-room t turn, noted-onward t d .keeps .size, c .before .before .before .call-summary .kept .1 .1 .0) }, s .pre .1 .2, turn .loop-test .taken)
+    (record { few = ready-most (s .pre .1 .0 .ready); room = omega (arith, turn-room t turn, noted-onward t d .keeps .size, c .before .before .before .call-summary .kept .1 .1 .0) }, s .pre .1 .1, turn .loop-test .taken)
 
 -- i is passed by
 module _ (t : ℕ) (c : sub-effect-lts.After-join-call (sub-claims t) (sub-effect-at t) sub-effect.Post sub-effect-Inv-loop sub-effect-μ-loop) where
   abbrev turned : sub-effect-lts.In-loop (sub-claims t) (sub-effect-at t) sub-effect.Post sub-effect-Inv-loop sub-effect-μ-loop
   turned = c .before .before .before .before .before .before .before .before .before .before .before .before
 
-  abbrev passed-hidden : Bool
-  passed-hidden = (turned .before .loop .opaque || c .before .before .before .before .before .before .wipes .result) || c .join-call .result
+  abbrev passed-opaque : Bool
+  passed-opaque = (turned .before .loop .opaque || c .before .before .before .before .before .before .wipes .result) || c .join-call .result
 
-  passed : PassedBelow (flowOf (given t turned .args .file .now)) (walked t (walk-done t turned)) (c .join-call .last .0) (given t turned .args .h .statements) (given t turned .args .e) passed-hidden (turned .before .loop .i + 1)
+  passed : PassedBelow (flowOf (given t turned .args .file .now)) (walked t (walk-done t turned)) (c .join-call .last .0) (given t turned .args .h .statements) (given t turned .args .e .0) passed-opaque (turned .before .loop .i + 1)
   passed =
-      let r = given t turned .pre .1 .0 in
-      body-turn (ready-formed r) (ready-size r) (omega (arith, turn-room t turned)) (given t turned .pre .1 .2) (turned .loop-test .taken) (on-walk t turned) (turned .before .loop .inv .below)
+      let r = given t turned .pre .1 .0 .ready in
+      body-turn (ready-formed r) (ready-size r) (omega (arith, turn-room t turned)) (given t turned .pre .1 .1) (turned .loop-test .taken) (on-walk t turned) (turned .before .loop .inv .below)
       (c .before .before .before .before .before .before .before .before .before .before .join-references2 .ensures) (c .before .before .before .before .call-summary .ensures) (c .before .before .before .before .before .before .wipes .ensures) (c .join-call .ensures)
 
   passed-ready : Ready (given t turned .args .file .now) (c .join-call .last .0) (given t turned .args .h .statements)
   passed-ready =
-      ready-keeps (given t turned .pre .1 .0) (onward-trans (walk-onward t (walk-done t turned)) (onward-but (given t turned .args .e) (passed .onward)) .keeps) (omega arith)
+      ready-keeps (given t turned .pre .1 .0 .ready) (onward-trans (walk-onward t (walk-done t turned)) (onward-but (given t turned .args .e .0) (passed .onward)) .keeps) (omega arith)
 
 sub-effect-add-next : (t : ℕ) → sub-effect-lts.Need-add-next (sub-claims t) (sub-effect-at t) sub-effect.Post sub-effect-Inv-loop sub-effect-μ-loop
-sub-effect-add-next t c = let turn = turned t (c .before .before .before) in omega (arith, turn .loop-test .taken, ready-most (given t turn .pre .1 .0))
+sub-effect-add-next t c = let turn = turned t (c .before .before .before) in omega (arith, turn .loop-test .taken, ready-most (given t turn .pre .1 .0 .ready))
 
 sub-effect-next-requires-2 : (t : ℕ) → sub-effect-lts.Need-next-requires-2 (sub-claims t) (sub-effect-at t) sub-effect.Post sub-effect-Inv-loop sub-effect-μ-loop
 sub-effect-next-requires-2 t c κs =
     let d = c .before .before .before in
-    omega (arith, turned t d .before .before .before .before .row .ensures, row-room (passed-ready t d) (given t (turned t d) .pre .1 .2))
+    omega (arith, turned t d .before .before .before .before .row .ensures, row-room (passed-ready t d) (given t (turned t d) .pre .1 .1))
 
 sub-effect-loop-less : (t : ℕ) → sub-effect-lts.Need-loop-less (sub-claims t) (sub-effect-at t) sub-effect.Post sub-effect-Inv-loop sub-effect-μ-loop
 sub-effect-loop-less t c =
@@ -524,13 +524,13 @@ sub-effect-loop-less t c =
 sub-effect-loop-again : (t : ℕ) → sub-effect-lts.Need-loop-again (sub-claims t) (sub-effect-at t) sub-effect.Post sub-effect-Inv-loop sub-effect-μ-loop
 sub-effect-loop-again t c =
     let d = c .before .before .before .before in
-    body-next (given t (turned t d) .pre .1 .2) (omega (arith, turned t d .loop-test .taken)) (passed t d) (turned t d .before .before .before .before .row .ensures) (c .next2 .ensures)
+    body-next (given t (turned t d) .pre .1 .1) (omega (arith, turned t d .loop-test .taken)) (passed t d) (turned t d .before .before .before .before .row .ensures) (c .next2 .ensures)
 
-sub-effect-settled-requires : (t : ℕ) → sub-effect-lts.Need-settled-requires (sub-claims t) (sub-effect-at t) sub-effect.Post sub-effect-Inv-loop sub-effect-μ-loop
-sub-effect-settled-requires t c κs = search needs
+sub-effect-summary-state-requires : (t : ℕ) → sub-effect-lts.Need-summary-state-requires (sub-claims t) (sub-effect-at t) sub-effect.Post sub-effect-Inv-loop sub-effect-μ-loop
+sub-effect-summary-state-requires t c κs = search needs
 
 sub-effect-mul-work-3 : (t : ℕ) → sub-effect-lts.Need-mul-work-3 (sub-claims t) (sub-effect-at t) sub-effect.Post sub-effect-Inv-loop sub-effect-μ-loop
-sub-effect-mul-work-3 t c = omega (arith, body-bounds t (c .before .before .before .before .before .before .before .before .before .before .before .before .before .before .before), ready-most (c .before .before .before .before .before .before .before .before .before .before .before .before .before .before .before .before .before .before .pre .1 .0))
+sub-effect-mul-work-3 t c = omega (arith, body-bounds t (c .before .before .before .before .before .before .before .before .before .before .before .before .before .before .before .before), ready-most (c .before .before .before .before .before .before .before .before .before .before .before .before .before .before .before .before .before .before .before .pre .1 .0 .ready))
 
 -- the walk is passed by
 module _ (t : ℕ) (c : sub-effect-lts.At-loop (sub-claims t) (sub-effect-at t) sub-effect.Post sub-effect-Inv-loop sub-effect-μ-loop) where
@@ -538,7 +538,7 @@ module _ (t : ℕ) (c : sub-effect-lts.At-loop (sub-claims t) (sub-effect-at t) 
   done-size = c .loop .inv .below .onward .keeps .size ∙ walk-onward t (c .before .before .before .before .before .before) .keeps .size
 
 sub-effect-slice-write-work-3 : (t : ℕ) → sub-effect-lts.Need-slice-write-work-3 (sub-claims t) (sub-effect-at t) sub-effect.Post sub-effect-Inv-loop sub-effect-μ-loop
-sub-effect-slice-write-work-3 t c = omega (arith, body-bounds t (c .before .before .before .before .before .before .before .before .before .before .before .before .before .before .before), c .before .before .before .before .before .before .before .before .before .before .before .before .before .before .before .before .before .before .pre .1 .0 .room, done-size t (c .before .before))
+sub-effect-slice-write-work-3 t c = omega (arith, body-bounds t (c .before .before .before .before .before .before .before .before .before .before .before .before .before .before .before .before), c .before .before .before .before .before .before .before .before .before .before .before .before .before .before .before .before .before .before .before .pre .1 .0 .ready .room, done-size t (c .before .before))
 
 sub-effect-same-length-2 : (t : ℕ) → sub-effect-lts.Need-same-length-2 (sub-claims t) (sub-effect-at t) sub-effect.Post sub-effect-Inv-loop sub-effect-μ-loop
 sub-effect-same-length-2 t c = length-set (c .before .before .loop .work) _ _ ∙ done-size t (c .before .before)
@@ -547,9 +547,9 @@ sub-effect-returns-3 : (t : ℕ) → sub-effect-lts.Need-returns-3 (sub-claims t
 sub-effect-returns-3 t c =
     let d = c .before .before .before .before .before .before .before .before in
     let s = entry t d in
-    let r = s .pre .1 .0 in
-    subst (λ x. BodySummed (flowOf (s .args .file .now)) (s .args .work .now) (set (c .before .before .loop .work) (x + s .args .e) (c .settled .result)) (s .args .h .statements) (s .args .e)) (sym (c .before .before .before .before .before .before .before .before .before .before .before .before .before .before .before .bodies .ensures))
-    (body-done (ready-formed r) (ready-size r) (omega (arith, r .room, done-size t (c .before .before))) (s .pre .1 .2) (c .before .before .loop .inv .below) (c .before .loop-test .left) (c .settled .result) (c .settled .ensures)
+    let r = s .pre .1 .0 .ready in
+    subst (λ x. BodySummed (flowOf (s .args .file .now)) (s .args .work .now) (set (c .before .before .loop .work) (x + s .args .e .0) (c .summary-state .result)) (s .args .h .statements) (s .args .e .0)) (sym (c .before .before .before .before .before .before .before .before .before .before .before .before .before .before .before .before .bodies .ensures))
+    (body-done (ready-formed r) (ready-size r) (omega (arith, r .room, done-size t (c .before .before))) (s .pre .1 .1) (c .before .before .loop .inv .below) (c .before .loop-test .left) (c .summary-state .result) (c .summary-state .ensures)
     (walk-onward t d) (was-unentered t (unentered-at t d)))
 
 pub +call-summary+sub-effect-spec : {M : Type 1} → statement M
@@ -577,7 +577,7 @@ pub +call-summary+sub-effect-spec : {M : Type 1} → statement M
     (call-summary-add-k t)
     (call-summary-loop-less t)
     (call-summary-loop-again t)
-    (call-summary-settled-requires t)
+    (call-summary-summary-state-requires t)
     (call-summary-mul-work t)
     (call-summary-slice-write-work t)
     (call-summary-same-length-2 t)
@@ -609,7 +609,7 @@ pub +call-summary+sub-effect-spec : {M : Type 1} → statement M
     (sub-effect-next-requires-2 t)
     (sub-effect-loop-less t)
     (sub-effect-loop-again t)
-    (sub-effect-settled-requires t)
+    (sub-effect-summary-state-requires t)
     (sub-effect-mul-work-3 t)
     (sub-effect-slice-write-work-3 t)
     (sub-effect-same-length-2 t)

@@ -7,22 +7,22 @@ use mathlib.Core.Path.{ap, ap₂, _∙_}
 use denote.Ref.{now}
 use lib.Dec.{eqb}
 use lib.ListN.{getD}
-use Rattle.words.specs.Change.{joined}
-use Rattle.calls.specs.Held.{clear}
+use Rattle.words.specs.contracts.Change.{joined}
+use Rattle.calls.specs.contracts.Held.{transparent}
 use Rattle.calls.proofs.summary.join_body.Statement.{statement}
 use Rattle.calls.proofs.summary.join_body.Tie as tie
 
 bodies-requires : tie.Need-bodies-requires
 bodies-requires c κs = search needs
 
-add-hidden : tie.Need-add-hidden
-add-hidden c = search needs
+add-opaque-body : tie.Need-add-opaque-body
+add-opaque-body c = search needs
 
-mul-hidden : tie.Need-mul-hidden
-mul-hidden c = search needs
+mul-opaque-body : tie.Need-mul-opaque-body
+mul-opaque-body c = search needs
 
-slice-read-hidden : tie.Need-slice-read-hidden
-slice-read-hidden c = search needs
+slice-read-opaque-body : tie.Need-slice-read-opaque-body
+slice-read-opaque-body c = search needs
 
 touched-requires : tie.Need-touched-requires
 touched-requires c κs = search needs
@@ -50,12 +50,12 @@ same-length c = search needs
 
 returns : tie.Need-returns
 returns c =
-    let a = c .before .before .before .before .before .before .before .before .before .before .args in
+    let a = c .before .before .before .before .before .before .before .before .before .before .before .before .before .args in
     let ws = now (a .work) in
     record {
       slice = c .before .before .union-word .ensures .slice
-          ∙ ap₂ (λ (x y : ℕ). joined ws (x + a .c) (getD ws (y + a .b) 0)) (c .before .before .before .call-touched .ensures) (c .before .before .before .before .before .before .touched .ensures);
-      state = ap (λ (x : ℕ). not (eqb (getD ws (x + a .b) 0) clear)) (c .before .before .before .before .before .before .before .before .bodies .ensures);
+          ∙ ap₂ (λ (x y : ℕ). joined ws (x + a .c .0) (getD ws (y + a .b .0) 0)) (c .before .before .before .before .call-touched .ensures) (c .before .before .before .before .before .before .before .before .touched .ensures);
+      state = ap (λ (x : ℕ). not (eqb (getD ws (x + a .b .0) 0) transparent)) (c .before .before .before .before .before .before .before .before .before .before .before .bodies .ensures);
     }
 
 pub join-body-spec : {M : Type 1} → statement M
@@ -63,9 +63,9 @@ join-body-spec =
     tie.close
     (tie.spec
     bodies-requires
-    add-hidden
-    mul-hidden
-    slice-read-hidden
+    add-opaque-body
+    mul-opaque-body
+    slice-read-opaque-body
     touched-requires
     add-inner
     mul-inner

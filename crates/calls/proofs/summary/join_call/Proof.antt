@@ -6,22 +6,22 @@ use mathlib.Core.Path.{ap, ap₂, _∙_}
 use denote.Ref.{now}
 use lib.Dec.{eqb}
 use lib.ListN.{getD}
-use Rattle.words.specs.Change.{joined}
-use Rattle.calls.specs.Held.{opaque}
+use Rattle.words.specs.contracts.Change.{joined}
+use Rattle.calls.specs.contracts.Held.{opaque}
 use Rattle.calls.proofs.summary.join_call.Statement.{statement}
 use Rattle.calls.proofs.summary.join_call.Tie as tie
 
 calls-requires : tie.Need-calls-requires
 calls-requires c κs = search needs
 
-add-hidden : tie.Need-add-hidden
-add-hidden c = search needs
+add-opaque-call : tie.Need-add-opaque-call
+add-opaque-call c = search needs
 
-mul-hidden : tie.Need-mul-hidden
-mul-hidden c = search needs
+mul-opaque-call : tie.Need-mul-opaque-call
+mul-opaque-call c = search needs
 
-slice-read-hidden : tie.Need-slice-read-hidden
-slice-read-hidden c = search needs
+slice-read-opaque-call : tie.Need-slice-read-opaque-call
+slice-read-opaque-call c = search needs
 
 call-touched-requires : tie.Need-call-touched-requires
 call-touched-requires c κs = search needs
@@ -49,12 +49,12 @@ same-length c = search needs
 
 returns : tie.Need-returns
 returns c =
-    let a = c .before .before .before .before .before .before .before .before .before .before .args in
+    let a = c .before .before .before .before .before .before .before .before .before .before .before .before .before .args in
     let ws = now (a .work) in
     record {
       slice = c .before .before .union-word .ensures .slice
-          ∙ ap₂ (λ (x y : ℕ). joined ws (x + a .e) (getD ws (y + a .c) 0)) (c .before .before .before .touched .ensures) (c .before .before .before .before .before .before .call-touched .ensures);
-      state = ap (λ (x : ℕ). eqb (getD ws (x + a .c) 0) opaque) (c .before .before .before .before .before .before .before .before .calls .ensures);
+          ∙ ap₂ (λ (x y : ℕ). joined ws (x + a .e .0) (getD ws (y + a .c .0) 0)) (c .before .before .before .before .touched .ensures) (c .before .before .before .before .before .before .before .before .call-touched .ensures);
+      state = ap (λ (x : ℕ). eqb (getD ws (x + a .c .0) 0) opaque) (c .before .before .before .before .before .before .before .before .before .before .before .calls .ensures);
     }
 
 pub join-call-spec : {M : Type 1} → statement M
@@ -62,9 +62,9 @@ join-call-spec =
     tie.close
     (tie.spec
     calls-requires
-    add-hidden
-    mul-hidden
-    slice-read-hidden
+    add-opaque-call
+    mul-opaque-call
+    slice-read-opaque-call
     call-touched-requires
     add-inner
     mul-inner

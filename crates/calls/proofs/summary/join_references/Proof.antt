@@ -4,7 +4,7 @@ use borrow.Author.Needs.{needs}
 use Prim.Native.Nat.{ℕ, _+_}
 use mathlib.Core.Path.{ap, _∙_}
 use denote.Ref.{now}
-use Rattle.words.specs.Change.{joined}
+use Rattle.words.specs.contracts.Change.{joined}
 use Rattle.statements.proofs.Keeps.{ready-most}
 use Rattle.calls.proofs.summary.join_references.Statement.{statement}
 use Rattle.calls.proofs.summary.join_references.Tie as tie
@@ -26,11 +26,11 @@ same-length c = search needs
 
 returns : tie.Need-returns
 returns c =
-    let a = c .before .before .before .before .before .before .before .before .before .args in
+    let a = c .before .before .before .before .before .before .before .before .before .before .args in
     record {
-      word = c .before .before .before .before .before .references-word .result;
-      set = c .before .before .before .before .before .references-word .ensures;
-      slice = c .before .before .union-word .ensures .slice ∙ ap (λ (x : ℕ). joined (now (a .work)) (x + a .e) (c .before .before .before .before .before .references-word .result)) (c .before .before .before .touched .ensures);
+      word = c .before .before .before .before .before .before .references-word .result;
+      set = c .before .before .before .before .before .before .references-word .ensures;
+      slice = c .before .before .union-word .ensures .slice ∙ ap (λ (x : ℕ). joined (now (a .work)) (x + a .e .0) (c .before .before .before .before .before .before .references-word .result)) (c .before .before .before .before .touched .ensures);
     }
 
 pub join-references-spec : {M : Type 1} → statement M

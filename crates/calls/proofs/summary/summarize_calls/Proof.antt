@@ -3,9 +3,9 @@
 use Prim.Native.Nat.{_-_}
 use native.Mathlib.Omega.{arith}
 use denote.Ref.{now}
-use Rattle.words.specs.Row.{Words}
+use Rattle.words.specs.contracts.Row.{Words}
 use Rattle.flow.specs.Format.{flowOf}
-use Rattle.statements.proofs.Keeps.{ready-keeps, ready-most, ready-size, ready-formed}
+use Rattle.statements.proofs.Keeps.{indexed-keeps, ready-most, ready-size, ready-formed}
 use Rattle.calls.proofs.Summaries.{SummedBelow, below-first, below-next, summarized, fresh-summing, fresh-shut}
 use Rattle.calls.proofs.summary.summarize_calls.Statement.{statement}
 use Rattle.calls.proofs.summary.summarize_calls.Tie as tie
@@ -17,16 +17,16 @@ abbrev μ-loop : tie.MeasureT-loop
 μ-loop file h work₀ n c₀ work c = n - c
 
 loop-holds : tie.Need-loop-holds Inv-loop μ-loop
-loop-holds c = (below-first (fresh-summing (c .before .before .pre .2) (flowOf (now (c .before .before .args .file)))), λ x. c .slice-known .given x .fits)
+loop-holds c = (below-first (fresh-summing (c .before .before .pre .1) (flowOf (now (c .before .before .args .file)))), λ x. c .slice-known .given x .fits)
 
 call-summary-requires : tie.Need-call-summary-requires Inv-loop μ-loop
 call-summary-requires c κs =
     let s = c .before .before .before .before .before in
     let p = c .before .before .loop .inv .0 in
-    (ready-keeps (s .pre .0) (p .onward .keeps) (omega arith), s .pre .1, c .before .loop-test .taken, p .summing, λ b m o l h. absurd (fresh-shut (s .pre .2) o l (p .onward .was-open o l (λ q. omega arith) h)))
+    (indexed-keeps (s .pre .0) (p .onward .keeps) (omega arith), c .before .loop-test .taken, p .summing, λ b m o l h. absurd (fresh-shut (s .pre .1) o l (p .onward .was-open o l (λ q. omega arith) h)))
 
 add-c : tie.Need-add-c Inv-loop μ-loop
-add-c c = omega (arith, c .before .before .before .before .loop-test .taken, ready-most (c .before .before .before .before .before .before .before .before .pre .0))
+add-c c = omega (arith, c .before .before .before .before .loop-test .taken, ready-most (c .before .before .before .before .before .before .before .before .pre .0 .ready))
 
 loop-less : tie.Need-loop-less Inv-loop μ-loop
 loop-less c = omega (arith, c .before .before .before .before .loop-test .taken)
@@ -39,7 +39,7 @@ same-length c = c .before .loop .inv .0 .onward .keeps .size
 
 returns : tie.Need-returns Inv-loop μ-loop
 returns c =
-    let r = c .before .before .before .before .pre .0 in
+    let r = c .before .before .before .before .pre .0 .ready in
     let p = c .before .loop .inv in
     (summarized (ready-formed r) (ready-size r) (p .1) (p .0) (c .loop-test .left), p .0 .onward .keeps)
 

@@ -8,10 +8,9 @@ use native.Mathlib.Omega.{arith}
 use borrow.Author.Needs.{needs}
 use denote.Ref.{now}
 use lib.ListN.{length-set}
-use Rattle.words.specs.Row.{has}
-use Rattle.statements.specs.Layout.{queueAt}
+use Rattle.statements.specs.contracts.Layout.{queueAt}
 use Rattle.statements.proofs.WorkArea.{row-below}
-use Rattle.words.specs.Change.{Inserted}
+use Rattle.words.specs.contracts.Change.{Inserted}
 use Rattle.calls.proofs.Walking.{in-row, insert-room, insert-new, insert-old}
 use Rattle.calls.proofs.walk.meet.Statement.{statement}
 use Rattle.calls.proofs.walk.meet.Tie as tie
@@ -35,7 +34,7 @@ module _ (c : tie.After-queue) where
   abbrev row : tie.After-row
   row = c .before .before .before .before .before
 
-  inserted : Inserted (now (start .args .work)) (c .before .before .before .before .insert .last .0) (row .row .result) (start .args .i) (c .before .before .before .before .insert .result)
+  inserted : Inserted (now (start .args .work)) (c .before .before .before .before .insert .last .0) (row .row .result) (start .args .i .0) (c .before .before .before .before .insert .result)
   inserted = c .before .before .before .before .insert .ensures
 
   is-new : c .before .before .before .before .insert .result ≡ true

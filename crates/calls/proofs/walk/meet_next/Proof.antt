@@ -18,10 +18,10 @@ module _ (c : tie.After-k) where
   abbrev start : tie.Start
   start = c .before .before .before .before .before .before .before .before .before
 
-  continued : continuationOf (kind (flowOf (now (start .args .file))) (start .args .i)) ≡ some (c .k .given .0 .0 .0)
+  continued : continuationOf (kind (flowOf (now (start .args .file))) (start .args .i .0)) ≡ some (c .k .given .0 .0 .0)
   continued = continues-to _ _ (sym (c .before .before .continuation .ensures) ∙ c .k .given .1)
 
-not-return : (c : tie.After-continuation) → isReturn (kind (flowOf (now (c .before .before .before .before .before .before .before .args .file))) (c .before .before .before .before .before .before .before .args .i)) ≡ false
+not-return : (c : tie.After-continuation) → isReturn (kind (flowOf (now (c .before .before .before .before .before .before .before .args .file))) (c .before .before .before .before .before .before .before .args .i .0)) ≡ false
 not-return c = sym (c .before .before .before .is-return .ensures) ∙ c .before .before .if1 .left
 
 is-return-requires : tie.Need-is-return-requires
@@ -33,7 +33,7 @@ same-length c = search needs
 returns : tie.Need-returns
 returns c =
     let start = c .before .before .before .before .before in
-    met-return (flowOf (now (start .args .file))) (start .args .i) _ _ _ _ (sym (c .before .is-return .ensures) ∙ c .if1 .taken)
+    met-return (flowOf (now (start .args .file))) (start .args .i .0) _ _ _ _ (sym (c .before .is-return .ensures) ∙ c .if1 .taken)
 
 continuation-requires : tie.Need-continuation-requires
 continuation-requires c κs = search needs
@@ -45,7 +45,7 @@ meet-requires : tie.Need-meet-requires
 meet-requires c κs =
     let start = c .before .before .before .before .before .before .before .before .before .before .before in
     let p = start .pre in
-    (p .1, p .2, ready-below (p .0) (ready-formed (p .0) .continuation (start .args .i) _ (continued (c .before .before))))
+    (p .1, p .2, ready-below (p .0) (ready-formed (p .0) .continuation (start .args .i .0) _ (continued (c .before .before))))
 
 enum-told : tie.Need-enum-told
 enum-told c = search needs
@@ -59,7 +59,7 @@ same-length-2 c = search needs
 returns-2 : tie.Need-returns-2
 returns-2 c =
     let k = c .before .before .before .before .before in
-    met-next (flowOf (now (start k .args .file))) (start k .args .i) (not-return (k .before .before)) (continued k) (c .before .before .meet .ensures)
+    met-next (flowOf (now (start k .args .file))) (start k .args .i .0) (not-return (k .before .before)) (continued k) (c .before .before .meet .ensures)
 
 same-length-3 : tie.Need-same-length-3
 same-length-3 c = search needs
@@ -68,7 +68,7 @@ returns-3 : tie.Need-returns-3
 returns-3 c =
     let start = c .before .before .before .before .before .before .before .before .before .before .before .before .before in
     let none = c .before .before .before .before in
-    met-next (flowOf (now (start .args .file))) (start .args .i) (not-return (none .before .before))
+    met-next (flowOf (now (start .args .file))) (start .args .i .0) (not-return (none .before .before))
     (continues-nowhere _ (sym (none .before .before .continuation .ensures) ∙ none .enum-told .given .1))
     (c .before .before .meet-successors .ensures)
 

@@ -8,14 +8,14 @@ use lib.ListN.{length, getD, take}
 use lib.Seq.{take-all}
 use Rattle.flow.specs.Format.{flowOf}
 use Rattle.theory.specs.Body.{successors}
-use Rattle.calls.specs.Walking.{Met}
+use Rattle.calls.specs.contracts.Walking.{Met}
 use Rattle.calls.proofs.Checked.{successor-below}
 use Rattle.calls.proofs.Walking.{met-none, met-more, met-stack, met-ready}
 use Rattle.calls.proofs.walk.meet_successors.Statement.{statement}
 use Rattle.calls.proofs.walk.meet_successors.Tie as tie
 
 abbrev Inv-loop : tie.InvT-loop
-Inv-loop file work₀ n e top i count height₀ k₀ work height k = (k ≤ count) × Met work₀ work n e top height (take k (successors (flowOf file) i))
+Inv-loop file work₀ n e top i count height₀ k₀ work height k = (k ≤ count) × Met work₀ work n (e .0) top height (take k (successors (flowOf file) (i .0)))
 
 abbrev μ-loop : tie.MeasureT-loop
 μ-loop file work₀ n e top i count height₀ k₀ work height k = count - k
@@ -32,13 +32,13 @@ module _ (c : tie.In-loop Inv-loop μ-loop) where
   start = c .before .before .before .before .before .before
 
   abbrev list : List ℕ
-  list = successors (flowOf (now (start .args .file))) (start .args .i)
+  list = successors (flowOf (now (start .args .file))) (start .args .i .0)
 
   inside : c .before .loop .k < length list
   inside = omega (arith, c .loop-test .taken, c .before .before .successor-count .ensures)
 
   is-statement : getD list (c .before .loop .k) 0 < start .args .n
-  is-statement = successor-below (start .pre .0) (start .args .i) (c .before .loop .k) inside
+  is-statement = successor-below (start .pre .0) (start .args .i .0) (c .before .loop .k) inside
 
 successor-requires : tie.Need-successor-requires Inv-loop μ-loop
 successor-requires c κs =
@@ -67,7 +67,7 @@ same-length c = c .before .loop .inv .1 .only .size
 returns : tie.Need-returns Inv-loop μ-loop
 returns c =
     let start = c .before .before .before .before .before .before in
-    let list : List ℕ = successors (flowOf (now (start .args .file))) (start .args .i) in
+    let list : List ℕ = successors (flowOf (now (start .args .file))) (start .args .i .0) in
     rw (take-all (c .before .loop .k) list (omega (arith, c .loop-test .left, c .before .before .successor-count .ensures))) at (c .before .loop .inv .1)
 
 pub meet-successors-spec : {M : Type 1} → statement M

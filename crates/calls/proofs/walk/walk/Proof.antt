@@ -6,22 +6,22 @@ use native.Mathlib.Omega.{arith}
 use denote.Ref.{now}
 use lib.ListN.{getD}
 use Rattle.flow.specs.Format.{flowOf}
-use Rattle.statements.specs.Layout.{queueAt}
-use Rattle.statements.specs.Ready.{Ready}
+use Rattle.statements.specs.contracts.Layout.{queueAt}
+use Rattle.statements.specs.contracts.Ready.{Ready}
 use Rattle.statements.proofs.Keeps.{ready-keeps, ready-most}
-use Rattle.calls.specs.Walking.{Stack}
+use Rattle.calls.specs.contracts.Walking.{Stack}
 use Rattle.calls.proofs.Checked.{ready-next}
 use Rattle.calls.proofs.Walking.{Walking, left, only-keeps, only-trans, walking-first, walking-next, left-falls, walking-end, stack-fits, stack-less}
 use Rattle.calls.proofs.walk.walk.Statement.{statement}
 use Rattle.calls.proofs.walk.walk.Tie as tie
 
 abbrev Inv-loop : tie.InvT-loop
-Inv-loop file work₀ n e top₀ work top = Walking (flowOf file) work₀ work n e top
+Inv-loop file work₀ n e top₀ work top = Walking (flowOf file) work₀ work n (e .0) top
 
 abbrev μ-loop : tie.MeasureT-loop
-μ-loop file work₀ n e top₀ work top = left work n e top
+μ-loop file work₀ n e top₀ work top = left work n (e .0) top
 
-empty-stack : (c : tie.Start Inv-loop μ-loop) → Stack (now (c .args .work)) (c .args .n) (c .args .e) 0
+empty-stack : (c : tie.Start Inv-loop μ-loop) → Stack (now (c .args .work)) (c .args .n) (c .args .e .0) 0
 empty-stack c = record { area = record { few = ready-most (c .pre .0); room = c .pre .0 .room }; high = zero-le }
 
 meet-requires : tie.Need-meet-requires Inv-loop μ-loop

@@ -31,15 +31,15 @@ mul-work-2 : tie.Need-mul-work-2
 mul-work-2 c = search needs
 
 slice-write-work-2 : tie.Need-slice-write-work-2
-slice-write-work-2 c = let at = c .grown .ensures in simp length-set (omega arith)
+slice-write-work-2 c = let at = c .before .grown .ensures in simp length-set (omega arith)
 
 same-length : tie.Need-same-length
 same-length c = simp length-set
 
 returns : tie.Need-returns
 returns c =
-    let a = c .before .before .before .args in
-    ap₂ (λ (x y : ℕ). set (set (now (a .work)) (x + a .d) 1) (y + a .d) 0) (c .before .visited .ensures) (c .grown .ensures)
+    let a = c .before .before .before .before .before .args in
+    ap₂ (λ (x y : ℕ). set (set (now (a .work)) (x + a .d .0) 1) (y + a .d .0) 0) (c .before .before .before .visited .ensures) (c .before .grown .ensures)
 
 pub note-visit-spec : {M : Type 1} → statement M
 note-visit-spec =

@@ -1,21 +1,16 @@
 -- `dataflow::arrays::push_edge` meets its contract: the row with the touched step is pushed where the edge carries it, and else the other.
 -- By the two cases.
 use Prim.Native.Nat.{ℕ}
-use mathlib.Core.Bool.{Bool}
-use mathlib.Core.Path.{sym, subst}
-use native.Mathlib.Omega.{arith}
+use mathlib.Core.Path.{sym, ap, subst, _∙_}
 use borrow.Author.Needs.{needs}
 use denote.Ref.{now}
-use Rattle.solve.specs.Pushed.{Pushed}
-use Rattle.dataflow.specs.Sent.{edgeRow}
+use Rattle.solve.specs.contracts.Pushed.{Pushed}
+use Rattle.dataflow.specs.contracts.Sent.{edgeRow}
 use Rattle.dataflow.proofs.arrays.push_edge.Statement.{statement}
 use Rattle.dataflow.proofs.arrays.push_edge.Tie as tie
 
-mul-push : tie.Need-mul-push
-mul-push c = search needs
-
-add-push : tie.Need-add-push
-add-push c = search needs
+back-row-requires : tie.Need-back-row-requires
+back-row-requires c κs = search needs
 
 push-requires : tie.Need-push-requires
 push-requires c κs = search needs
@@ -25,12 +20,13 @@ same-length c = c .before .before .push .ensures .keeps .size
 
 returns : tie.Need-returns
 returns c =
-    let a = c .before .before .before .before .before .before .args in
-    subst (λ (b : Bool). Pushed (now (a .work)) (c .before .before .push .last .0) (a .n) (a .queue) (edgeRow (a .n) b) (a .t) (c .before .before .push .result)) (sym (c .before .before .before .before .if1 .taken))
+    let a = c .before .before .before .before .before .before .before .args in
+    subst (λ (row : ℕ). Pushed (now (a .work)) (c .before .before .push .last .0) (a .n) (a .queue) row (a .t .0) (c .before .before .push .result))
+    (c .before .before .before .back-row .ensures ∙ sym (ap (edgeRow (a .n)) (c .before .before .before .before .before .if1 .taken)))
     (c .before .before .push .ensures)
 
-mul-push-2 : tie.Need-mul-push-2
-mul-push-2 c = search needs
+out-row-requires : tie.Need-out-row-requires
+out-row-requires c κs = search needs
 
 push-requires-2 : tie.Need-push-requires-2
 push-requires-2 c κs = search needs
@@ -40,20 +36,20 @@ same-length-2 c = c .before .before .push2 .ensures .keeps .size
 
 returns-2 : tie.Need-returns-2
 returns-2 c =
-    let a = c .before .before .before .before .before .before .args in
-    subst (λ (b : Bool). Pushed (now (a .work)) (c .before .before .push2 .last .0) (a .n) (a .queue) (edgeRow (a .n) b) (a .t) (c .before .before .push2 .result)) (sym (c .before .before .before .before .if1 .left))
+    let a = c .before .before .before .before .before .before .before .args in
+    subst (λ (row : ℕ). Pushed (now (a .work)) (c .before .before .push2 .last .0) (a .n) (a .queue) row (a .t .0) (c .before .before .push2 .result))
+    (c .before .before .before .out-row .ensures ∙ sym (ap (edgeRow (a .n)) (c .before .before .before .before .before .if1 .left)))
     (c .before .before .push2 .ensures)
 
 pub push-edge-spec : {M : Type 1} → statement M
 push-edge-spec =
     tie.close
     (tie.spec
-    mul-push
-    add-push
+    back-row-requires
     push-requires
     same-length
     returns
-    mul-push-2
+    out-row-requires
     push-requires-2
     same-length-2
     returns-2)

@@ -1,40 +1,43 @@
--- `link` meets its contract: the RETURNs' rows are noted, the words that this used are cleared, and the other words of the solver are still zero.
+-- `link` meets its contract: the RETURNs' rows are noted, the words that this used are zeroed, and the other words of the solver are still zero.
 -- Assumes nothing.
 use borrow.Author.Needs.{needs}
 use native.Mathlib.Omega.{arith}
-use Prim.Native.Nat.{_*_}
-use mathlib.Core.Path.{ap, _∙_}
-use Rattle.words.specs.Change.{cleared}
+use Prim.Native.Nat.{_-_}
+use mathlib.Core.Path.{ap₂, _∙_}
+use Rattle.words.specs.contracts.Change.{zeroed}
 use Rattle.statements.proofs.Keeps.{ready-most, ready-room}
 use Rattle.dataflow.proofs.Phases.{linked}
 use Rattle.dataflow.proofs.door.link.Statement.{statement}
 use Rattle.dataflow.proofs.door.link.Tie as tie
 
-note-returns-requires : tie.Need-note-returns-requires
-note-returns-requires c κs = search needs
+note-edges-requires : tie.Need-note-edges-requires
+note-edges-requires c κs = search needs
 
 queue-requires : tie.Need-queue-requires
-queue-requires c κs = ready-most (c .before .before .before .before .before .before .before .pre .0 .ready)
+queue-requires c κs = ready-most (c .before .before .before .before .before .before .pre .0 .indexed .ready)
 
-mul-clear : tie.Need-mul-clear
-mul-clear c = search needs
+solver-requires : tie.Need-solver-requires
+solver-requires c κs = ready-most (c .before .before .before .before .before .before .before .before .pre .0 .indexed .ready)
 
-clear-requires : tie.Need-clear-requires
-clear-requires c κs =
-    let start = c .before .before .before .before .before .before .before .before in
-    omega (arith, c .queue .ensures, c .before .before .before .before .note-returns .kept .1 .1 .0, ready-room (start .pre .0 .ready) (start .pre .2))
+sub-zero-row : tie.Need-sub-zero-row
+sub-zero-row c = omega (arith, c .before .before .queue .ensures, c .solver .ensures)
+
+zero-row-requires : tie.Need-zero-row-requires
+zero-row-requires c κs =
+    let start = c .before .before .before .before .before .before .before .before .before in
+    omega (arith, c .before .before .queue .ensures, c .solver .ensures, c .before .before .before .before .before .note-edges .kept .1 .1 .0, ready-room (start .pre .0 .indexed .ready) (start .pre .1))
 
 same-length : tie.Need-same-length
 same-length c = search needs
 
 returns : tie.Need-returns
 returns c =
-    let start = c .before .before .before .before .before .before .before .before .before .before .before in
-    let noted = c .before .before .before .before .before .before .before .note-returns in
-    linked (start .pre .0) (start .pre .1) (start .pre .2) (noted .ensures .0) (noted .ensures .1)
-    (c .before .before .clear .ensures ∙ ap (λ q. cleared (noted .last .1 .1 .0) q (3 * start .args .h .statements)) (c .before .before .before .queue .ensures))
+    let start = c .before .before .before .before .before .before .before .before .before .before .before .before in
+    let noted = c .before .before .before .before .before .before .before .before .note-edges in
+    linked (start .pre .0) (start .pre .1) (noted .ensures .0) (noted .ensures .1)
+    (c .before .before .zero-row .ensures ∙ ap₂ (λ q e. zeroed (noted .last .1 .1 .0) q (e - q)) (c .before .before .before .before .before .queue .ensures) (c .before .before .before .solver .ensures))
 
 pub link-spec : {M : Type 1} → statement M
 link-spec =
     tie.close
-    (tie.spec note-returns-requires queue-requires mul-clear clear-requires same-length returns)
+    (tie.spec note-edges-requires queue-requires solver-requires sub-zero-row zero-row-requires same-length returns)

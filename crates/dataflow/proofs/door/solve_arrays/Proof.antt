@@ -6,7 +6,7 @@ use mathlib.Core.Path.{sym, subst}
 use Rattle.flow.specs.declared.Header.{Header}
 use Rattle.flow.specs.Limits.{maxArrays}
 use Rattle.records.proofs.Files.{limited}
-use Rattle.statements.specs.Layout.{areaEnd}
+use Rattle.statements.specs.contracts.Layout.{areaEnd}
 use Rattle.statements.proofs.Keeps.{ready-most, ready-room}
 use Rattle.dataflow.proofs.Phases.{masked}
 use Rattle.dataflow.proofs.door.solve_arrays.Statement.{statement}
@@ -15,16 +15,16 @@ use Rattle.dataflow.proofs.door.solve_arrays.Tie as tie
 array-states-requires : tie.Need-array-states-requires
 array-states-requires c κs =
     let blank = c .before .before .before .before .pre .0 in
-    (blank .ready, blank .header, blank .linked, blank .some, blank .zero)
+    (blank .indexed, blank .linked, blank .some, blank .zero)
 
 write-masks-requires : tie.Need-write-masks-requires
 write-masks-requires c κs =
     let start = c .before .before .before .before .before .before .before .before .before in
     let blank = start .pre .0 in (
-      ready-most (blank .ready),
-      subst (λ (x : Header). x .arrays ≤ maxArrays) (sym (blank .header)) (limited (blank .ready .fit) .arrays),
+      ready-most (blank .indexed .ready),
+      subst (λ (x : Header). x .arrays ≤ maxArrays) (sym (blank .indexed .header)) (limited (blank .indexed .ready .fit) .arrays),
       start .pre .1,
-      subst (λ k. areaEnd (start .args .h .statements) ≤ k) (sym (c .before .before .before .before .array-states .ensures .keeps .size)) (ready-room (blank .ready) (blank .some)),
+      subst (λ k. areaEnd (start .args .h .statements) ≤ k) (sym (c .before .before .before .before .array-states .ensures .keeps .size)) (ready-room (blank .indexed .ready) (blank .some)),
     )
 
 same-length : tie.Need-same-length

@@ -32,7 +32,7 @@ same-length-4 c = search needs
 returns : tie.Need-returns
 returns c =
     let names = c .before .before .before .before .before .before .solve-names .ensures in
-    solved (c .before .before .before .before .before .before .before .before .before .before .before .before .before .before .before .before .before .before .before .before .before .before .before .before .before .before .before .before .before .before .pre .fresh .header) (c .before .before .before .before .before .before .before .before .before .before .before .before .before .before .solve-arrays .ensures) (names .0) (names .1)
+    solved (c .before .before .before .before .before .before .before .before .before .before .before .before .before .before .before .before .before .before .before .before .before .before .before .before .before .before .before .before .before .before .pre .flow-fit .header) (c .before .before .before .before .before .before .before .before .before .before .before .before .before .before .solve-arrays .ensures) (names .0) (names .1)
 
 pub solve-flow-spec : {M : Type 1} → statement M
 solve-flow-spec =

@@ -2,18 +2,17 @@
 -- Assumes nothing.
 use borrow.Author.Needs.{needs}
 use borrow.Author.Tests.{not-true, not-false}
-use native.Mathlib.Omega.{arith}
 use native.Mathlib.Nat.{pos-of-ne-zero}
 use denote.Ref.{now}
-use Prim.Native.Nat.{ℕ, _≤_}
+use Prim.Native.Nat.{_≤_}
 use mathlib.Core.Bool.{Bool, true, false}
-use mathlib.Core.Path.{_≡_, refl, ap, sym, _∙_, subst}
+use mathlib.Core.Path.{_≡_, ap, sym, _∙_, subst}
 use lib.ListN.{length, getD, replicate}
 use Rattle.flow.specs.declared.Header.{Header}
 use Rattle.flow.specs.Limits.{workWords, maxStatements, maxArrays}
 use Rattle.flow.specs.Format.{verdict, areaChecks, statementsOf, arraysOf}
-use Rattle.flow.specs.Fields.{FitFile, isFit}
-use Rattle.flow.specs.Answers.{headerOf}
+use Rattle.flow.specs.contracts.Answers.{FitFile, isFit}
+use Rattle.flow.specs.contracts.Answers.{headerOf}
 use Rattle.records.proofs.Files.{limited}
 use Rattle.dataflow.proofs.Judging as judging
 use Rattle.dataflow.proofs.door.states.Statement.{statement}
@@ -54,16 +53,16 @@ judged c b e =
     let k = c .before in
     judging.areas-by _ _ (k .before .before .before .check-file .ensures) (k .before .found .given .1) _ _ _ _ _ (sym (c .areas-fit .ensures) ∙ e)
 
--- the work area is cleared where they are fit, and only there
-kept : (c : tie.After-clear-if) → c .before .before .areas-fit .result ≡ false → c .clear-if .last .0 ≡ now (c .before .before .before .before .before .before .before .before .before .before .before .before .args .work)
-kept c e = c .clear-if .ensures ∙ judging.unfit-kept (now (c .before .before .before .before .before .before .before .before .before .before .before .before .args .work)) _ e
+-- the work area is zeroed where they are fit, and only there
+kept : (c : tie.After-zero-if) → c .before .before .areas-fit .result ≡ false → c .zero-if .last .0 ≡ now (c .before .before .before .before .before .before .before .before .before .before .before .before .args .work)
+kept c e = c .zero-if .ensures ∙ judging.unfit-kept (now (c .before .before .before .before .before .before .before .before .before .before .before .before .args .work)) _ e
 
-zeroed : (c : tie.After-clear-if) → c .before .before .areas-fit .result ≡ true → c .clear-if .last .0 ≡ replicate (length (now (c .before .before .before .before .before .before .before .before .before .before .before .before .args .work))) 0
+zeroed : (c : tie.After-zero-if) → c .before .before .areas-fit .result ≡ true → c .zero-if .last .0 ≡ replicate (length (now (c .before .before .before .before .before .before .before .before .before .before .before .before .args .work))) 0
 zeroed c e =
-    c .clear-if .ensures ∙ judging.fit-zero (now (c .before .before .before .before .before .before .before .before .before .before .before .before .args .work)) _ e
+    c .zero-if .ensures ∙ judging.fit-zero (now (c .before .before .before .before .before .before .before .before .before .before .before .before .args .work)) _ e
 
-clear-if-requires : tie.Need-clear-if-requires
-clear-if-requires c κs = search needs
+zero-if-requires : tie.Need-zero-if-requires
+zero-if-requires c κs = search needs
 
 same-length : tie.Need-same-length
 same-length c = search needs
@@ -101,11 +100,11 @@ solve-flow-requires c κs =
     let fit = not-false _ (e .if1 .left) in
     let rooms = judging.rooms _ _ _ _ _ _ (sym (f .areas-fit .ensures) ∙ fit) in
     record {
-      fresh = record {
+      flow-fit = record {
         fit = fits k;
         header = header k;
         some = pos-of-ne-zero (c .before .before .before .before .if2 .left);
-        work-room = subst (λ m. workWords (k .before .found .given .0 .0 .statements) ≤ m) (sym (work .clear-if .kept .0)) (rooms .work-room);
+        work-room = subst (λ m. workWords (k .before .found .given .0 .0 .statements) ≤ m) (sym (work .zero-if .kept .0)) (rooms .work-room);
         zero = λ x. ap (λ l. getD l x 0) (zeroed work fit) ∙ judging.zeros (length (now (f .before .before .before .before .before .before .before .before .before .before .args .work))) x;
       };
       masks-room = rooms .masks-room;
@@ -113,8 +112,8 @@ solve-flow-requires c κs =
       out-room = rooms .out-room;
     }
 
-clear-requires : tie.Need-clear-requires
-clear-requires c κs = search needs
+zero-row-requires : tie.Need-zero-row-requires
+zero-row-requires c κs = search needs
 
 same-length-3 : tie.Need-same-length-3
 same-length-3 c = search needs
@@ -137,7 +136,7 @@ returns-4 c =
     judging.accepting (now (a .file)) (now (a .masks)) _ (now (a .live-in)) _ (now (a .live-out)) _ (now (a .work)) _ _ (fits (f .before))
     (judging.judged-fit (now (a .file)) (now (a .masks)) (now (a .live-in)) (now (a .live-out)) (now (a .work)) (fits (f .before)) (judged f true (not-false _ (e .if1 .left))))
     (s .solve-flow .ensures)
-    (c .before .before .clear .ensures ∙ judging.cleared-whole _ _ (s .solve-flow .kept .1 .1 .1 .1 .1 .0 ∙ e .before .before .before .clear-if .kept .0))
+    (c .before .before .zero-row .ensures ∙ judging.zeroed-whole _ _ (s .solve-flow .kept .1 .1 .1 .1 .1 .0 ∙ e .before .before .before .zero-if .kept .0))
 
 pub states-spec : {M : Type 1} → statement M
 states-spec =
@@ -148,13 +147,13 @@ states-spec =
     enum-known-r
     returns
     areas-fit-requires
-    clear-if-requires
+    zero-if-requires
     same-length
     returns-2
     same-length-2
     returns-3
     solve-flow-requires
-    clear-requires
+    zero-row-requires
     same-length-3
     same-length-4
     same-length-5

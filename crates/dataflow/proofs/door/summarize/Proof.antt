@@ -4,7 +4,7 @@ use borrow.Author.Needs.{needs}
 use native.Mathlib.Omega.{arith}
 use mathlib.Core.Path.{ap}
 use Rattle.flow.specs.declared.Header.{Header}
-use Rattle.dataflow.proofs.Phases.{room-fits, noted-ready, noted-fresh, summed}
+use Rattle.dataflow.proofs.Phases.{room-fits, noted-indexed, no-summaries, summed}
 use Rattle.dataflow.proofs.door.summarize.Statement.{statement}
 use Rattle.dataflow.proofs.door.summarize.Tie as tie
 
@@ -17,7 +17,7 @@ summarize-calls-requires : tie.Need-summarize-calls-requires
 summarize-calls-requires c κs =
     let start = c .before .before .before .before .before .before .before in
     let noted = c .before .before .before .note-offsets .ensures in
-    (noted-ready (start .pre) noted, start .pre .header, noted-fresh (start .pre) noted)
+    (noted-indexed (start .pre) noted, no-summaries (start .pre) noted)
 
 same-length : tie.Need-same-length
 same-length c = search needs

@@ -2,8 +2,7 @@
 -- The measure is the number of items left.
 use Prim.Native.Nat.{ℕ, _-_}
 use mathlib.Core.Bool.{_&&_}
-use mathlib.Core.Path.{_≡_, refl, ap, ap₂, subst, sym, _∙_}
-use native.Mathlib.Omega.{arith}
+use mathlib.Core.Path.{refl, ap₂}
 use borrow.Author.Needs.{needs}
 use denote.Ref.{now}
 use lib.Dec.{eqb}
@@ -16,7 +15,7 @@ use Rattle.theory.specs.Lists.{any}
 use Rattle.theory.specs.Body.{kind}
 use Rattle.theory.specs.Doubled.{dims}
 use Rattle.theory.proofs.Lists.{getD-In}
-use Rattle.statements.specs.Ready.{noItem}
+use Rattle.statements.specs.contracts.Ready.{noItem}
 use Rattle.statements.proofs.Keeps.{ready-keeps}
 use Rattle.statements.proofs.WellFormed.{statement-in}
 use Rattle.dataflow.proofs.Stepping.{Stepping, stepping-none, stepping-more, stepping-all}
@@ -24,10 +23,10 @@ use Rattle.dataflow.proofs.transfer.step_items.Statement.{statement}
 use Rattle.dataflow.proofs.transfer.step_items.Tie as tie
 
 abbrev Inv-loop : tie.InvT-loop
-Inv-loop file work₀ n i row count k₀ work k = Stepping dims (items (kind (flowOf file) i)) Dim work₀ row work k
+Inv-loop file work₀ n i row count k₀ work k = Stepping dims (items (kind (flowOf file) (i .0))) Dim work₀ row work k
 
 abbrev μ-loop : tie.MeasureT-loop
-μ-loop file work₀ n i row count k₀ work k = length (items (kind (flowOf file) i)) - k
+μ-loop file work₀ n i row count k₀ work k = length (items (kind (flowOf file) (i .0))) - k
 
 item-count-requires : tie.Need-item-count-requires Inv-loop μ-loop
 item-count-requires c κs = (c .before .before .before .pre .0, c .before .before .before .pre .1)
@@ -45,9 +44,9 @@ step-item-requires c κs =
     let s = c .before .before .before .before .before .before .before .before .before in
     let size = c .before .before .before .before .loop .inv .row-is .keeps .size in
     let few = limited (s .pre .0 .fit) .arrays in
-    let its = (items (kind (flowOf (now (s .args .file))) (s .args .i))) in
+    let its = (items (kind (flowOf (now (s .args .file))) (s .args .i .0))) in
     let k : ℕ = c .before .before .before .before .loop .k in
-    let within = statement-in (s .pre .0 .fit) (s .args .i) .dimmed (getD its k noItem) (getD-In its k noItem (search needs)) in
+    let within = statement-in (s .pre .0 .fit) (s .args .i .0) .dimmed (getD its k noItem) (getD-In its k noItem (search needs)) in
     let is = c .before .item .ensures .0 in
     search needs
 
@@ -61,7 +60,7 @@ loop-again : tie.Need-loop-again Inv-loop μ-loop
 loop-again c =
     let s = c .before .before .before .before .before .before .before .before .before .before .before .before in
     let x = c .before .before .before .before .item in
-    stepping-more dims (items (kind (flowOf (now (s .args .file))) (s .args .i))) Dim (λ a. eqb (x .result .array) a && eqb (x .result .flag) 1) noItem (c .before .before .before .before .before .before .before .loop .inv) (search needs)
+    stepping-more dims (items (kind (flowOf (now (s .args .file))) (s .args .i .0))) Dim (λ a. eqb (x .result .array) a && eqb (x .result .flag) 1) noItem (c .before .before .before .before .before .before .before .loop .inv) (search needs)
     (c .before .before .step-item .ensures) (λ a. ap₂ (λ i f. eqb i a && eqb f 1) (x .ensures .0) (x .ensures .1))
 
 same-length : tie.Need-same-length Inv-loop μ-loop
@@ -72,7 +71,7 @@ returns c =
     let s = c .before .before .before .before .before .before in
     let some = c .before .loop .inv .some in
     let count = c .before .before .item-count .ensures in
-    stepping-all dims (items (kind (flowOf (now (s .args .file))) (s .args .i))) Dim (λ a. any (dims a) (items (kind (flowOf (now (s .args .file))) (s .args .i))))
+    stepping-all dims (items (kind (flowOf (now (s .args .file))) (s .args .i .0))) Dim (λ a. any (dims a) (items (kind (flowOf (now (s .args .file))) (s .args .i .0))))
     (c .before .loop .inv) (search needs) (λ a. refl)
 
 pub step-items-spec : {M : Type 1} → statement M

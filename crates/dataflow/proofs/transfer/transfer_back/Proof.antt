@@ -10,25 +10,16 @@ use Rattle.dataflow.proofs.Acted.{touched-row}
 use Rattle.dataflow.proofs.transfer.transfer_back.Statement.{statement}
 use Rattle.dataflow.proofs.transfer.transfer_back.Tie as tie
 
-mul-mask-row : tie.Need-mul-mask-row
-mul-mask-row c = search needs
+back-row-requires : tie.Need-back-row-requires
+back-row-requires c κs = search needs
 
-add-mask-row : tie.Need-add-mask-row
-add-mask-row c = search needs
-
-mask-row-requires : tie.Need-mask-row-requires
-mask-row-requires c κs = search needs
-
-mul-mask-row-2 : tie.Need-mul-mask-row-2
-mul-mask-row-2 c = search needs
-
-mask-row-requires-2 : tie.Need-mask-row-requires-2
-mask-row-requires-2 c κs = search needs
+out-row-requires : tie.Need-out-row-requires
+out-row-requires c κs = search needs
 
 copy-row-requires : tie.Need-copy-row-requires
 copy-row-requires c κs =
-    let to = c .before .before .mask-row .ensures in
-    let from = c .mask-row2 .ensures in
+    let to = c .before .before .back-row .ensures in
+    let from = c .out-row .ensures in
     (omega arith, omega arith, inr (omega arith))
 
 call-touched-requires : tie.Need-call-touched-requires
@@ -39,29 +30,26 @@ add-step-members c = search needs
 
 step-members-requires : tie.Need-step-members-requires
 step-members-requires c κs =
-    let to = c .before .before .before .before .before .before .before .mask-row .ensures in
-    let set = c .call-touched .ensures in
-    let size = c .before .before .before .before .copy-row .ensures .keeps .size in
+    let to = c .before .before .before .before .before .before .before .before .back-row .ensures in
+    let set = c .before .call-touched .ensures in
+    let size = c .before .before .before .before .before .copy-row .ensures .keeps .size in
     (omega arith, omega arith, search needs)
 
 same-length : tie.Need-same-length
-same-length c = c .before .before .step-members .ensures .keeps .size ∙ c .before .before .before .before .before .before .before .copy-row .ensures .keeps .size
+same-length c = c .before .before .step-members .ensures .keeps .size ∙ c .before .before .before .before .before .before .before .before .copy-row .ensures .keeps .size
 
 returns : tie.Need-returns
 returns c =
-    let s = c .before .before .before .before .before .before .before .before .before .before .before .before in
-    touched-row Touched (c .before .before .before .before .before .before .before .before .before .before .mask-row .ensures) (ap (λ t. t + s .args .i) (c .before .before .before .call-touched .ensures)) (c .before .before .before .before .before .before .before .before .mask-row2 .ensures)
-    (omega arith) (search needs) (c .before .before .before .before .before .before .before .copy-row .ensures) (c .before .before .step-members .ensures)
+    let s = c .before .before .before .before .before .before .before .before .before .before .before .before .before in
+    touched-row Touched (c .before .before .before .before .before .before .before .before .before .before .before .back-row .ensures) (ap (λ t. t + s .args .i .0) (c .before .before .before .before .call-touched .ensures)) (c .before .before .before .before .before .before .before .before .before .out-row .ensures)
+    (omega arith) (search needs) (c .before .before .before .before .before .before .before .before .copy-row .ensures) (c .before .before .step-members .ensures)
 
 pub transfer-back-spec : {M : Type 1} → statement M
 transfer-back-spec =
     tie.close
     (tie.spec
-    mul-mask-row
-    add-mask-row
-    mask-row-requires
-    mul-mask-row-2
-    mask-row-requires-2
+    back-row-requires
+    out-row-requires
     copy-row-requires
     call-touched-requires
     add-step-members

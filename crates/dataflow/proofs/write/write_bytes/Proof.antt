@@ -8,9 +8,8 @@ use Prim.Native.Nat.{ℕ, _+_, _-_, _≤_}
 use mathlib.Core.List.{List}
 use mathlib.Core.Path.{_≡_, refl, ap, _∙_}
 use lib.ListN.{length, set, length-set}
-use Rattle.words.specs.Byte.{byteOf}
-use Rattle.flow.specs.Fields.{noted}
-use Rattle.records.proofs.Noting.{length-noted}
+use Rattle.words.specs.contracts.Byte.{byteOf}
+use Rattle.words.specs.contracts.Change.{noted}
 use Rattle.dataflow.proofs.write.write_bytes.Statement.{statement}
 use Rattle.dataflow.proofs.write.write_bytes.Tie as tie
 

@@ -4,12 +4,12 @@ use native.Mathlib.Omega.{arith}
 use native.Mathlib.Nat.{suc-mul, zero-mul, mul-le-mul-right}
 use native.Mathlib.Numerals.{add-one}
 use denote.Ref.{now}
-use Prim.Native.Nat.{ℕ, suc, _+_, _-_, _*_, _≤_, _<_}
+use Prim.Native.Nat.{ℕ, _+_, _-_, _*_, _≤_, _<_}
 use mathlib.Core.List.{List}
 use mathlib.Core.Path.{_≡_, refl, ap, ap₂, sym, _∙_}
 use lib.ListN.{length}
-use Rattle.flow.specs.Fields.{noted}
-use Rattle.dataflow.specs.Bytes.{bothCopies, notedRows}
+use Rattle.words.specs.contracts.Change.{noted}
+use Rattle.dataflow.specs.contracts.Bytes.{bothCopies, notedRows}
 use Rattle.dataflow.proofs.NotedRows.{length-rows}
 use Rattle.dataflow.proofs.write.write_masks.Statement.{statement}
 use Rattle.dataflow.proofs.write.write_masks.Tie as tie

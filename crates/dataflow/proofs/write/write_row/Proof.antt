@@ -7,9 +7,9 @@ use Prim.Native.Nat.{ℕ, _+_, _-_, _*_, _/_, _%_, _≤_}
 use mathlib.Core.List.{List}
 use mathlib.Core.Path.{_≡_, refl, ap, ap₂, _∙_}
 use lib.ListN.{length}
-use Rattle.words.specs.Byte.{byteOf}
-use Rattle.flow.specs.Fields.{noted}
-use Rattle.dataflow.specs.Bytes.{bothCopies}
+use Rattle.words.specs.contracts.Byte.{byteOf}
+use Rattle.words.specs.contracts.Change.{noted}
+use Rattle.dataflow.specs.contracts.Bytes.{bothCopies}
 use Rattle.dataflow.proofs.NotedRows.{word-on}
 use Rattle.dataflow.proofs.write.write_row.Statement.{statement}
 use Rattle.dataflow.proofs.write.write_row.Tie as tie
@@ -21,7 +21,7 @@ record Filled (ws : List ℕ) (at : ℕ) (work : List ℕ) (n arrays i : ℕ) (m
   bytes : masks ≡ noted ws at (8 * k) (bothCopies work n i)
 
 abbrev Inv-loop : tie.InvT-loop
-Inv-loop masks₀ at work n arrays i k₀ masks k = Filled masks₀ at work n arrays i masks k
+Inv-loop masks₀ at work n arrays i k₀ masks k = Filled masks₀ at work n arrays (i .0) masks k
 
 abbrev μ-loop : tie.MeasureT-loop
 μ-loop masks₀ at work n arrays i k₀ masks k = arrays / 8 - k
@@ -57,8 +57,8 @@ loop-again c =
       size = c .before .before .write-bytes .kept .0 ∙ s .inv .size;
       bytes = c .before .before .write-bytes .ensures
           ∙ ap₂ (λ (l : List ℕ) (w : ℕ). noted l (a .at + 8 * s .k) 8 (byteOf w)) (s .inv .bytes) (c .before .before .before .joined-word .ensures)
-          ∙ word-on (now (a .masks)) (now (a .work)) (a .at) (a .n) (a .i) (s .k) 8 (omega arith)
-          ∙ ap (λ (x : ℕ). noted (now (a .masks)) (a .at) x (bothCopies (now (a .work)) (a .n) (a .i))) (omega arith);
+          ∙ word-on (now (a .masks)) (now (a .work)) (a .at) (a .n) (a .i .0) (s .k) 8 (omega arith)
+          ∙ ap (λ (x : ℕ). noted (now (a .masks)) (a .at) x (bothCopies (now (a .work)) (a .n) (a .i .0))) (omega arith);
     }
 
 mul-write-bytes-2 : tie.Need-mul-write-bytes-2 Inv-loop μ-loop
@@ -83,8 +83,8 @@ returns c =
     let whole : 8 * s .k + a .arrays % 8 ≡ a .arrays = omega arith in
     c .before .before .write-bytes2 .ensures
     ∙ ap₂ (λ (l : List ℕ) (w : ℕ). noted l (a .at + 8 * s .k) (a .arrays % 8) (byteOf w)) (s .inv .bytes) (c .before .before .before .joined-word2 .ensures)
-    ∙ word-on (now (a .masks)) (now (a .work)) (a .at) (a .n) (a .i) (s .k) (a .arrays % 8) (omega arith)
-    ∙ ap (λ (x : ℕ). noted (now (a .masks)) (a .at) x (bothCopies (now (a .work)) (a .n) (a .i))) whole
+    ∙ word-on (now (a .masks)) (now (a .work)) (a .at) (a .n) (a .i .0) (s .k) (a .arrays % 8) (omega arith)
+    ∙ ap (λ (x : ℕ). noted (now (a .masks)) (a .at) x (bothCopies (now (a .work)) (a .n) (a .i .0))) whole
 
 pub write-row-spec : {M : Type 1} → statement M
 write-row-spec =

@@ -11,7 +11,7 @@ use lib.ListN.{length}
 use Rattle.flow.specs.declared.Passed.the-variants.{Unfit}
 use Rattle.flow.specs.declared.Refusal.the-variants.{Record}
 use Rattle.flow.specs.Format.{Check, verdict, fit, unfit, each, present, onGosubChecks, lineChecks, continuationChecks, u8At, dataPlace, dataCount, elementPlace, elementsEnd}
-use Rattle.flow.specs.Answers.{passedOf}
+use Rattle.flow.specs.contracts.Answers.{passedOf}
 use Rattle.flow.proofs.Tests.{tests, lt-or-le}
 use Rattle.flow.proofs.Verdicts.{all-fit, stops-at, fit-append, unfit-append}
 use Rattle.flow.proofs.Answers.{refused-first, onward}

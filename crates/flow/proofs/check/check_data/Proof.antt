@@ -8,7 +8,7 @@ use borrow.Author.Tests.{ne-eqb}
 use denote.Ref.{now}
 use Rattle.flow.specs.declared.Passed.the-variants.{To}
 use Rattle.flow.specs.Format.{verdict, dimChecks, gosubChecks, onGosubChecks, dataChecks, kindAt, dataPlace, elementsEnd, recordEnd}
-use Rattle.flow.specs.Answers.{passedOf}
+use Rattle.flow.specs.contracts.Answers.{passedOf}
 use Rattle.flow.specs.declared.Passed.{Passed}
 use Rattle.flow.proofs.check.check_data.Statement.{statement}
 use Rattle.flow.proofs.check.check_data.Tie as tie

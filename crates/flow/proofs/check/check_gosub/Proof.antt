@@ -9,7 +9,7 @@ use borrow.Author.Needs.{needs}
 use denote.Ref.{now}
 use lib.ListN.{length}
 use Rattle.flow.specs.Format.{Check, verdict, present, gosubChecks, continuationChecks, dataPlace}
-use Rattle.flow.specs.Answers.{passedOf}
+use Rattle.flow.specs.contracts.Answers.{passedOf}
 use Rattle.flow.proofs.Tests.{tests}
 use Rattle.flow.proofs.Verdicts.{all-fit, stops-at}
 use Rattle.flow.proofs.Answers.{refused-first, onward}

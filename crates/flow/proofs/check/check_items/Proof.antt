@@ -8,7 +8,7 @@ use borrow.Author.Needs.{needs}
 use denote.Ref.{now}
 use Rattle.flow.specs.declared.Passed.the-variants.{Unfit}
 use Rattle.flow.specs.Format.{Check, verdict, fit, each, u8At, present, dimChecks, itemChecks, dataPlace, dataCount, elementPlace, elementsEnd}
-use Rattle.flow.specs.Answers.{passedOf}
+use Rattle.flow.specs.contracts.Answers.{passedOf}
 use Rattle.flow.proofs.Tests.{tests}
 use Rattle.flow.proofs.Verdicts.{StopsAt, refusalAt, all-fit, stops-at, fit-none}
 use Rattle.flow.proofs.Answers.{refused-first, refused-element, passed-elements, one-more}

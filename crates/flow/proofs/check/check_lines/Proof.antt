@@ -15,7 +15,7 @@ use Rattle.flow.specs.declared.Refusal.{Refusal}
 use Rattle.flow.specs.declared.Refusal.the-variants.{Record, Order, Target}
 use Rattle.flow.specs.Format as format
 use Rattle.flow.specs.Format.{verdict, fit, each, u16At, letterL, lineRecordChecks, lineCount, countLines, linesPlace, linePlace, lineNumber, lineFirst, endPlace}
-use Rattle.flow.specs.Answers.{passedOf}
+use Rattle.flow.specs.contracts.Answers.{passedOf}
 use Rattle.flow.proofs.Numbers.{leAt-lt}
 use Rattle.flow.proofs.Tests.{tests, Rises, rises-first, rises-next, marked-within}
 use Rattle.flow.proofs.Verdicts.{StopsAt, refusalAt, stops-at, unfit-at, fit-none}

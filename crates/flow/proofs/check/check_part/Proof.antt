@@ -5,7 +5,7 @@ use borrow.Author.Needs.{needs}
 use denote.Ref.{now}
 use Rattle.flow.specs.declared.Part.{Part}
 use Rattle.flow.specs.declared.Part.the-variants.{Statements, Lines, End}
-use Rattle.flow.specs.Parts.{Due, partAnswer}
+use Rattle.flow.specs.contracts.Parts.{Due, partAnswer}
 use Rattle.flow.proofs.check.check_part.Statement.{statement}
 use Rattle.flow.proofs.check.check_part.Tie as tie
 

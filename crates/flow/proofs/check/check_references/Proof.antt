@@ -12,7 +12,7 @@ use lib.Dec.{eqb}
 use lib.ListN.{length}
 use Rattle.flow.specs.Format.{Check, verdict, fit, unfit, each, kindAt, referencesPlace, u8At, referenceCountChecks, referenceChecks, referenceCount, referenceAt, namesPlace}
 use Rattle.flow.specs.declared.Passed.the-variants.{Unfit}
-use Rattle.flow.specs.Answers.{passedOf}
+use Rattle.flow.specs.contracts.Answers.{passedOf}
 use Rattle.flow.proofs.Tests.{tests, Rises, rises-first, rises-next}
 use Rattle.flow.proofs.Verdicts.{StopsAt, refusalAt, all-fit, stops-at, fit-none}
 use Rattle.flow.proofs.Answers.{refused-first, refused-element, passed-elements, one-more}

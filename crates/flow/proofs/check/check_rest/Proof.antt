@@ -11,7 +11,7 @@ use lib.ListN.{length}
 use Rattle.flow.specs.declared.Refusal.{Refusal}
 use Rattle.flow.specs.declared.Passed.the-variants.{Unfit}
 use Rattle.flow.specs.Format.{Check, verdict, fit, unfit, each, referencesPlace, referenceCountChecks, referenceCount, referenceChecks, nameChecks, dataChecks, restChecks, namesPlace, dataPlace}
-use Rattle.flow.specs.Answers.{passedOf}
+use Rattle.flow.specs.contracts.Answers.{passedOf}
 use Rattle.flow.proofs.Verdicts.{all-hold, fit-left, fit-right, elements-within}
 use Rattle.flow.proofs.Answers.{Through, verdict-passed, verdict-refused, refused-first, onward}
 use Rattle.flow.proofs.check.check_rest.Statement.{statement}

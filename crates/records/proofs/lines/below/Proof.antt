@@ -8,7 +8,6 @@ use mathlib.Core.Path.{_≡_, refl, ap, _∙_}
 use Prim.Native.Nat.{ℕ, _+_, _-_, _/_, _<_}
 use native.Mathlib.Omega.{arith}
 use borrow.Author.Tests.{ltb-true, ltb-false}
-use Rattle.flow.specs.Format.{u16At}
 use Rattle.flow.proofs.Numbers.{leAt-lt}
 use Rattle.records.proofs.lines.below.Statement.{statement}
 use Rattle.records.proofs.lines.below.Tie as tie

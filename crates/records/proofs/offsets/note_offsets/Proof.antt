@@ -3,7 +3,7 @@
 use denote.Ref.{now}
 use Rattle.records.proofs.Noting.{length-noted}
 use Rattle.records.proofs.Files.{record-fit}
-use Rattle.flow.specs.Fields.{noted}
+use Rattle.words.specs.contracts.Change.{noted}
 use Rattle.flow.specs.Format.{recordPlace}
 use lib.ListN.{length}
 use Prim.Native.Nat.{ℕ, _-_, _≤_}

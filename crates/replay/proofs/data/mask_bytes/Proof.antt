@@ -2,7 +2,6 @@
 -- Assumes nothing.
 use native.Mathlib.Omega.{arith}
 use native.Mathlib.Nat.{mul-le-mul}
-use borrow.Author.Needs.{needs}
 use Rattle.replay.proofs.data.mask_bytes.Statement.{statement}
 use Rattle.replay.proofs.data.mask_bytes.Tie as tie
 use Rattle.replay.proofs.data.mask_bytes.Reads as reads

@@ -1,25 +1,20 @@
 -- `solve::push::grow` meets its contract: the rows are joined, and the word of the number is set where the row grew.
 -- By the union of rows of masks.
 use Prim.Native.Nat.{ℕ, _+_}
-use mathlib.Core.List.{List}
-use mathlib.Core.Path.{_≡_, sym, ap, subst, _∙_}
-use native.Mathlib.Omega.{arith}
+use mathlib.Core.Path.{refl, sym, subst}
 use borrow.Author.Needs.{needs}
 use denote.Ref.{now}
-use lib.ListN.{set, length-set}
-use Rattle.words.proofs.Unioned.{length-unioned}
-use Rattle.statements.specs.Layout.{grownAt, areaEnd}
-use Rattle.statements.specs.Ready.{Keeps}
-use Rattle.solve.specs.Pushed.{Grown}
+use lib.ListN.{set}
+use Rattle.statements.specs.contracts.Layout.{areaEnd}
+use Rattle.statements.specs.contracts.Ready.{Keeps}
+use Rattle.solve.specs.contracts.Layout.{grownAt}
+use Rattle.solve.specs.contracts.Pushed.{Grown}
 use Rattle.solve.proofs.Growing.{grown-not, grown-more, union-at}
 use Rattle.solve.proofs.push.grow.Statement.{statement}
 use Rattle.solve.proofs.push.grow.Tie as tie
 
 mask-row-requires : tie.Need-mask-row-requires
 mask-row-requires c κs = search needs
-
-mask-row-requires-2 : tie.Need-mask-row-requires-2
-mask-row-requires-2 c κs = search needs
 
 union-requires : tie.Need-union-requires
 union-requires c κs = search needs
@@ -42,10 +37,10 @@ same-length c = search needs
 returns : tie.Need-returns
 returns c =
     let s = c .before .before .before .before .before .before .before .before .before in
-    let u = union-at (c .before .before .before .before .before .before .mask-row .ensures) (c .before .before .before .before .before .mask-row2 .ensures) (c .before .if1 .taken) (c .before .before .before .before .union .ensures) in
-    subst (λ (x : ℕ). Grown (now (s .args .work)) (set (c .before .before .before .before .union .last .0) (x + s .args .d) 1) (s .args .n) (s .args .from) (s .args .d)
-    × Keeps (grownAt (s .args .n)) (areaEnd (s .args .n)) (now (s .args .work)) (set (c .before .before .before .before .union .last .0) (x + s .args .d) 1)) (sym (c .grown .ensures))
-    (grown-more (now (s .args .work)) (s .args .n) (s .args .from) (s .args .d) (search needs) (search needs) (search needs) (search needs)
+    let u = union-at (c .before .before .before .before .before .before .mask-row .ensures) refl (c .before .before .if1 .taken) (c .before .before .before .before .before .union .ensures) in
+    subst (λ (x : ℕ). Grown (now (s .args .work)) (set (c .before .before .before .before .before .union .last .0) (x + s .args .d .0) 1) (s .args .n) (s .args .from) (s .args .d .0)
+    × Keeps (grownAt (s .args .n)) (areaEnd (s .args .n)) (now (s .args .work)) (set (c .before .before .before .before .before .union .last .0) (x + s .args .d .0) 1)) (sym (c .before .grown .ensures))
+    (grown-more (now (s .args .work)) (s .args .n) (s .args .from) (s .args .d .0) (search needs) (search needs) (search needs) (search needs)
     (λ i. c .before .before .before .before .before .before .before .before .slice-known .given i .fits) u)
 
 same-length-2 : tie.Need-same-length-2
@@ -53,17 +48,16 @@ same-length-2 c = search needs
 
 returns-2 : tie.Need-returns-2
 returns-2 c =
-    let s = c .before .before .before .before .before .before .before .before in
-    let u = union-at (c .before .before .before .before .before .mask-row .ensures) (c .before .before .before .before .mask-row2 .ensures) (c .if1 .left) (c .before .before .before .union .ensures) in
-    grown-not (now (s .args .work)) (s .args .n) (s .args .from) (s .args .d) (search needs) (search needs) (search needs) (search needs)
-    (λ i. c .before .before .before .before .before .before .before .slice-known .given i .fits) u
+    let s = c .before .before .before .before .before .before .before in
+    let u = union-at (c .before .before .before .before .mask-row .ensures) refl (c .if1 .left) (c .before .before .before .union .ensures) in
+    grown-not (now (s .args .work)) (s .args .n) (s .args .from) (s .args .d .0) (search needs) (search needs) (search needs) (search needs)
+    (λ i. c .before .before .before .before .before .before .slice-known .given i .fits) u
 
 pub grow-spec : {M : Type 1} → statement M
 grow-spec =
     tie.close
     (tie.spec
     mask-row-requires
-    mask-row-requires-2
     union-requires
     grown-requires
     add-work

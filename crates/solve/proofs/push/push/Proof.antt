@@ -1,6 +1,5 @@
 -- `solve::push::push` meets its contract: the masks grow, and then the number waits.
 -- The words that say what waits lie apart from the masks.
-use Prim.Native.Nat.{ℕ, _+_}
 use mathlib.Core.Path.{_∙_}
 use native.Mathlib.Omega.{arith}
 use borrow.Author.Needs.{needs}

@@ -5,7 +5,7 @@ use mathlib.Core.Path.{subst, sym}
 use native.Mathlib.Omega.{arith}
 use lib.ListN.{getD}
 use borrow.Author.Needs.{needs}
-use Rattle.statements.specs.Layout.{queueAt}
+use Rattle.statements.specs.contracts.Layout.{queueAt}
 use Rattle.solve.proofs.Waiting.{front-below, taken}
 use Rattle.solve.proofs.ring.take.Statement.{statement}
 use Rattle.solve.proofs.ring.take.Tie as tie

@@ -8,9 +8,9 @@ use native.Mathlib.Omega.{arith}
 use borrow.Author.Needs.{needs}
 use denote.Ref.{now}
 use lib.ListN.{length, getD, set, length-set}
-use Rattle.words.specs.Byte.{byteAt}
-use Rattle.words.specs.Change.{rewritten}
-use Rattle.solve.specs.Rows.{RowIs}
+use Rattle.words.specs.contracts.Byte.{byteAt}
+use Rattle.words.specs.contracts.Change.{rewritten}
+use Rattle.solve.specs.contracts.Rows.{RowIs}
 use Rattle.solve.proofs.RowChanges.{copied, copied-row}
 use Rattle.solve.proofs.rows.copy_row.Statement.{statement}
 use Rattle.solve.proofs.rows.copy_row.Tie as tie

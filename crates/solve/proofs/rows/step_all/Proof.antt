@@ -7,8 +7,8 @@ use borrow.Author.Tests.{le-ltb}
 use denote.Ref.{now}
 use borrow.Author.Needs.{needs}
 use lib.Dec.{eqb, ltb}
-use Rattle.words.specs.Byte.{byteAt}
-use Rattle.solve.specs.Rows.{RowIs, stepWhere}
+use Rattle.words.specs.contracts.Byte.{byteAt}
+use Rattle.solve.specs.contracts.Rows.{RowIs, stepWhere}
 use Rattle.solve.proofs.RowChanges.{row-as, none-stepped, more-stepped, below-next}
 use Rattle.solve.proofs.rows.step_all.Statement.{statement}
 use Rattle.solve.proofs.rows.step_all.Tie as tie

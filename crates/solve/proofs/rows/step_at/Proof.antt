@@ -1,6 +1,5 @@
 -- `solve::rows::step_at` meets its contract: the byte is read, stepped and written back.
 -- By the law of a byte that is set.
-use native.Mathlib.Omega.{arith}
 use borrow.Author.Needs.{needs}
 use Prim.Native.Nat.{ℕ}
 use mathlib.Core.List.{List}
@@ -8,8 +7,8 @@ use mathlib.Core.Path.{_∙_, ap, subst, sym}
 use denote.Ref.{now}
 use lib.Dec.{eqb}
 use Rattle.masks.specs.Step.{stepOf}
-use Rattle.words.specs.Byte.{byteAt}
-use Rattle.solve.specs.Rows.{RowIs, stepWhere}
+use Rattle.words.specs.contracts.Byte.{byteAt}
+use Rattle.solve.specs.contracts.Rows.{RowIs, stepWhere}
 use Rattle.solve.proofs.RowChanges.{byte-step}
 use Rattle.solve.proofs.rows.step_at.Statement.{statement}
 use Rattle.solve.proofs.rows.step_at.Tie as tie

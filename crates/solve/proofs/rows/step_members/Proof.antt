@@ -5,8 +5,8 @@ use native.Mathlib.Omega.{arith}
 use borrow.Author.Needs.{needs}
 use mathlib.Core.Path.{_≡_, ap}
 use denote.Ref.{now}
-use Rattle.words.specs.Byte.{byteAt}
-use Rattle.solve.specs.Rows.{stepWhere, memberBelow}
+use Rattle.words.specs.contracts.Byte.{byteAt}
+use Rattle.solve.specs.contracts.Rows.{stepWhere, memberBelow}
 use Rattle.statements.proofs.Members.{next-later}
 use Rattle.solve.proofs.RowChanges.{row-as, Members, members-start, members-on}
 use Rattle.solve.proofs.rows.step_members.Statement.{statement}

@@ -2,7 +2,7 @@
 -- Assumes nothing.
 use borrow.Author.Needs.{needs}
 use mathlib.Core.Path.{ap, sym, _∙_}
-use Rattle.statements.specs.Ready.{noItem}
+use Rattle.statements.specs.contracts.Ready.{noItem}
 use Rattle.statements.proofs.fields.item.Statement.{statement}
 use Rattle.statements.proofs.fields.item.Tie as tie
 

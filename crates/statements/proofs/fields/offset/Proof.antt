@@ -18,7 +18,7 @@ shared-slice-read-result c = search needs
 returns : tie.Need-returns
 returns c = let start = c .before in
     record-of (start .pre .0) (start .pre .1)
-    (ap (λ x. getD (now (start .args .work)) x 0) (sym (zero-add (start .args .i))) ∙ start .pre .0 .offsets (start .args .i) (start .pre .1))
+    (ap (λ x. getD (now (start .args .work)) x 0) (sym (zero-add (start .args .i .0))) ∙ start .pre .0 .offsets (start .args .i .0) (start .pre .1))
 
 pub offset-spec : {M : Type 1} → statement M
 offset-spec = tie.close (tie.spec mul-result shared-slice-read-result returns)

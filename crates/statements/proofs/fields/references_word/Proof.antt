@@ -4,10 +4,10 @@ use borrow.Author.Needs.{needs}
 use denote.Ref.{now}
 use mathlib.Core.Path.{sym, subst}
 use Rattle.flow.specs.Format.{flowOf, referenceCount, referenceAt}
-use Rattle.flow.specs.Fields.{wordOf}
+use Rattle.records.specs.contracts.Fields.{setWord}
 use Rattle.theory.specs.Body.{references}
-use Rattle.theory.specs.Lists.{has}
-use Rattle.statements.specs.Ready.{MembersWord}
+use Rattle.theory.specs.Lists.{elem}
+use Rattle.statements.specs.contracts.Ready.{MembersWord}
 use Rattle.statements.proofs.MembersWord.{members-word}
 use Rattle.statements.proofs.fields.references_word.Statement.{statement}
 use Rattle.statements.proofs.fields.references_word.Tie as tie
@@ -22,8 +22,8 @@ returns : tie.Need-returns
 returns c = let start = c .before .before .before .before in
     let s = now (start .args .file) in
     let p = c .before .offset .result in
-    subst (λ w. MembersWord w (λ a. has a (references (flowOf s) (start .args .i)))) (sym (c .references-word .ensures))
-    (subst (λ l. MembersWord (wordOf (referenceCount s p) (referenceAt s p) 0) (λ a. has a l)) (sym (c .before .offset .ensures .references .list))
+    subst (λ w. MembersWord w (λ a. elem a (references (flowOf s) (start .args .i .0)))) (sym (c .references-word .ensures))
+    (subst (λ l. MembersWord (setWord (referenceCount s p) (referenceAt s p) 0) (λ a. elem a l)) (sym (c .before .offset .ensures .references .list))
     (members-word (referenceAt s p) (referenceCount s p)))
 
 pub references-word-spec : {M : Type 1} → statement M

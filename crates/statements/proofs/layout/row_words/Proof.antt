@@ -1,7 +1,7 @@
 -- `row_words` meets its contract: the quotient is the definition's.
 -- Assumes nothing.
 use borrow.Author.Needs.{needs}
-use Rattle.statements.specs.Layout.{rowWords}
+use Rattle.statements.specs.contracts.Layout.{rowWords}
 use Rattle.statements.proofs.layout.row_words.Statement.{statement}
 use Rattle.statements.proofs.layout.row_words.Tie as tie
 

@@ -1,0 +1,6 @@
+-- What the functions of this crate promise one another and their callers. No promise of a door cites it.
+pub mod Held
+pub mod Walking
+pub mod Summing
+pub mod Slots
+pub mod Joins

@@ -1,0 +1,89 @@
+-- What the phases leave in the work area of a flow of n statements: the walk of a body in its row, the summary of each call, then the
+-- continuations that each RETURN goes to in its row, and the statements that each transparent call enters in its own.
+use Prim.Native.Nat.{ℕ, _+_, _<_, _≤_}
+use mathlib.Core.Bool.{true, false, cond}
+use mathlib.Core.List.{List}
+use mathlib.Core.Option.{none, some}
+use mathlib.Core.Path.{_≡_}
+use lib.ListN.{length, getD}
+use Rattle.words.specs.contracts.Row.{has}
+use Rattle.flow.specs.Flow.{Flow, size}
+use Rattle.flow.specs.Limits.{maxStatements, workWords}
+use Rattle.theory.specs.Lists as lists
+use Rattle.theory.specs.Lists.{In, any, upTo}
+use Rattle.theory.specs.Body.{kind, continuationOf, isReturn, callees, entered, Walks, opaqueCall, callTouches}
+use Rattle.theory.specs.Doubled.{returnsTo}
+use Rattle.statements.specs.contracts.Layout.{callsAt, callTouchedAt, rowAt, rowWords, queueAt, enteredRowAt}
+use Rattle.statements.specs.contracts.Ready.{MembersWord}
+
+-- the work area of n statements
+pub record Area (ws : List ℕ) (n : ℕ) : Type 0 where
+  pub few : n ≤ maxStatements
+  pub room : workWords n ≤ length ws
+
+-- the states of a body and of a call
+abbrev pub unentered : ℕ
+unentered = 0
+
+abbrev pub opened : ℕ
+opened = 1
+
+abbrev pub transparent : ℕ
+transparent = 2
+
+abbrev pub opaque : ℕ
+opaque = 3
+
+-- a row of statements that holds none
+abbrev pub EmptyRow : List ℕ → ℕ → ℕ → Type 0
+EmptyRow ws n e = (i : ℕ) → i < n → has ws (rowAt n e) i ≡ 0
+
+-- row e holds exactly the statements that the body walk from e meets
+pub record WalkRow (f : Flow) (ws : List ℕ) (n e : ℕ) : Type 0 where
+  pub sound : (i : ℕ) → i < n → has ws (rowAt n e) i ≡ 1 → Walks f e i
+  pub complete : (i : ℕ) → Walks f e i → has ws (rowAt n e) i ≡ 1
+
+-- of the words, only those of row e and of the queue may be others
+pub record OnlyRow (ws vs : List ℕ) (n e : ℕ) : Type 0 where
+  pub size : length vs ≡ length ws
+  pub below : (x : ℕ) → x < rowAt n e → getD vs x 0 ≡ getD ws x 0
+  pub between : (x : ℕ) → rowAt n e + rowWords n ≤ x → x < queueAt n → getD vs x 0 ≡ getD ws x 0
+  pub above : (x : ℕ) → enteredRowAt n ≤ x → getD vs x 0 ≡ getD ws x 0
+
+-- the walk of e is in its row; the queue's words were used, and every other word is as it was
+pub record Walked (f : Flow) (ws vs : List ℕ) (n e : ℕ) : Type 0 where
+  pub row : WalkRow f vs n e
+  pub only : OnlyRow ws vs n e
+
+-- no call and no body has a summary yet, and the matrix is empty
+pub record NoSummaries (ws : List ℕ) (n : ℕ) : Type 0 where
+  pub words : (x : ℕ) → callsAt n ≤ x → x < queueAt n → getD ws x 0 ≡ 0
+
+-- the summary of each call with a continuation; any other statement has none
+pub record CallSummaries (f : Flow) (ws : List ℕ) (n : ℕ) : Type 0 where
+  pub ordinary : (c : ℕ) → c < n → continuationOf (kind f c) ≡ none → getD ws (callsAt n + c) 0 ≡ unentered
+  pub call : (c k : ℕ) → c < n → continuationOf (kind f c) ≡ some k → getD ws (callsAt n + c) 0 ≡ cond (opaqueCall f c) opaque transparent
+  pub touched : (c : ℕ) → c < n → getD ws (callsAt n + c) 0 ≡ transparent → MembersWord (getD ws (callTouchedAt n + c) 0) (callTouches f c)
+
+-- the summaries, the walks of the bodies that the calls enter, and the RETURNs' rows still empty
+pub record Summarized (f : Flow) (ws : List ℕ) (n : ℕ) : Type 0 where
+  pub calls : CallSummaries f ws n
+  pub walks : (c b : ℕ) → c < n → In b (callees f c) → isReturn (kind f b) ≡ false → WalkRow f ws n b
+  pub free : (r : ℕ) → r < n → isReturn (kind f r) ≡ true → EmptyRow ws n r
+
+-- what the edges are made from: the summaries, the statements that a transparent call enters, and the continuations that each RETURN goes to
+pub record Linked (f : Flow) (ws : List ℕ) (n : ℕ) : Type 0 where
+  pub calls : CallSummaries f ws n
+  pub bodies : (c j : ℕ) → c < n → j < n → getD ws (callsAt n + c) 0 ≡ transparent → has ws (rowAt n c) j ≡ cond (lists.elem j (entered f c)) 1 0
+  pub returns : (r k : ℕ) → r < n → k < n → isReturn (kind f r) ≡ true → has ws (rowAt n r) k ≡ cond (any (returnsTo f r k) (upTo (size f))) 1 0
+
+-- the row of entered statements is empty; it holds those of the call i
+abbrev pub EmptyEntered : List ℕ → ℕ → Type 0
+EmptyEntered ws n = (j : ℕ) → j < n → has ws (enteredRowAt n) j ≡ 0
+
+abbrev pub EnteredIs : Flow → List ℕ → ℕ → ℕ → Type 0
+EnteredIs f ws n i = (j : ℕ) → j < n → has ws (enteredRowAt n) j ≡ cond (lists.elem j (entered f i)) 1 0
+
+-- where statement i is a call that is not opaque, the row of entered statements is that of i
+pub record EnteredRow (f : Flow) (ws : List ℕ) (n i : ℕ) : Type 0 where
+  pub row : (k : ℕ) → continuationOf (kind f i) ≡ some k → opaqueCall f i ≡ false → EnteredIs f ws n i

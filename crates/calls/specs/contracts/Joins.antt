@@ -1,0 +1,62 @@
+-- What noting changes. Where RETURNs go: the rows of some RETURNs gain a continuation, and every other row and every word below the matrix stays.
+-- Which statements a call enters, or the bodies that it enters walk: the row of entered statements gains them, and every other word stays.
+-- And the rows of the calls that are transparent: each becomes the row of the statements that the call enters.
+use Prim.Native.Nat.{ℕ, _+_, _≤_, _<_, max}
+use mathlib.Core.Bool.{Bool, true, false, cond, _&&_}
+use mathlib.Core.List.{List}
+use mathlib.Core.Option.{some}
+use mathlib.Core.Path.{_≡_}
+use lib.Dec.{eqb}
+use lib.ListN.{getD}
+use Rattle.words.specs.contracts.Row.{has}
+use Rattle.flow.specs.Flow.{Flow}
+use Rattle.theory.specs.Lists as lists
+use Rattle.theory.specs.Lists.{In, any, concatMap}
+use Rattle.theory.specs.Body.{kind, continuationOf, isReturn, entered, walked, opaqueCall}
+use Rattle.statements.specs.contracts.Layout.{callsAt, matrixAt, rowAt, enteredRowAt, solverAt}
+use Rattle.statements.specs.contracts.Ready.{Keeps}
+use Rattle.calls.specs.contracts.Held.{WalkRow, transparent, opaque}
+
+-- vs is ws with k joined to the row of each RETURN r, for the r and k that pass the test; the words from hi on, too, are as they were
+pub record Joins (f : Flow) (ws vs : List ℕ) (n hi : ℕ) (q : ℕ → ℕ → Bool) : Type 0 where
+  pub kept : Keeps (matrixAt n) hi ws vs
+  pub others : (e i : ℕ) → e < n → i < n → isReturn (kind f e) ≡ false → has vs (rowAt n e) i ≡ has ws (rowAt n e) i
+  pub joined : (r k : ℕ) → r < n → k < n → isReturn (kind f r) ≡ true → has vs (rowAt n r) k ≡ max (has ws (rowAt n r) k) (cond (q r k) 1 0)
+
+-- the RETURN r goes to k; so do the RETURNs in the row of entered statements, and those on the walks of the bodies bs
+
+abbrev pub fromReturn : ℕ → ℕ → ℕ → ℕ → Bool
+fromReturn r k s j = eqb s r && eqb j k
+
+abbrev pub fromEntered : List ℕ → ℕ → ℕ → ℕ → ℕ → Bool
+fromEntered ws n k s j = eqb (has ws (enteredRowAt n) s) 1 && eqb j k
+
+abbrev pub fromBodies : Flow → List ℕ → ℕ → ℕ → ℕ → Bool
+fromBodies f bs k s j = any (λ e. lists.elem s (walked f e)) bs && eqb j k
+
+-- what the bodies bs walk, one after the other
+abbrev pub walks : Flow → List ℕ → List ℕ
+walks f bs = concatMap (walked f) bs
+
+-- the row of e holds its walk, unless e is a RETURN, whose walk is itself
+abbrev pub BodyRow : Flow → List ℕ → ℕ → ℕ → Type 0
+BodyRow f ws n e = isReturn (kind f e) ≡ false → WalkRow f ws n e
+
+abbrev pub BodyRows : Flow → List ℕ → ℕ → ℕ → Type 0
+BodyRows f ws n c = (b : ℕ) → In b (entered f c) → BodyRow f ws n b
+
+-- what the summary of statement c says, where it is a call with a continuation
+pub record Summary (f : Flow) (ws : List ℕ) (n c : ℕ) : Type 0 where
+  pub call : (k : ℕ) → continuationOf (kind f c) ≡ some k → getD ws (callsAt n + c) 0 ≡ cond (opaqueCall f c) opaque transparent
+  pub bodies : (k : ℕ) → continuationOf (kind f c) ≡ some k → BodyRows f ws n c
+
+-- vs is ws with bs joined to the row of entered statements
+pub record Adds (ws vs : List ℕ) (n : ℕ) (bs : List ℕ) : Type 0 where
+  pub kept : Keeps (enteredRowAt n) (solverAt n) ws vs
+  pub joined : (j : ℕ) → j < n → has vs (enteredRowAt n) j ≡ max (has ws (enteredRowAt n) j) (cond (lists.elem j bs) 1 0)
+
+-- vs is ws with the statements that it enters in the row of each transparent call from lo to below hi; every other row stays
+pub record Notes (f : Flow) (ws vs : List ℕ) (n lo hi : ℕ) : Type 0 where
+  pub kept : Keeps (matrixAt n) (solverAt n) ws vs
+  pub noted : (c j : ℕ) → lo ≤ c → c < hi → j < n → getD ws (callsAt n + c) 0 ≡ transparent → has vs (rowAt n c) j ≡ cond (lists.elem j (entered f c)) 1 0
+  pub others : (e j : ℕ) → e < n → j < n → (lo ≤ e → e < hi → getD ws (callsAt n + e) 0 ≡ transparent → ⊥) → has vs (rowAt n e) j ≡ has ws (rowAt n e) j

@@ -1,0 +1,118 @@
+-- Summaries while they are made: what the state of each body and of each call says, and that from one moment to a later one summaries are only added.
+-- An open body is on the way: calls lead from it to the body at hand. What is noted as touched is touched; where a summary is transparent, it is all that is touched.
+use Prim.Native.Nat.{ℕ, _+_, _<_}
+use mathlib.Core.Bool.{Bool, true, false, cond, not}
+use mathlib.Core.List.{List}
+use mathlib.Core.Logic.{_≢_}
+use mathlib.Core.Option.{some}
+use mathlib.Core.Path.{_≡_}
+use lib.Dec.{eqb}
+use lib.ListN.{getD}
+use Rattle.words.specs.contracts.Row.{bit}
+use Rattle.words.specs.contracts.Change.{joined}
+use Rattle.flow.specs.Flow.{Flow}
+use Rattle.theory.specs.Lists as lists
+use Rattle.theory.specs.Lists.{In}
+use Rattle.theory.specs.Body as theory
+use Rattle.theory.specs.Body.{kind, references, continuationOf, isReturn, callees, touches, opaqueCall, callTouches, Calls⁺}
+use Rattle.statements.specs.contracts.Layout.{callsAt, callTouchedAt, bodiesAt, touchedAt, enteredRowAt}
+use Rattle.statements.specs.contracts.Ready.{Keeps, MembersWord}
+use Rattle.calls.specs.contracts.Held.{unentered, opened, transparent, opaque, EmptyRow, WalkRow}
+
+-- the states of body b and of call c, and the arrays noted as touched
+
+abbrev pub body : List ℕ → ℕ → ℕ → ℕ
+body ws n b = getD ws (bodiesAt n + b) 0
+
+abbrev pub call : List ℕ → ℕ → ℕ → ℕ
+call ws n c = getD ws (callsAt n + c) 0
+
+abbrev pub touchedBy : List ℕ → ℕ → ℕ → ℕ
+touchedBy ws n b = getD ws (touchedAt n + b) 0
+
+abbrev pub callTouchedBy : List ℕ → ℕ → ℕ → ℕ
+callTouchedBy ws n c = getD ws (callTouchedAt n + c) 0
+
+-- the state of a summary
+abbrev pub summaryState : Bool → ℕ
+summaryState found-opaque = cond found-opaque opaque transparent
+
+-- the arrays of the word pass the test; the arrays that pass are in the word
+
+abbrev pub Within : ℕ → (ℕ → Bool) → Type 0
+Within w p = (a : ℕ) → a < 64 → bit w a ≡ 1 → p a ≡ true
+
+abbrev pub Holds : ℕ → (ℕ → Bool) → Type 0
+Holds w p = (a : ℕ) → a < 64 → p a ≡ true → bit w a ≡ 1
+
+-- what the state of body b says. A RETURN's row is kept for its edges
+pub data BodyState (f : Flow) (ws : List ℕ) (n b : ℕ) : Type 0 where
+  is-unentered : body ws n b ≡ unentered → EmptyRow ws n b → BodyState f ws n b
+  is-open : body ws n b ≡ opened → WalkRow f ws n b → BodyState f ws n b
+  is-transparent : body ws n b ≡ transparent → theory.opaque f b ≡ false → Holds (touchedBy ws n b) (touches f b) → (isReturn (kind f b) ≡ false → WalkRow f ws n b) → BodyState f ws n b
+  is-opaque : body ws n b ≡ opaque → theory.opaque f b ≡ true → WalkRow f ws n b → BodyState f ws n b
+
+-- the bodies that the call c enters have been entered
+pub record CalleesEntered (f : Flow) (ws : List ℕ) (n c : ℕ) : Type 0 where
+  pub continuation : ℕ
+  pub continues : continuationOf (kind f c) ≡ some continuation
+  pub bodies : (b : ℕ) → In b (callees f c) → body ws n b ≢ unentered
+
+-- what the state of call c says
+pub data CallState (f : Flow) (ws : List ℕ) (n c : ℕ) : Type 0 where
+  is-none : call ws n c ≡ unentered → CallState f ws n c
+  is-transparent : call ws n c ≡ transparent → CalleesEntered f ws n c → opaqueCall f c ≡ false → Holds (callTouchedBy ws n c) (callTouches f c) → CallState f ws n c
+  is-opaque : call ws n c ≡ opaque → CalleesEntered f ws n c → opaqueCall f c ≡ true → CallState f ws n c
+
+pub record Summing (f : Flow) (ws : List ℕ) (n : ℕ) : Type 0 where
+  pub bodies : (b : ℕ) → b < n → BodyState f ws n b
+  pub free : (r : ℕ) → r < n → isReturn (kind f r) ≡ true → EmptyRow ws n r
+  pub touched : (b : ℕ) → b < n → Within (touchedBy ws n b) (touches f b)
+  pub calls : (c : ℕ) → c < n → CallState f ws n c
+  pub callTouched : (c : ℕ) → c < n → Within (callTouchedBy ws n c) (callTouches f c)
+
+-- from ws to vs summaries were only added, the state of body e left aside: the same bodies are open, what was entered or summaryState is so still, and sets grew
+pub record OnwardBut (e : ℕ) (ws vs : List ℕ) (n : ℕ) : Type 0 where
+  pub keeps : Keeps (callsAt n) (enteredRowAt n) ws vs
+  pub was-open : (b : ℕ) → b < n → b ≢ e → body vs n b ≡ opened → body ws n b ≡ opened
+  pub still-open : (b : ℕ) → b < n → b ≢ e → body ws n b ≡ opened → body vs n b ≡ opened
+  pub still-entered : (b : ℕ) → b < n → b ≢ e → body vs n b ≡ unentered → body ws n b ≡ unentered
+  pub still-summed : (c : ℕ) → c < n → call vs n c ≡ unentered → call ws n c ≡ unentered
+  pub touched : (b a : ℕ) → b < n → bit (touchedBy ws n b) a ≡ 1 → bit (touchedBy vs n b) a ≡ 1
+  pub callTouched : (c a : ℕ) → c < n → bit (callTouchedBy ws n c) a ≡ 1 → bit (callTouchedBy vs n c) a ≡ 1
+
+-- no body is left aside: n is none
+abbrev pub Onward : List ℕ → List ℕ → ℕ → Type 0
+Onward ws vs n = OnwardBut n ws vs n
+
+-- calls lead from every open body to b
+abbrev pub Leads : Flow → List ℕ → ℕ → ℕ → Type 0
+Leads f ws n b = (o : ℕ) → o < n → body ws n o ≡ opened → Calls⁺ f o b
+
+-- the references of statement i were joined to the touched arrays of body e
+pub record Referred (f : Flow) (ws vs : List ℕ) (n e i : ℕ) : Type 0 where
+  pub word : ℕ
+  pub set : MembersWord word (λ a. lists.elem a (references f i))
+  pub slice : vs ≡ joined ws (touchedAt n + e) word
+
+-- what call c touches was joined to what body e touches; whether the call is opaque
+pub record CallJoined (ws vs : List ℕ) (n e c : ℕ) (found-opaque : Bool) : Type 0 where
+  pub slice : vs ≡ joined ws (touchedAt n + e) (callTouchedBy ws n c)
+  pub state : found-opaque ≡ eqb (call ws n c) opaque
+
+-- what body b touches was joined to what call c touches; whether the body is not transparent
+pub record BodyJoined (ws vs : List ℕ) (n c b : ℕ) (found-opaque : Bool) : Type 0 where
+  pub slice : vs ≡ joined ws (callTouchedAt n + c) (touchedBy ws n b)
+  pub state : found-opaque ≡ not (eqb (body ws n b) transparent)
+
+-- body e has a summary, or is open still
+pub record BodySummed (f : Flow) (ws vs : List ℕ) (n e : ℕ) : Type 0 where
+  pub summing : Summing f vs n
+  pub onward : Onward ws vs n
+  pub done : body vs n e ≢ unentered
+
+-- call c has a summary, if it has a continuation
+pub record CallSummed (f : Flow) (ws vs : List ℕ) (n c : ℕ) : Type 0 where
+  pub summing : Summing f vs n
+  pub onward : Onward ws vs n
+  pub done : (k : ℕ) → continuationOf (kind f c) ≡ some k → call vs n c ≢ unentered

@@ -1,0 +1,66 @@
+-- What the phases start from, and what they leave together: the file is fit, its header is known, the areas have room and the work area is zero; after them the masks, the
+-- live words are those of the definitions, and the count is that of the queue rule's course.
+use Prim.Native.Nat.{ℕ, _*_, _+_, _<_, _≤_}
+use mathlib.Core.List.{List}
+use mathlib.Core.Path.{_≡_}
+use lib.ListN.{length, getD}
+use Rattle.flow.specs.declared.Header.{Header}
+use Rattle.flow.specs.Flow.{Flow, size}
+use Rattle.flow.specs.Limits.{workWords}
+use Rattle.flow.specs.contracts.Answers.{FitFile}
+use Rattle.flow.specs.contracts.Answers.{headerOf}
+use Rattle.theory.specs.Doubled.{doubled}
+use Rattle.theory.specs.Queue.{Solver, Over}
+use Rattle.theory.specs.Masks.{maskLeft}
+use Rattle.theory.specs.Live.{liveInWord, liveOutWord}
+use Rattle.statements.specs.contracts.Layout.{queueAt, enteredRowAt, areaEnd}
+use Rattle.statements.specs.contracts.Ready.{Ready, Indexed}
+use Rattle.flow.specs.Format.{flowOf}
+use Rattle.calls.specs.contracts.Held.{Summarized, Linked}
+use Rattle.dataflow.specs.Promise.{Written}
+
+-- a fit file, its header, and a work area that is zero
+pub record FitFlow (s : List ℕ) (h : Header) (work : List ℕ) : Type 0 where
+  pub fit : FitFile s
+  pub header : h ≡ headerOf s
+  pub some : 0 < h .statements
+  pub work-room : workWords (h .statements) ≤ length work
+  pub zero : (x : ℕ) → getD work x 0 ≡ 0
+
+-- and areas with room
+pub record FitAreas (s : List ℕ) (h : Header) (masks liveIn liveOut work : List ℕ) : Type 0 where
+  pub flow-fit : FitFlow s h work
+  pub masks-room : h .statements * (h .arrays) ≤ length masks
+  pub in-room : h .statements ≤ length liveIn
+  pub out-room : h .statements ≤ length liveOut
+
+pub record Findings (f : Flow) (masks masks′ liveIn liveIn′ liveOut liveOut′ : List ℕ) (visits : ℕ) : Type 0 where
+  pub left : Solver
+  pub over : Over (doubled f) visits left
+  pub mask-bytes : (i a : ℕ) → i < size f → a < f .arrays → getD masks′ (i * (f .arrays) + a) 0 ≡ maskLeft f left i a
+  pub masks-size : length masks′ ≡ length masks
+  pub masks-kept : (x : ℕ) → size f * (f .arrays) ≤ x → getD masks′ x 0 ≡ getD masks x 0
+  pub live-in : Written (size f) (liveInWord f) liveIn liveIn′
+  pub live-out : Written (size f) (liveOutWord f) liveOut liveOut′
+
+-- the calls have their summaries, and the solver's words are still zero
+pub record SummariesMade (s : List ℕ) (h : Header) (ws : List ℕ) : Type 0 where
+  pub indexed : Indexed s h ws
+  pub summarized : Summarized (flowOf s) ws (h .statements)
+  pub zero : (x : ℕ) → enteredRowAt (h .statements) ≤ x → x < areaEnd (h .statements) → getD ws x 0 ≡ 0
+
+-- what the forward solver starts from: the edges are known, and its words are zero
+pub record SolverStart (s : List ℕ) (h : Header) (ws : List ℕ) : Type 0 where
+  pub indexed : Indexed s h ws
+  pub linked : Linked (flowOf s) ws (h .statements)
+  pub some : 0 < h .statements
+  pub zero : (x : ℕ) → queueAt (h .statements) ≤ x → x < areaEnd (h .statements) → getD ws x 0 ≡ 0
+
+-- the masks are written
+pub record Masked (s : List ℕ) (h : Header) (masks masks′ vs : List ℕ) (visits : ℕ) : Type 0 where
+  pub ready : Ready s vs (h .statements)
+  pub left : Solver
+  pub over : Over (doubled (flowOf s)) visits left
+  pub bytes : (i a : ℕ) → i < h .statements → a < h .arrays → getD masks′ (i * (h .arrays) + a) 0 ≡ maskLeft (flowOf s) left i a
+  pub masks-size : length masks′ ≡ length masks
+  pub masks-kept : (x : ℕ) → h .statements * (h .arrays) ≤ x → getD masks′ x 0 ≡ getD masks x 0

@@ -1,0 +1,24 @@
+-- `part` meets its contract: the queue stands below 37 × n, so that the sum is not too large (`row-below`).
+-- Assumes nothing.
+use borrow.Author.Needs.{needs}
+use native.Mathlib.Nat.{le-refl, mul-le-mul-right}
+use native.Mathlib.Omega.{arith}
+use Rattle.statements.proofs.WorkArea.{row-below}
+use Rattle.solve.proofs.layout.part.Statement.{statement}
+use Rattle.solve.proofs.layout.part.Tie as tie
+
+solver-requires : tie.Need-solver-requires
+solver-requires c κs = search needs
+
+mul-result : tie.Need-mul-result
+mul-result c = omega (arith, mul-le-mul-right (c .before .args .n) (c .before .pre .1))
+
+add-result : tie.Need-add-result
+add-result c =
+    omega (arith, row-below (c .before .pre .0) (le-refl (c .before .args .n)), mul-le-mul-right (c .before .args .n) (c .before .pre .1))
+
+returns : tie.Need-returns
+returns c = search needs
+
+pub part-spec : {M : Type 1} → statement M
+part-spec = tie.close (tie.spec solver-requires mul-result add-result returns)

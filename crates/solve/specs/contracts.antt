@@ -1,0 +1,5 @@
+-- What the functions of this crate promise one another and their callers. No promise of a door cites it.
+pub mod Layout
+pub mod Rows
+pub mod Waiting
+pub mod Pushed

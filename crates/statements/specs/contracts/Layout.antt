@@ -1,0 +1,52 @@
+-- The work area of a flow of n statements: offsets, calls, bodies, the matrix of statement sets, the queue, the row of entered statements, and the words of the
+-- solver, whose layout is crate solve's. The matrix has n rows of `rowWords n` words; all fits into 64 × n words. Each phase writes one run of words, so that
+-- what it keeps is an interval.
+use Prim.Native.Nat.{ℕ, _+_, _*_, _/_}
+
+abbrev pub offsetsAt : ℕ → ℕ
+offsetsAt n = 0
+
+abbrev pub callsAt : ℕ → ℕ
+callsAt n = n
+
+abbrev pub callTouchedAt : ℕ → ℕ
+callTouchedAt n = 2 * n
+
+abbrev pub bodiesAt : ℕ → ℕ
+bodiesAt n = 3 * n
+
+abbrev pub touchedAt : ℕ → ℕ
+touchedAt n = 4 * n
+
+abbrev pub matrixAt : ℕ → ℕ
+matrixAt n = 5 * n
+
+-- words of a row of statements
+unfoldable pub rowWords : ℕ → ℕ
+rowWords n = (n + 63) / 64
+
+-- where the first k rows of the matrix end. The laws of rows are in proofs/WorkArea: a row lies in the matrix, and two rows are apart
+unfoldable pub rowsEnd : ℕ → ℕ → ℕ
+rowsEnd n k = matrixAt n + rowWords n * k
+
+-- row i of the matrix stands behind the i rows before it, and the queue behind all of them
+
+abbrev pub rowAt : ℕ → ℕ → ℕ
+rowAt n i = rowsEnd n i
+
+abbrev pub queueAt : ℕ → ℕ
+queueAt n = rowsEnd n n
+
+abbrev pub enteredRowAt : ℕ → ℕ
+enteredRowAt n = queueAt n + 2 * n
+
+-- where the solver's words begin, and how many there are
+abbrev pub solverAt : ℕ → ℕ
+solverAt n = queueAt n + 3 * n
+
+abbrev pub solverWords : ℕ → ℕ
+solverWords n = 22 * n + 16
+
+-- the words that are used
+abbrev pub areaEnd : ℕ → ℕ
+areaEnd n = solverAt n + solverWords n
