@@ -41,7 +41,7 @@ unfolding removed
 returns c =
     let a = c .before .before .before .args in
     let one : 1 * 2 ^ (a .i % 64) % 2 ^ 64 ≡ 2 ^ (a .i % 64) = one-shl (a .i % 64) (omega arith) in
-    ap (set (now (a .ws)) (a .base + a .i / 64)) (c .before .difference .ensures ∙ ap (without (getD (now (a .ws)) (a .base + a .i / 64) 0)) one)
+    ap (set (now (a .ws)) (a .base + a .i / 64)) (c .difference .ensures ∙ ap (without (getD (now (a .ws)) (a .base + a .i / 64) 0)) one)
 
 pub remove-spec : {M : Type 1} → statement M
 remove-spec =
