@@ -40,13 +40,10 @@ queueAt n = rowsEnd n n
 abbrev pub enteredRowAt : ℕ → ℕ
 enteredRowAt n = queueAt n + 2 * n
 
--- where the solver's words begin, and how many there are
+-- where the solver's words begin
 abbrev pub solverAt : ℕ → ℕ
 solverAt n = queueAt n + 3 * n
 
-abbrev pub solverWords : ℕ → ℕ
-solverWords n = 22 * n + 16
-
--- the words that are used
-abbrev pub areaEnd : ℕ → ℕ
-areaEnd n = solverAt n + solverWords n
+-- words of a set of arrays
+abbrev pub setWords : ℕ → ℕ
+setWords arrays = (arrays + 63) / 64
