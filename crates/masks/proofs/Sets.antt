@@ -44,6 +44,11 @@ module _ (x y z : ℕ) (hx : x < 2) (hy : y < 2) (hz : z < 2) where
       (at-below 3 (λ s. eqb (united e s (maskOf x y z % 2) (maskOf x y z / 2 % 2) (maskOf x y z / 4 % 2)) (bit (stepOf e (maskOf x y z)) s))
       (at-mask (λ e m. everyBelow 3 (λ s. eqb (united e s (m % 2) (m / 2 % 2) (m / 4 % 2)) (bit (stepOf e m) s))) tt e (maskOf x y z) mask-lt) s h)
 
+-- and a mask of states is that of its bits
+pub mask-of-bits : (m : ℕ) → m < 8 → maskOf (bit m 0) (bit m 1) (bit m 2) ≡ m
+unfolding bit
+mask-of-bits m h = eqb→eq _ _ (at-below 8 (λ m. eqb (maskOf (bit m 0) (bit m 1) (bit m 2)) m) tt m h)
+
 -- a mask is its memberships
 pub mask-same : (x y z x′ y′ z′ : ℕ) → x < 2 → y < 2 → z < 2 → x′ < 2 → y′ < 2 → z′ < 2 → maskOf x y z ≡ maskOf x′ y′ z′ → (x ≡ x′) × (y ≡ y′) × (z ≡ z′)
 mask-same x y z x′ y′ z′ hx hy hz hx′ hy′ hz′ e = (omega arith, omega arith, omega arith)

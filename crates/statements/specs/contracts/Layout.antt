@@ -2,6 +2,7 @@
 -- solver, whose layout is crate solve's. The matrix has n rows of `rowWords n` words; all fits into 64 × n words. Each phase writes one run of words, so that
 -- what it keeps is an interval.
 use Prim.Native.Nat.{ℕ, _+_, _*_, _/_}
+use Rattle.flow.specs.Limits.{maxArrays}
 
 abbrev pub offsetsAt : ℕ → ℕ
 offsetsAt n = 0
@@ -44,6 +45,9 @@ enteredRowAt n = queueAt n + 2 * n
 abbrev pub solverAt : ℕ → ℕ
 solverAt n = queueAt n + 3 * n
 
--- words of a set of arrays
+-- words of a set of arrays, and the most that there may be
 abbrev pub setWords : ℕ → ℕ
 setWords arrays = (arrays + 63) / 64
+
+abbrev pub maxWidth : ℕ
+maxWidth = setWords maxArrays
