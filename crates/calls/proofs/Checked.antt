@@ -10,7 +10,7 @@ use Rattle.flow.specs.Limits.{maxFile}
 use Rattle.flow.specs.declared.StmtId.{StmtId}
 use Rattle.flow.specs.declared.Continuation as C
 use Rattle.flow.specs.declared.LineEntry as E
-use Rattle.flow.specs.contracts.Answers.{FitRecord}
+use Rattle.flow.specs.contracts.Answers.{FitFile, FitRecord}
 use Rattle.records.specs.contracts.Fields.{callLineCount, callLineAt, continuationTo, lineEntryOf}
 use Rattle.flow.specs.Format.{flowOf, statementsOf, recordPlace, successorCount, successorAt}
 use Rattle.records.proofs.Files.{limited, record-fit}
@@ -26,6 +26,8 @@ use Rattle.statements.specs.contracts.Layout as layout
 use Rattle.statements.specs.contracts.Layout.{rowAt, rowWords, queueAt, solverAt}
 use Rattle.statements.specs.contracts.Ready.{Ready}
 use Rattle.statements.proofs.Keeps.{ready-formed, ready-below, ready-room}
+use Rattle.statements.proofs.WellFormed.{well-formed}
+use Rattle.flow.specs.Flow.{size}
 use Rattle.statements.proofs.WorkArea.{member-word, row-words-le, row-fits}
 
 module _ {s ws : List ℕ} {n : ℕ} (r : Ready s ws n) where
@@ -92,5 +94,5 @@ pub enters-nothing : (o : Option ℕ) → lineEntryOf o ≡ E.the-variants.Nothi
 enters-nothing none e = refl
 enters-nothing (some t) e = let z : _≡_ {A = ℕ} 0 1 = cc in absurd (omega arith)
 
-pub successor-below : {s ws : List ℕ} {n : ℕ} → Ready s ws n → (i k : ℕ) → k < length (successors (flowOf s) i) → getD (successors (flowOf s) i) k 0 < n
-successor-below {s} r i k h = ready-below r (ready-formed r .successor i (getD (successors (flowOf s) i) k 0) (getD-In (successors (flowOf s) i) k 0 h))
+pub successor-below : {s : List ℕ} → FitFile s → (i k : ℕ) → k < length (successors (flowOf s) i) → getD (successors (flowOf s) i) k 0 < size (flowOf s)
+successor-below {s} h i k l = well-formed h .successor i (getD (successors (flowOf s) i) k 0) (getD-In (successors (flowOf s) i) k 0 l)

@@ -18,11 +18,10 @@ use Rattle.theory.specs.Doubled.{Node, Edge, at, plain, offset, returnsTo, retu
 use Rattle.theory.proofs.Lists.{clash, In-map}
 use Rattle.theory.proofs.Edges.{edge-below}
 use Rattle.statements.specs.contracts.Layout.{callsAt}
-use Rattle.calls.specs.contracts.Held.{Linked, EnteredRow, transparent, opaque}
+use Rattle.calls.specs.contracts.Held.{Linked, transparent, opaque}
 use Rattle.calls.specs.contracts.Slots.{slots, present}
 use Rattle.calls.proofs.Slots.{slot-edge}
 use Rattle.calls.proofs.Cursor.{NextEdge}
-use Rattle.calls.proofs.Found.{call-opaque}
 
 -- a slot that is left is a slot
 left-In : {x : Edge} (c : ℕ) (xs : List (Option Edge)) → In x (present (drop c xs)) → In x (present xs)
@@ -76,7 +75,3 @@ next-transparent {f} {ws} {n} v h l x = go (continuationOf (kind f (v .stmt))) r
     go none e b q = still (λ k s. let z : _≡_ {A = ℕ} 0 1 = cc in absurd (omega arith))
     go (some k) e true q = still (λ m s. q)
     go (some k) e false q = h .calls .call (v .stmt) k l e ∙ ap (λ (t : Bool). cond t opaque transparent) q
-
--- a statement that is no transparent call needs no row of entered statements
-pub entered-vain : {f : Flow} {ws : List ℕ} {n i : ℕ} → Linked f ws n → i < n → (getD ws (callsAt n + i) 0 ≡ transparent → ⊥) → EnteredRow f ws n i
-entered-vain {f} {i = i} h l other = record { row = λ k e o. clash (opaqueCall f i) (call-opaque h l other e) o }

@@ -13,7 +13,7 @@ ghost use Rattle.statements.specs.contracts.Ready.{Ready, Indexed, Keeps};
 ghost use Rattle.calls.specs.contracts.Held.{Summarized, Linked};
 ghost use Rattle.calls.specs.contracts.Joins.{Joins, Adds, Summary, BodyRow, BodyRows, walks, fromReturn, fromEntered, fromBodies};
 use crate::OPAQUE;
-use crate::edges;
+use crate::rows;
 use flow::StmtId;
 use statements::fields;
 use statements::layout;
@@ -87,7 +87,7 @@ fn note_bodies(file: &[u8], h: flow::Header, work: &mut [u64], c: StmtId, k: Stm
     ensures { λ _. ⌜ Joins (flowOf (now (file .entry))) (now (work .entry)) (now (work .exit)) (h .statements) (solverAt (h .statements)) (fromBodies (flowOf (now (file .entry))) (entered (flowOf (now (file .entry))) (c .0)) (k .0)) ⌝ }
 {
     let n = h.statements;
-    edges::zero_entered(work, n);
+    rows::zero_entered(work, n);
     join_lines(file, h, work, c);
     note_members(file, work, n, k);
 }
@@ -120,5 +120,5 @@ pub fn note_edges(file: &[u8], h: flow::Header, work: &mut [u64])
         note_call(file, h, work, StmtId(c));
         c += 1;
     }
-    edges::note_rows(file, h, work);
+    rows::note_rows(file, h, work);
 }

@@ -15,8 +15,8 @@ use Rattle.statements.specs.contracts.Layout.{rowAt, rowWords, enteredRowAt}
 use Rattle.statements.specs.contracts.Ready.{Keeps}
 use Rattle.statements.proofs.WorkArea.{row-holds, row-fits, row-words-le}
 use Rattle.statements.proofs.Keeps.{keeps-trans, keeps-has, keeps-zeroed, keeps-unioned}
-use Rattle.calls.proofs.edges.copy_entered.Statement.{statement}
-use Rattle.calls.proofs.edges.copy_entered.Tie as tie
+use Rattle.calls.proofs.rows.copy_entered.Statement.{statement}
+use Rattle.calls.proofs.rows.copy_entered.Tie as tie
 
 row-requires : tie.Need-row-requires
 row-requires c κs = search needs

@@ -8,8 +8,8 @@ use Rattle.flow.specs.Format.{flowOf}
 use Rattle.statements.proofs.Keeps.{indexed-keeps}
 use Rattle.calls.specs.contracts.Joins.{Notes}
 use Rattle.calls.proofs.CallRows.{notes-none, notes-then}
-use Rattle.calls.proofs.edges.note_rows.Statement.{statement}
-use Rattle.calls.proofs.edges.note_rows.Tie as tie
+use Rattle.calls.proofs.rows.note_rows.Statement.{statement}
+use Rattle.calls.proofs.rows.note_rows.Tie as tie
 
 abbrev Inv-loop : tie.InvT-loop
 Inv-loop file h work₀ n i₀ work i = (i ≤ n) × Notes (flowOf file) work₀ work n 0 i

@@ -14,8 +14,8 @@ use Rattle.statements.specs.contracts.Layout.{rowWords, enteredRowAt, solverAt}
 use Rattle.statements.specs.contracts.Ready.{Keeps}
 use Rattle.statements.proofs.WorkArea.{area-fits, row-holds, row-words-le}
 use Rattle.statements.proofs.Keeps.{keeps-zeroed}
-use Rattle.calls.proofs.edges.zero_entered.Statement.{statement}
-use Rattle.calls.proofs.edges.zero_entered.Tie as tie
+use Rattle.calls.proofs.rows.zero_entered.Statement.{statement}
+use Rattle.calls.proofs.rows.zero_entered.Tie as tie
 
 entered-row-requires : tie.Need-entered-row-requires
 entered-row-requires c κs = search needs

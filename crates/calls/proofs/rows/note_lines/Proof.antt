@@ -14,8 +14,8 @@ use Rattle.statements.proofs.Keeps.{indexed-keeps}
 use Rattle.calls.specs.contracts.Joins.{Adds}
 use Rattle.calls.proofs.Joined.{adds-none}
 use Rattle.calls.proofs.Lines.{enteredBy, adds-line, adds-lines}
-use Rattle.calls.proofs.edges.note_lines.Statement.{statement}
-use Rattle.calls.proofs.edges.note_lines.Tie as tie
+use Rattle.calls.proofs.rows.note_lines.Statement.{statement}
+use Rattle.calls.proofs.rows.note_lines.Tie as tie
 
 abbrev Inv-loop : tie.InvT-loop
 Inv-loop file h work₀ i n count l₀ work l = (l ≤ count) × Adds work₀ work n (enteredBy (flowOf file) (take l (callLines (kind (flowOf file) (i .0)))))

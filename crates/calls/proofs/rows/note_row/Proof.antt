@@ -10,8 +10,8 @@ use Rattle.statements.proofs.WorkArea.{row-from}
 use Rattle.statements.proofs.Keeps.{keeps-trans, indexed-keeps, ready-keeps, ready-most}
 use Rattle.calls.proofs.Checked.{entered-room}
 use Rattle.calls.proofs.CallRows.{notes-skip, notes-row}
-use Rattle.calls.proofs.edges.note_row.Statement.{statement}
-use Rattle.calls.proofs.edges.note_row.Tie as tie
+use Rattle.calls.proofs.rows.note_row.Statement.{statement}
+use Rattle.calls.proofs.rows.note_row.Tie as tie
 
 calls-requires : tie.Need-calls-requires
 calls-requires c κs = ready-most (c .before .before .pre .0 .ready)

@@ -14,8 +14,8 @@ use Rattle.statements.proofs.Keeps.{ready-most, ready-formed, ready-below}
 use Rattle.calls.proofs.Checked.{entered-room, entered-word, enters-at}
 use Rattle.calls.proofs.Joined.{adds-insert}
 use Rattle.calls.proofs.Lines.{adds-entered, adds-nothing}
-use Rattle.calls.proofs.edges.note_line.Statement.{statement}
-use Rattle.calls.proofs.edges.note_line.Tie as tie
+use Rattle.calls.proofs.rows.note_line.Statement.{statement}
+use Rattle.calls.proofs.rows.note_line.Tie as tie
 
 entered-requires : tie.Need-entered-requires
 entered-requires c κs = search needs
