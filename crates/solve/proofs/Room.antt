@@ -32,12 +32,12 @@ module _ (n w : ℕ) where
 pub end-below : {n w k : ℕ} → n ≤ maxStatements → w ≤ maxWidth → k ≤ 2 * n → maskRowAt n w k ≤ 49 * n + 7
 end-below {n} {w} {k} h l b = omega (arith, row-below h (le-refl n), mul-le-mul-right k l)
 
-pub area-fits : {n w : ℕ} → 0 < n → n ≤ maxStatements → w ≤ maxWidth → areaEnd n w ≤ workWords n
-area-fits {n} {w} p h l = go (decLt n 8)
+pub solver-fits : {n w : ℕ} → 0 < n → n ≤ maxStatements → w ≤ maxWidth → areaEnd n w ≤ workWords n
+solver-fits {n} {w} p h l = go (decLt n 8)
   where
     go : Dec (n < 8) → areaEnd n w ≤ workWords n
     go (yes b) = omega (arith, one-word b, mul-le-mul-right (2 * n) l)
     go (no b) = omega (arith, b, end-below h l (le-refl (2 * n)))
 
-pub ready-room : {s ws : List ℕ} {n w : ℕ} → Ready s ws n → 0 < n → w ≤ maxWidth → areaEnd n w ≤ length ws
-ready-room r p l = let room = r .room in omega (arith, area-fits p (ready-most r) l)
+pub solver-room : {s ws : List ℕ} {n w : ℕ} → Ready s ws n → 0 < n → w ≤ maxWidth → areaEnd n w ≤ length ws
+solver-room r p l = let room = r .room in omega (arith, solver-fits p (ready-most r) l)

@@ -18,7 +18,9 @@ use Rattle.flow.specs.Format.{flowOf}
 use Rattle.records.proofs.Files.{limited}
 use Rattle.records.proofs.Statements.{size-is}
 use Rattle.theory.specs.contracts.WellFormed.{WellFormed}
+use Rattle.statements.specs.contracts.Layout.{solverAt}
 use Rattle.statements.specs.contracts.Ready.{Ready, Indexed, Keeps}
+use Rattle.statements.proofs.WorkArea.{area-fits}
 use Rattle.statements.proofs.WellFormed.{well-formed}
 
 pub keeps-refl : {lo hi : ℕ} {ws : List ℕ} → Keeps lo hi ws ws
@@ -100,10 +102,13 @@ ready-keeps r k l = record {
 pub indexed-keeps : {s ws vs : List ℕ} {h : Header} {lo hi : ℕ} → Indexed s h ws → Keeps lo hi ws vs → h .statements ≤ lo → Indexed s h vs
 indexed-keeps r k l = record { ready = ready-keeps (r .ready) k l; header = r .header }
 
--- a fit file has few enough statements for the layout
+-- a fit file has few enough statements for the layout, and the parts below the solver's lie within the area, with a set of doubled numbers
 
 pub ready-most : {s ws : List ℕ} {n : ℕ} → Ready s ws n → n ≤ maxStatements
 ready-most {s} r = let most = limited (r .fit) .statements in let count = r .count in omega arith
+
+pub ready-room : {s ws : List ℕ} {n : ℕ} → Ready s ws n → 0 < n → solverAt n + n ≤ length ws
+ready-room r p = let room = r .room in omega (arith, area-fits p (ready-most r))
 
 -- and the flow that it stands for is well formed and has n of them
 

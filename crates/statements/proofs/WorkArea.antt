@@ -8,12 +8,12 @@ use mathlib.Core.List.{List}
 use mathlib.Core.Logic.{_≢_}
 use mathlib.Core.Path.{_≡_}
 use lib.ListN.{getD}
-use Rattle.flow.specs.Limits.{maxStatements}
+use Rattle.flow.specs.Limits.{maxStatements, workWords}
 use Rattle.words.specs.contracts.Row.{has}
 use Rattle.words.specs.contracts.Change.{inserted}
 use Rattle.words.proofs.Row.{has-cong}
 use Rattle.words.proofs.Inserted.{insert-else}
-use Rattle.statements.specs.contracts.Layout.{rowWords, rowsEnd, rowAt, matrixAt, queueAt}
+use Rattle.statements.specs.contracts.Layout.{rowWords, rowsEnd, rowAt, matrixAt, queueAt, solverAt}
 
 -- Words of a row
 
@@ -56,6 +56,10 @@ row-below {n} {i} h l =
 pub one-word : {n : ℕ} → n < 8 → rowAt n n ≤ 6 * n
 unfolding rowsEnd rowWords
 one-word {n} l = let one : (n + 63) / 64 ≤ 1 = omega arith in omega (arith, mul-le-mul-right n one)
+
+-- of a flow with statements, the parts below the solver's and a set of doubled numbers fit into the work area that refusal 10 asks for
+pub area-fits : {n : ℕ} → 0 < n → n ≤ maxStatements → solverAt n + n ≤ workWords n
+area-fits {n} p h = omega (arith, row-below h (le-refl n))
 
 -- Members of rows
 
