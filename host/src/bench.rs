@@ -191,7 +191,7 @@ pub fn readers() -> bool {
             checked.is_ok() && ratio <= 2.0
         }
         None => {
-            println!("{}", sides::NO_READER);
+            println!("{}", sides::NO_LIBRARY);
             true
         }
     }
@@ -227,7 +227,7 @@ pub fn whole_call() -> bool {
     );
     let measured: Option<Vec<(f64, f64)>> = flows().iter().map(|(name, flow)| measure(name, flow)).collect();
     let Some(times) = measured else {
-        println!("{}", if cfg!(original) { sides::NO_STATES } else { sides::NO_ORIGINAL });
+        println!("{}", if cfg!(original) { sides::NO_LIBRARY } else { sides::NO_ORIGINAL });
         return true;
     };
     let least = times.iter().map(|t| t.0).fold(f64::MAX, f64::min);

@@ -7,7 +7,7 @@ use std::{env, fs};
 use yarnuskel_host::flow::Flow;
 use yarnuskel_host::generate::{self, Family};
 use yarnuskel_host::judge::{self, Comparison, Lent};
-use yarnuskel_host::sides::{self, NO_ORIGINAL, NO_READER, NO_STATES};
+use yarnuskel_host::sides::{self, NO_LIBRARY, NO_ORIGINAL};
 use yarnuskel_host::{bench, cases, dot, flow, listing, reading, store, text, worst};
 
 const USAGE: &str = "commands:
@@ -113,7 +113,7 @@ fn fit(path: &Path) -> Result<Flow, String> {
 fn picture(path: &Path) -> Outcome {
     let flow = fit(path)?;
     let Some(masks) = sides::proved_masks(&flow.bytes()) else {
-        println!("{NO_STATES}");
+        println!("{NO_LIBRARY}");
         return Ok(true);
     };
     let masks = masks.map_err(|r| format!("refused {} at {}", r.number, r.place))?;
@@ -198,10 +198,10 @@ fn run(words: &[&str]) -> Outcome {
             compare(number(count)?, number(seed)?, |c, s| Some(judge::compare(c, s)), "")
         }
         ["compare-reader", count, seed] => {
-            compare(number(count)?, number(seed)?, judge::compare_reader, NO_READER)
+            compare(number(count)?, number(seed)?, judge::compare_reader, NO_LIBRARY)
         }
         ["compare-proved", count, seed] => {
-            compare(number(count)?, number(seed)?, judge::compare_proved, NO_STATES)
+            compare(number(count)?, number(seed)?, judge::compare_proved, NO_LIBRARY)
         }
         ["faults", count, seed] => faults(number(count)?, number(seed)?),
         ["store"] => write_store(),
