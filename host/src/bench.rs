@@ -77,7 +77,7 @@ pub fn loops(n: usize) -> Flow {
     flow
 }
 
-/// The deepest nest that there may be: each statement calls the next, and all share one RETURN.
+/// A deep nest: each statement calls the next, and all share one RETURN.
 pub fn deep_chain(n: usize) -> Flow {
     let mut random = Random::new(12, 0);
     let last = n as u16 - 1;

@@ -17,6 +17,7 @@ pub mod random;
 pub mod reader;
 pub mod reading;
 pub mod sides;
+pub mod stack;
 #[cfg(original)]
 mod stand_ins;
 pub mod store;

@@ -7,7 +7,7 @@ use std::process::{Command, Stdio};
 use yarnuskel_host::answerer;
 use yarnuskel_host::judge::{self, Comparison, Lent};
 use yarnuskel_host::sides::{self, NO_LIBRARY};
-use yarnuskel_host::{bench, cases, listing, store};
+use yarnuskel_host::{bench, cases, listing, stack, store};
 
 const SEED: u64 = 2;
 
@@ -68,17 +68,18 @@ fn large_flows_by_the_proved_call() {
     }
 }
 
-/// No proof speaks of the machine stack: the deepest nest of subroutines in a thread of 1 MiB.
+/// No proof speaks of the machine stack: the deepest nest of subroutines, in both orders of the file.
 #[test]
-fn deepest_nest_in_a_small_thread() {
-    let flow = bench::deep_chain(2_048);
-    let file = flow.bytes();
-    let lent = Lent::for_file(&file, 0);
-    let call = move || judge::proved_outcome(&file, lent);
-    let thread = std::thread::Builder::new().stack_size(1 << 20).spawn(call).unwrap();
-    match thread.join().unwrap() {
-        Some(outcome) => assert_eq!(outcome.areas.masks, answerer::states(&flow, None).masks),
-        None => println!("{NO_LIBRARY}"),
+fn deepest_nests_in_a_small_thread() {
+    for order in stack::ORDERS {
+        let flow = stack::nest(order, stack::DEEPEST);
+        match stack::outcome_in(stack::STACK, &flow) {
+            Some(outcome) => {
+                assert_eq!(outcome.answer.number, 0, "{order:?}");
+                assert_eq!(outcome.areas.masks, answerer::states(&flow, None).masks, "{order:?}");
+            }
+            None => return println!("{NO_LIBRARY}"),
+        }
     }
 }
 
