@@ -28,9 +28,8 @@ use Rattle.theory.specs.Doubled.{doubled}
 use Rattle.theory.specs.Queue.{initial}
 use Rattle.theory.proofs.Terms.{term-1-empty}
 use Rattle.statements.proofs.WellFormed.{arrays-is, well-formed}
-use Rattle.dataflow.specs.declared.Answer.{Answer}
 use Rattle.dataflow.specs.declared.Answer.the-variants.{Accepted, Refused}
-use Rattle.dataflow.specs.Promise.{Promise, Door, judged, numberOfAnswer, placeOfAnswer, visitsOfAnswer}
+use Rattle.dataflow.specs.Promise.{Promise, judged}
 use Rattle.dataflow.specs.contracts.Phases.{Findings}
 use Rattle.dataflow.proofs.Promised.{promised}
 
@@ -135,13 +134,6 @@ nothing-solved s masks liveIn liveOut z =
       live-in = record { size = refl; written = λ i l. absurd (omega arith); kept = λ x l. refl };
       live-out = record { size = refl; written = λ i l. absurd (omega arith); kept = λ x l. refl };
     }
-
--- the door says the answer as numbers
-pub doored : {s masks masks′ liveIn liveIn′ liveOut liveOut′ work work′ : List ℕ} (r : Answer) {place visits number : ℕ}
-    → Promise s masks masks′ liveIn liveIn′ liveOut liveOut′ work work′ r
-    → number ≡ numberOfAnswer r → place ≡ placeOfAnswer r → visits ≡ visitsOfAnswer r
-    → Door s masks masks′ liveIn liveIn′ liveOut liveOut′ work work′ place visits number
-doored r p n l v = record { answer = r; number = n; place-is = l; visits-is = v; promise = p }
 
 -- what the reader's answer says of a file that it found fit
 module _ (s : List ℕ) {c : Checked} (h : Header) (e : c ≡ checkedOf (verdict (fileChecks s)) (headerOf s)) (told : c ≡ Fit h) where

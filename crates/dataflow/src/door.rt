@@ -7,7 +7,7 @@ ghost use Rattle.words.specs.contracts.Change.{zeroed};
 ghost use Rattle.flow.specs.Format.{flowOf};
 ghost use Rattle.theory.specs.Live.{liveInWord, liveOutWord};
 ghost use Rattle.statements.specs.contracts.Ready.{Ready};
-ghost use Rattle.dataflow.specs.Promise.{Promise, Door, Written};
+ghost use Rattle.dataflow.specs.Promise.{Promise, Written};
 ghost use Rattle.dataflow.specs.contracts.Phases.{FitFlow, SummariesMade, SolverStart, Masked, FitAreas, Findings};
 use crate::Answer;
 use crate::arrays;
@@ -127,31 +127,4 @@ pub fn states(
     let visits = solve_flow(file, h, masks, live_in, live_out, work);
     words::zero_row(work, 0, size);
     Answer::Accepted(visits)
-}
-
-// The door for other languages: 0, place 0 and the count of visits where the flow is accepted; else the refusal's number, its place and 0.
-#[no_mangle]
-pub extern "C" fn yarnuskel_states(
-    file: &[u8],
-    masks: &mut [u8],
-    live_in: &mut [u64],
-    live_out: &mut [u64],
-    work: &mut [u64],
-    place: &mut u64,
-    visits: &mut u64,
-) -> u64
-    ensures { λ r. ⌜ Door (now (file .entry)) (now (masks .entry)) (now (masks .exit)) (now («live_in» .entry)) (now («live_in» .exit)) (now («live_out» .entry)) (now («live_out» .exit)) (now (work .entry)) (now (work .exit)) (now (place .exit)) (now (visits .exit)) r ⌝ }
-{
-    match states(file, masks, live_in, live_out, work) {
-        Answer::Accepted(count) => {
-            *place = 0;
-            *visits = count;
-            0
-        }
-        Answer::Refused(r) => {
-            *place = flow::check::place(r);
-            *visits = 0;
-            flow::check::number(r)
-        }
-    }
 }

@@ -3,12 +3,11 @@
 use mathlib.Core.Path.{sym, _∙_, ap}
 use borrow.Author.Needs.{needs}
 use denote.Ref.{now}
-use Rattle.flow.specs.Format.{verdict, fileChecks}
+use Rattle.flow.specs.Format.{verdict, fileChecks, verdictNumber, verdictPlace}
 use Rattle.flow.specs.contracts.Answers.{headerOf}
-use Rattle.flow.specs.Format.{verdictNumber, verdictPlace}
 use Rattle.flow.proofs.Reading.{fit-answer, unfit-answer}
-use Rattle.flow.proofs.check.yarnuskel_check.Statement.{statement}
-use Rattle.flow.proofs.check.yarnuskel_check.Tie as tie
+use Rattle.yarnuskel.proofs.check.yarnuskel_check.Statement.{statement}
+use Rattle.yarnuskel.proofs.check.yarnuskel_check.Tie as tie
 
 check-file-requires : tie.Need-check-file-requires
 check-file-requires c κs = search needs

@@ -2,10 +2,9 @@
 -- Assumes nothing.
 use borrow.Author.Needs.{needs}
 use mathlib.Core.Path.{ap, sym, _∙_}
-use Rattle.dataflow.specs.Promise.{numberOfAnswer, placeOfAnswer, visitsOfAnswer}
-use Rattle.dataflow.proofs.Judging.{doored}
-use Rattle.dataflow.proofs.door.yarnuskel_states.Statement.{statement}
-use Rattle.dataflow.proofs.door.yarnuskel_states.Tie as tie
+use Rattle.yarnuskel.specs.Door.{numberOfAnswer, placeOfAnswer, visitsOfAnswer}
+use Rattle.yarnuskel.proofs.states.yarnuskel_states.Statement.{statement}
+use Rattle.yarnuskel.proofs.states.yarnuskel_states.Tie as tie
 
 states-requires : tie.Need-states-requires
 states-requires c κs = search needs
@@ -37,7 +36,13 @@ same-length-4 c = search needs
 returns : tie.Need-returns
 returns c =
     let told = c .before .count .given .1 in
-    doored (c .before .before .before .before .before .before .before .before .before .before .before .states .result) (c .before .before .before .before .before .before .before .before .before .before .before .states .ensures) (sym (ap numberOfAnswer told)) (sym (ap placeOfAnswer told)) (sym (ap visitsOfAnswer told))
+    record {
+      answer = c .before .before .before .before .before .before .before .before .before .before .before .states .result;
+      number = sym (ap numberOfAnswer told);
+      place-is = sym (ap placeOfAnswer told);
+      visits-is = sym (ap visitsOfAnswer told);
+      promise = c .before .before .before .before .before .before .before .before .before .before .before .states .ensures;
+    }
 
 same-length-5 : tie.Need-same-length-5
 same-length-5 c = search needs
@@ -54,10 +59,13 @@ same-length-8 c = search needs
 returns-2 : tie.Need-returns-2
 returns-2 c =
     let told = c .before .before .before .r .given .1 in
-    doored (c .before .before .before .before .before .before .before .before .before .before .before .before .before .states .result) (c .before .before .before .before .before .before .before .before .before .before .before .before .before .states .ensures)
-    (c .number .ensures ∙ sym (ap numberOfAnswer told))
-    (c .before .place .ensures ∙ sym (ap placeOfAnswer told))
-    (sym (ap visitsOfAnswer told))
+    record {
+      answer = c .before .before .before .before .before .before .before .before .before .before .before .before .before .states .result;
+      number = c .number .ensures ∙ sym (ap numberOfAnswer told);
+      place-is = c .before .place .ensures ∙ sym (ap placeOfAnswer told);
+      visits-is = sym (ap visitsOfAnswer told);
+      promise = c .before .before .before .before .before .before .before .before .before .before .before .before .before .states .ensures;
+    }
 
 pub yarnuskel-states-spec : {M : Type 1} → statement M
 yarnuskel-states-spec =
