@@ -1,9 +1,8 @@
-pub mod Stepping
+pub mod Sets
 pub mod Acted
 pub mod Unions
 pub mod Kept
 pub mod Sending
-pub mod Aside
 pub mod EdgeRows
 pub mod Sends
 pub mod Visiting

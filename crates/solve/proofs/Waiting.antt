@@ -1,6 +1,6 @@
 -- The laws of the queue: which numbers wait when one joins the back or the front is taken, with what is stored; and what writes elsewhere keep of it.
 -- The ring has room for one more, since the numbers that wait are below 2 n and none stands there twice. Assumes nothing.
-use Prim.Native.Nat.{ℕ, suc, _+_, _*_, _/_, _%_, _≤_, _<_}
+use Prim.Native.Nat.{ℕ, suc, _+_, _*_, _/_, _≤_, _<_}
 use mathlib.Core.Bool.{Bool, true, false, cond}
 use mathlib.Core.List.{List, [], _∷_, _++_, List·Memᴰ·head, List·Memᴰ·tail, List·Memᴰ·not-nil}
 use mathlib.Core.Logic.{⊎-elim, _≢_}
@@ -12,9 +12,8 @@ use borrow.Author.Tests.{eq-eqb, ne-eqb, eqb-true, eqb-false}
 use lib.ListN.{length, getD, set, length-set, length-append, List·getD-append}
 use lib.Seq.{getD-set-same, getD-set-other, getD-append-add}
 use lib.Dec.{eqb}
-use Rattle.words.specs.contracts.Row.{bit, has, Words}
+use Rattle.words.specs.contracts.Row.{has, Words}
 use Rattle.words.specs.contracts.Change.{inserted, removed}
-use Rattle.words.proofs.Bit.{bit-of-zero}
 use Rattle.words.proofs.Row.{has-lt, has-cong}
 use Rattle.words.proofs.Inserted.{length-inserted, inserted-other, insert-same, insert-other, insert-again}
 use Rattle.words.proofs.Removed.{removed-other, remove-same, remove-other}
@@ -25,6 +24,7 @@ use Rattle.theory.proofs.Enqueue.{join-distinct, join-cases, distinct-length}
 use Rattle.statements.specs.contracts.Layout.{queueAt, enteredRowAt}
 use Rattle.statements.specs.contracts.Ready.{Keeps}
 use Rattle.statements.proofs.Keeps.{keeps-inserted, keeps-removed}
+use Rattle.statements.proofs.Members.{zero-has}
 use Rattle.solve.specs.declared.Queue.{Queue}
 use Rattle.solve.specs.contracts.Layout.{waitingAt, visitedAt}
 use Rattle.solve.specs.contracts.Waiting.{wrapped, Waits, KeepsRest, Enqueued, restOf, Taken}
@@ -74,10 +74,6 @@ waits-kept {n} {ws} {vs} {queue} {w} h slots flags = record {
   below = h .below;
   distinct = h .distinct;
 }
-
-zero-has : (ws : List ℕ) (base d : ℕ) → getD ws (base + d / 64) 0 ≡ 0 → has ws base d ≡ 0
-unfolding has
-zero-has ws base d e = ap (λ (w : ℕ). bit w (d % 64)) e ∙ bit-of-zero (d % 64)
 
 -- nothing waits
 pub waits-none : {n : ℕ} {ws : List ℕ} → 0 < n → ((x : ℕ) → waitingAt n ≤ x → x < visitedAt n → getD ws x 0 ≡ 0)
