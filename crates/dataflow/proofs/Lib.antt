@@ -9,6 +9,7 @@ pub mod Visiting
 pub mod Few
 pub mod Running
 pub mod NotedRows
+pub mod MaskBytes
 pub mod Phases
 pub mod Promised
 pub mod Told
