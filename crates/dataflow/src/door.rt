@@ -46,13 +46,10 @@ fn solve_arrays(file: &[u8], h: flow::Header, masks: &mut [u8], work: &mut [u64]
     visits
 }
 
-// The matrix, the queue and the waiting words are free again.
 fn solve_names(file: &[u8], n: usize, live_in: &mut [u64], live_out: &mut [u64], work: &mut [u64])
     requires { ⌜ Ready (now file) (now work) n × (0 < n) × (n ≤ length (now «live_in»)) × (n ≤ length (now «live_out»)) ⌝ }
     ensures { λ _. ⌜ Written n (liveInWord (flowOf (now (file .entry)))) (now («live_in» .entry)) (now («live_in» .exit)) × Written n (liveOutWord (flowOf (now (file .entry)))) (now («live_out» .entry)) (now («live_out» .exit)) ⌝ }
 {
-    let matrix = layout::matrix(n);
-    words::zero_row(work, matrix, solve::layout::visited(n) - matrix);
     live::live_names(file, work, live_in, live_out, n);
 }
 
