@@ -1,7 +1,7 @@
 -- One number sends its masks on: its edges' rows are made and pushed along the edges. The rows stand beside the solver's state, so what was pushed is what the
 -- doubled graph's edges bring.
 use Prim.Native.Nat.{ℕ, _+_, _*_, _/_, _≤_, _<_}
-use mathlib.Core.Bool.{Bool, true, false, cond}
+use mathlib.Core.Bool.{Bool, true, false, cond, true≢false}
 use mathlib.Core.List.{List}
 use mathlib.Core.Option.{some}
 use mathlib.Core.Path.{_≡_, refl, sym, ap, ap₂, subst, _∙_}
@@ -20,6 +20,14 @@ use Rattle.theory.specs.Queue.{stepAll, brings, enqueue}
 use Rattle.statements.specs.contracts.Layout.{callTouchedAt, maxWidth, queueAt}
 use Rattle.statements.specs.contracts.Ready.{Keeps, MembersWord}
 use Rattle.statements.proofs.Keeps.{keeps-trans, keeps-widen}
+use Rattle.flow.specs.Format.{flowOf}
+use Rattle.calls.specs.declared.edges.Call.{Call}
+use Rattle.calls.specs.declared.edges.Edges.{Edges}
+use Rattle.calls.specs.declared.edges.EdgeClass.{EdgeClass}
+use Rattle.calls.specs.declared.edges.EdgeClass.the-variants as C
+use Rattle.calls.specs.contracts.Class.{EdgesOf}
+use Rattle.calls.specs.contracts.Held.{Linked, opaque, transparent}
+use Rattle.calls.proofs.Classes.{Plain, class-says, class-plain}
 use Rattle.calls.specs.contracts.Slots.{slots, present, toArc}
 use Rattle.calls.proofs.Slots.{slot-edge, brings-slots, enqueue-slots}
 use Rattle.calls.proofs.Next.{plain-edge}
@@ -32,7 +40,7 @@ use Rattle.solve.proofs.Room.{row-first}
 use Rattle.solve.proofs.Masks.{mask-cong, differ-as}
 use Rattle.solve.proofs.Waiting.{waits-kept}
 use Rattle.solve.proofs.Growing.{masks-kept}
-use Rattle.dataflow.specs.contracts.Transfer.{acted, Acted}
+use Rattle.dataflow.specs.contracts.Transfer.{acted, Acted, isCall}
 use Rattle.dataflow.specs.contracts.Sent.{edgeRow, masksBelow, Prepared, SameVisited, Sent, Sends}
 use Rattle.dataflow.proofs.EdgeRows.{act-row, back-row, carried-brings}
 
@@ -76,6 +84,28 @@ module _ (f : Flow) (ws us : List ℕ) (n w d i : ℕ) (stmt : i ≡ node f d .s
             ∙ back-row f us (node f d .stmt) (f .arrays) (callTouchedAt n + i) m (masksAt ws n w d) x a (omega arith) (h a l) e
             (subst (λ (j : ℕ). MembersWord (getD us (callTouchedAt n + i) 0) (callTouches f j)) stmt touched)
         at m h x a l false e = out a l ∙ act-row f (node f d .stmt) (f .arrays) m (masksAt ws n w d) x a (h a l) e
+
+-- which of the two it is, by the class of the edges
+
+call-of : (k : EdgeClass) → isCall k ≡ true → (x : Call) × (k ≡ C.Call x)
+call-of (C.Listed m) e = absurd (true≢false (sym e))
+call-of (C.Return row) e = absurd (true≢false (sym e))
+call-of C.Nowhere e = absurd (true≢false (sym e))
+call-of (C.Call x) e = (x, refl)
+
+module _ {s : List ℕ} {es : Edges} (x : EdgesOf s es) where
+  -- no edge carries the touched step
+  pub not-call : isCall (es .class) ≡ false → Plain (flowOf s) (es .stmt .0)
+  not-call e = class-plain (flowOf s) (es .base) (es .stmt .0) (λ y q. true≢false (sym (ap isCall (x .class ∙ q)) ∙ e))
+
+  -- the arrays that the call touches are noted
+  pub call-touches : {ws : List ℕ} {n : ℕ} → isCall (es .class) ≡ true → Linked (flowOf s) ws n → es .stmt .0 < n
+      → MembersWord (getD ws (callTouchedAt n + es .stmt .0) 0) (callTouches (flowOf s) (es .stmt .0))
+  call-touches {ws} {n} e l below =
+      let y = call-of (es .class) e in
+      let says = class-says (flowOf s) (es .base) (es .stmt .0) (sym (y .1) ∙ x .class) in
+      l .calls .touched (es .stmt .0) below
+      (l .calls .call (es .stmt .0) (y .0 .continuation .0) below (says .1) ∙ ap (λ (b : Bool). cond b opaque transparent) (says .2))
 
 -- where only the rows for edges are written, the solver's state is as it was
 module _ (ws us : List ℕ) (n w : ℕ) (k : Keeps (setRow n) (maskRowAt n w 0) ws us) where

@@ -3,7 +3,7 @@
 use Prim.Native.Nat.{ℕ, _+_, _*_, _/_, _%_, _≤_, _<_, zero-le, max}
 use mathlib.Core.Bool.{Bool, true, false, cond, _&&_, _||_, or-false}
 use mathlib.Core.List.{List, [], _∷_}
-use mathlib.Core.Logic.{_≢_}
+use mathlib.Core.Logic.{_≢_, inl, inr}
 use mathlib.Core.Path.{_≡_, refl, sym, ap, ap₂, subst, _∙_}
 use native.Mathlib.Decide.{decLt, ℕ-discrete}
 use native.Mathlib.Numerals.{add-one}
@@ -23,6 +23,8 @@ use Rattle.theory.proofs.Lists.{any-append, says-one}
 use Rattle.statements.specs.contracts.Ready.{Keeps}
 use Rattle.statements.proofs.Keeps.{keeps-refl, keeps-trans, keeps-word, keeps-set, keeps-inserted}
 use Rattle.solve.specs.contracts.Rows.{maskAt, RowIs, stepWhere, member}
+use Rattle.solve.specs.contracts.Layout.{setRow, outRow, backRow, maskRowAt, areaEnd}
+use Rattle.solve.proofs.Room.{row-from, row-fits}
 use Rattle.solve.proofs.Masks.{mask-cong}
 use Rattle.dataflow.specs.contracts.Transfer.{SetIs, SetGains, RowsApart, RowSteps}
 
@@ -131,11 +133,37 @@ row-steps {ws} {us} {vs} {w} {set} {to} {from} {p} {e} r s x = record {
 }
 
 -- a row goes apart from the set also where words were written elsewhere
-pub apart-again : {ws vs : List ℕ} {w set to from : ℕ} → length vs ≡ length ws → RowsApart ws w set to from → RowsApart vs w set to from
-apart-again e r = record {
+pub apart-again : (ws vs : List ℕ) {w set to from : ℕ} → length vs ≡ length ws → RowsApart ws w set to from → RowsApart vs w set to from
+apart-again ws vs e r = record {
   below-to = r .below-to;
   below-from = r .below-from;
   to-fits = let h = r .to-fits in omega arith;
   from-fits = let h = r .from-fits in omega arith;
   apart = r .apart;
 }
+
+-- the same at places that were computed
+pub steps-at : {ws vs : List ℕ} {w set set′ to to′ from from′ : ℕ} {p : ℕ → Bool} {e : Effect} → set ≡ set′ → to ≡ to′ → from ≡ from′
+    → RowSteps ws vs w set to from p e → RowSteps ws vs w set′ to′ from′ p e
+steps-at {ws} {vs} {w} {set} {set′} {to} {to′} {from} {from′} {p} {e} a b c x =
+    subst (λ (y : ℕ). RowSteps ws vs w y to′ from′ p e) a (subst (λ (y : ℕ). RowSteps ws vs w set y from′ p e) b (subst (λ (y : ℕ). RowSteps ws vs w set to y p e) c x))
+
+-- the rows for the edges of the statement at hand stand between the set and the rows of the doubled numbers
+
+pub hand-apart : (ws : List ℕ) (n w d : ℕ) {set to from : ℕ} → areaEnd n w ≤ length ws → d < 2 * n → set ≡ setRow n → outRow n w ≤ to → to ≤ backRow n w → from ≡ maskRowAt n w d
+    → RowsApart ws w set to from
+hand-apart ws n w d {set} {to} {from} room below a b h c =
+    let low = row-from n w d in
+    let fits = row-fits n w below in
+    record { below-to = omega arith; below-from = omega arith; to-fits = omega arith; from-fits = omega arith; apart = inl (omega arith) }
+
+pub edges-apart : (ws : List ℕ) (n w : ℕ) {set to from : ℕ} → areaEnd n w ≤ length ws → set ≡ setRow n → to ≡ outRow n w → from ≡ backRow n w → RowsApart ws w set to from
+edges-apart ws n w room a b c =
+    let low = row-from n w (2 * n) in
+    record { below-to = omega arith; below-from = omega arith; to-fits = omega arith; from-fits = omega arith; apart = inl (omega arith) }
+
+pub entry-apart : (ws : List ℕ) (n w d : ℕ) {set to from : ℕ} → areaEnd n w ≤ length ws → d < 2 * n → set ≡ setRow n → to ≡ maskRowAt n w d → from ≡ outRow n w → RowsApart ws w set to from
+entry-apart ws n w d room below a b c =
+    let low = row-from n w d in
+    let fits = row-fits n w below in
+    record { below-to = omega arith; below-from = omega arith; to-fits = omega arith; from-fits = omega arith; apart = inr (omega arith) }

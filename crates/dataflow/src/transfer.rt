@@ -21,7 +21,7 @@ ghost use Rattle.calls.specs.contracts.Held.{Linked};
 ghost use Rattle.calls.specs.contracts.Class.{EdgesOf};
 ghost use Rattle.solve.specs.contracts.Layout.{outRow, backRow, areaEnd};
 ghost use Rattle.solve.specs.contracts.Rows.{RowIs, maskAt, stepWhere, member};
-ghost use Rattle.dataflow.specs.contracts.Transfer.{SetIs, SetGains, RowSteps, RowsApart, Acted};
+ghost use Rattle.dataflow.specs.contracts.Transfer.{isCall, SetIs, SetGains, RowSteps, RowsApart, Acted};
 ghost use Rattle.dataflow.specs.contracts.Sent.{Prepared};
 use calls::edges::EdgeClass;
 use calls::edges::Edges;
@@ -183,15 +183,20 @@ fn transfer_back(work: &mut [u64], n: usize, width: usize, i: StmtId)
     );
 }
 
+// The edges are those of a call that is not opaque, of which one carries the touched step.
+fn is_call(class: EdgeClass) -> bool
+    ensures { λ r. ⌜ r ≡ isCall class ⌝ }
+{
+    match class {
+        EdgeClass::Listed(_) => false,
+        EdgeClass::Return(_) => false,
+        EdgeClass::Nowhere => false,
+        EdgeClass::Call(_) => true,
+    }
+}
+
 // The rows that go along the edges of d.
-pub fn edge_rows(
-    file: &[u8],
-    h: flow::Header,
-    work: &mut [u64],
-    width: usize,
-    d: NodeId,
-    es: Edges,
-)
+pub fn edge_rows(file: &[u8], h: flow::Header, work: &mut [u64], width: usize, d: NodeId, es: Edges)
     requires { ⌜ (width ≡ setWords (h .arrays)) × Indexed (now file) h (now work) × Linked (flowOf (now file)) (now work) (h .statements) × (d .0 < 2 * h .statements) × EdgesOf (now file) es × (at (es .base) (es .stmt .0) ≡ doubled.node (flowOf (now file)) (d .0)) ⌝ }
     ensures { λ _. ⌜ Prepared (flowOf (now (file .entry))) (now (work .entry)) (now (work .exit)) (h .statements) width (d .0) ⌝ }
 {
@@ -199,7 +204,7 @@ pub fn edge_rows(
     let i = es.stmt;
     transfer(file, h, work, width, d, i, es.place);
     let class = es.class;
-    if let EdgeClass::Call(_) = class {
+    if is_call(class) {
         transfer_back(work, n, width, i);
     }
 }

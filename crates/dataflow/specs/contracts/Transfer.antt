@@ -1,7 +1,7 @@
 -- "At a statement, a reference turns NONE into AUTO and keeps other states; then DIM with flag 1 makes its array's mask DIMMED, CLR and RUN make all masks NONE":
 -- what the masks of a row become, array by array, and the sets of arrays by which a row steps. Assumes nothing.
 use Prim.Native.Nat.{ℕ, _+_, _*_, _<_, _≤_, max}
-use mathlib.Core.Bool.{Bool, cond}
+use mathlib.Core.Bool.{Bool, true, false, cond}
 use mathlib.Core.List.{List}
 use mathlib.Core.Logic.{_⊎_}
 use mathlib.Core.Path.{_≡_}
@@ -13,6 +13,8 @@ use Rattle.flow.specs.Flow.{Flow}
 use Rattle.theory.specs.Doubled.{statementEffects}
 use Rattle.theory.specs.Queue.{stepAll}
 use Rattle.statements.specs.contracts.Ready.{Keeps}
+use Rattle.calls.specs.declared.edges.EdgeClass.{EdgeClass}
+use Rattle.calls.specs.declared.edges.EdgeClass.the-variants as C
 use Rattle.solve.specs.contracts.Layout.{setRow, outRow, maskRowAt}
 use Rattle.solve.specs.contracts.Rows.{maskAt, stepWhere}
 use Rattle.solve.specs.contracts.Pushed.{masksAt}
@@ -49,3 +51,10 @@ acted count effects m a = cond (ltb a count) (stepAll (effects a) (m a)) (m a)
 pub record Acted (f : Flow) (ws vs : List ℕ) (n w d i : ℕ) : Type 0 where
   pub keeps : Keeps (setRow n) (maskRowAt n w 0) ws vs
   pub masks : (a : ℕ) → a < 64 * w → maskAt vs w (outRow n w) a ≡ acted (f .arrays) (statementEffects f i) (masksAt ws n w d) a
+
+-- the edges are those of a call that is not opaque
+abbrev pub isCall : EdgeClass → Bool
+isCall (C.Listed m) = false
+isCall (C.Return row) = false
+isCall C.Nowhere = false
+isCall (C.Call x) = true
