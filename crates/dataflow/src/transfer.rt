@@ -37,6 +37,11 @@ fn note_references(file: &[u8], work: &mut [u64], i: StmtId, p: usize, set: usiz
     requires { ⌜ RecordOf (now file) (i .0) p × (width ≤ maxWidth) × (set + width ≤ length (now work)) ⌝ }
     ensures { λ _. ⌜ SetIs (now (work .entry)) (now (work .exit)) set width (λ a. lists.elem a (references (flowOf (now (file .entry))) (i .0))) ⌝ }
 {
+    // Up to 64 arrays take one word, and no loop.
+    if width == 1 {
+        work[set] = records::references_word(file, p, 0);
+        return;
+    }
     let mut k = 0;
     while k < width {
         work[set + k] = records::references_word(file, p, k);

@@ -46,6 +46,12 @@ pub fn step_members(
     requires { ⌜ (width ≤ maxWidth) × (set + width ≤ to) × (to + 3 * width ≤ length (now work)) × (from + 3 * width ≤ length (now work)) × ((to + 3 * width ≤ from) ⊎ (from + 3 * width ≤ to)) ⌝ }
     ensures { λ _. ⌜ RowIs (now (work .entry)) (now (work .exit)) width to (stepWhere (member (now (work .entry)) set) effect (maskAt (now (work .entry)) width from)) ⌝ }
 {
+    // Up to 64 arrays take one word, and no loop.
+    if width == 1 {
+        let chosen = work[set];
+        step_word(work, 1, to, from, 0, chosen, effect);
+        return;
+    }
     let mut k = 0;
     while k < width {
         let chosen = work[set + k];

@@ -41,11 +41,28 @@ pub fn remove(ws: &mut [u64], base: usize, i: usize)
     ws[at] = difference(ws[at], 1u64 << (i % 64));
 }
 
+// Three words without a loop: as many as the masks of up to 64 arrays take.
+fn union_three(ws: &mut [u64], to: usize, from: usize) -> bool
+    requires { ⌜ (to + 3 ≤ length (now ws)) × (from + 3 ≤ length (now ws)) ⌝ }
+    ensures { λ r. ⌜ Unioned (now (ws .entry)) (now (ws .exit)) to from 3 r ⌝ }
+{
+    let low = ws[from];
+    let first = union_word(ws, to, low);
+    let middle = ws[from + 1];
+    let second = union_word(ws, to + 1, middle);
+    let high = ws[from + 2];
+    let third = union_word(ws, to + 2, high);
+    first | second | third
+}
+
 // Joins the row at `from` to the row at `to`, lowest word first, and says whether that row grew.
 pub fn union(ws: &mut [u64], to: usize, from: usize, width: usize) -> bool
     requires { ⌜ (to + width ≤ length (now ws)) × (from + width ≤ length (now ws)) ⌝ }
     ensures { λ r. ⌜ Unioned (now (ws .entry)) (now (ws .exit)) to from width r ⌝ }
 {
+    if width == 3 {
+        return union_three(ws, to, from);
+    }
     let mut grew = false;
     let mut k = 0;
     while k < width {

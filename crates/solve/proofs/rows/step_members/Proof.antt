@@ -1,8 +1,14 @@
--- `solve::rows::step_members` meets its contract. The invariant: the first k words of the row have stepped.
+-- `solve::rows::step_members` meets its contract. The invariant: the first k words of the row have stepped; one word is a step from none to all of them.
 -- The measure is what is left of the width.
-use Prim.Native.Nat.{ℕ, _-_}
-use mathlib.Core.Path.{_≡_}
+use Prim.Native.Nat.{ℕ, _-_, _+_, _*_, _≤_}
+use mathlib.Core.List.{List}
+use mathlib.Core.Logic.{_⊎_}
+use mathlib.Core.Path.{_≡_, refl, sym, subst}
+use native.Mathlib.Nat.{add-zero}
 use native.Mathlib.Omega.{arith}
+use denote.Ref.{now}
+use lib.ListN.{getD}
+use Rattle.solve.specs.contracts.Rows.{RowIs, WordStepped, maskAt, stepWhere, member}
 use Rattle.solve.proofs.Stepping.{Stepping, stepping-none, stepping-more, stepping-all}
 use borrow.Author.Needs.{needs}
 use Rattle.solve.proofs.rows.step_members.Statement.{statement}
@@ -14,20 +20,43 @@ Inv-loop work₀ width to from set effect k₀ work k = Stepping work₀ width t
 abbrev μ-loop : tie.MeasureT-loop
 μ-loop work₀ width to from set effect k₀ work k = width - k
 
+mul-chosen : tie.Need-mul-chosen Inv-loop μ-loop
+mul-chosen c = search needs
+
+slice-read-chosen : tie.Need-slice-read-chosen Inv-loop μ-loop
+slice-read-chosen c = search needs
+
+step-word-requires : tie.Need-step-word-requires Inv-loop μ-loop
+step-word-requires c κs = search needs
+
+same-length : tie.Need-same-length Inv-loop μ-loop
+same-length c = search needs
+
+returns : tie.Need-returns Inv-loop μ-loop
+returns c =
+    let s = c .before .before .before .before .before .before .before in
+    let a = s .args in
+    let ws : List ℕ = now (a .work) in
+    let one : a .width ≡ 1 = c .before .before .before .before .before .if1 .taken in
+    let word = subst (λ (x : ℕ). WordStepped ws (c .before .before .step-word .last .0) 1 (a .to) (a .from) 0 (getD ws x 0) (a .effect)) (sym (add-zero (a .set))) (c .before .before .step-word .ensures) in
+    let apart = subst (λ (w : ℕ). (a .to + 3 * w ≤ a .from) ⊎ (a .from + 3 * w ≤ a .to)) one (s .pre .4) in
+    subst (λ (w : ℕ). RowIs ws (c .before .before .step-word .last .0) w (a .to) (stepWhere (member ws (a .set)) (a .effect) (maskAt ws w (a .from)))) (sym one)
+    (stepping-all (stepping-more stepping-none (omega arith) (omega (arith, s .pre .1)) (omega (arith, s .pre .2)) apart word) refl)
+
 loop-holds : tie.Need-loop-holds Inv-loop μ-loop
 loop-holds c = stepping-none
 
 add-chosen : tie.Need-add-chosen Inv-loop μ-loop
 add-chosen c = let size = c .before .loop .inv .keeps .size in search needs
 
-mul-chosen : tie.Need-mul-chosen Inv-loop μ-loop
-mul-chosen c = let size = c .before .loop .inv .keeps .size in search needs
+mul-chosen-2 : tie.Need-mul-chosen-2 Inv-loop μ-loop
+mul-chosen-2 c = let size = c .before .loop .inv .keeps .size in search needs
 
-slice-read-chosen : tie.Need-slice-read-chosen Inv-loop μ-loop
-slice-read-chosen c = let size = c .before .before .loop .inv .keeps .size in search needs
+slice-read-chosen-2 : tie.Need-slice-read-chosen-2 Inv-loop μ-loop
+slice-read-chosen-2 c = let size = c .before .before .loop .inv .keeps .size in search needs
 
-step-word-requires : tie.Need-step-word-requires Inv-loop μ-loop
-step-word-requires c κs = let size = c .before .before .before .loop .inv .keeps .size in search needs
+step-word-requires-2 : tie.Need-step-word-requires-2 Inv-loop μ-loop
+step-word-requires-2 c κs = let size = c .before .before .before .loop .inv .keeps .size in search needs
 
 add-k : tie.Need-add-k Inv-loop μ-loop
 add-k c = search needs
@@ -36,14 +65,14 @@ loop-less : tie.Need-loop-less Inv-loop μ-loop
 loop-less c = search needs
 
 loop-again : tie.Need-loop-again Inv-loop μ-loop
-loop-again c = stepping-more (c .before .before .before .before .before .before .loop .inv) (search needs) (search needs) (search needs) (c .before .before .before .before .before .before .before .before .pre .4) (c .before .before .step-word .ensures)
+loop-again c = stepping-more (c .before .before .before .before .before .before .loop .inv) (search needs) (search needs) (search needs) (c .before .before .before .before .before .before .before .before .before .pre .4) (c .before .before .step-word2 .ensures)
 
-same-length : tie.Need-same-length Inv-loop μ-loop
-same-length c = c .before .loop .inv .keeps .size
+same-length-2 : tie.Need-same-length-2 Inv-loop μ-loop
+same-length-2 c = c .before .loop .inv .keeps .size
 
-returns : tie.Need-returns Inv-loop μ-loop
-returns c =
-    let whole : c .before .loop .k ≡ c .before .before .before .args .width = omega (arith, c .before .loop .inv .some) in
+returns-2 : tie.Need-returns-2 Inv-loop μ-loop
+returns-2 c =
+    let whole : c .before .loop .k ≡ c .before .before .before .before .args .width = omega (arith, c .before .loop .inv .some) in
     stepping-all (c .before .loop .inv) whole
 
 pub step-members-spec : {M : Type 1} → statement M
@@ -52,13 +81,18 @@ step-members-spec =
     (tie.spec
     Inv-loop
     μ-loop
-    loop-holds
-    add-chosen
     mul-chosen
     slice-read-chosen
     step-word-requires
+    same-length
+    returns
+    loop-holds
+    add-chosen
+    mul-chosen-2
+    slice-read-chosen-2
+    step-word-requires-2
     add-k
     loop-less
     loop-again
-    same-length
-    returns)
+    same-length-2
+    returns-2)
