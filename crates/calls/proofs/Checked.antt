@@ -96,3 +96,7 @@ enters-nothing (some t) e = let z : _≡_ {A = ℕ} 0 1 = cc in absurd (omega ar
 
 pub successor-below : {s : List ℕ} → FitFile s → (i k : ℕ) → k < length (successors (flowOf s) i) → getD (successors (flowOf s) i) k 0 < size (flowOf s)
 successor-below {s} h i k l = well-formed h .successor i (getD (successors (flowOf s) i) k 0) (getD-In (successors (flowOf s) i) k 0 l)
+
+-- where the number of statements was read again
+pub ready-again : {s ws : List ℕ} {n : ℕ} → n ≡ statementsOf s → Ready s ws (statementsOf s) → Ready s ws n
+ready-again e r = rw e r
