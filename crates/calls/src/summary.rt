@@ -1,7 +1,7 @@
 // Summaries: of a body, by its walk and its calls; of a call, by the bodies that it enters. A subroutine's summary needs its
 // calls, and a call's summary needs its subroutines, so the two functions call each other; the number of unentered entries falls.
-// What the two keep across a call of each other stands on the machine's stack once for each level of a nest of subroutines. So they keep little, and
-// all else is done in functions that read again what they need.
+// What the two keep across a call of each other stands on the machine's stack once a level of a nest of subroutines. So they keep little, and
+// all else is done in functions of their own, which read again what they need: what is made from a number that is kept is kept with it.
 ghost use Prim.Native.Nat.{ℕ, _<_, _≤_};
 ghost use mathlib.Core.Path.{_≡_};
 ghost use lib.ListN.{length, getD};
@@ -17,7 +17,7 @@ ghost use Rattle.theory.specs.Lists.{In};
 ghost use Rattle.theory.specs.Body.{kind, callLines, callees};
 ghost use Rattle.calls.specs.contracts.Held.{NoSummaries, Summarized};
 ghost use Rattle.calls.specs.contracts.Summing as state;
-ghost use Rattle.calls.specs.contracts.Summing.{Summing, Leads, LinesAt, WalkPassed, BodyJoined, Entered, Awaits, BodySummed, CallSummed};
+ghost use Rattle.calls.specs.contracts.Summing.{Summing, Leads, Located, WalkPassed, BodyJoined, Entered, Awaits, BodySummed, CallSummed};
 use crate::OPAQUE;
 use crate::OPEN;
 use crate::TRANSPARENT;
@@ -31,7 +31,7 @@ use statements::fields;
 use statements::layout;
 
 // How many statements there are, as the header has it.
-fn statements(file: &[u8]) -> usize
+fn statement_count(file: &[u8]) -> usize
     requires { ⌜ FitFile (now file) ⌝ }
     ensures { λ r. ⌜ (r ≡ statementsOf (now (file .entry))) × (r ≤ maxStatements) ⌝ }
 {
@@ -45,11 +45,11 @@ fn summary_state(opaque: bool) -> u64
 }
 
 // Joins the references of statement i, and what it touches as a call, to what body e touches, and says whether it makes the body opaque.
-fn pass(file: &[u8], work: &mut [u64], e: StmtId, i: StmtId) -> bool
+fn pass_by(file: &[u8], work: &mut [u64], e: StmtId, i: StmtId) -> bool
     requires { ⌜ Ready (now file) (now work) (statementsOf (now file)) × (e .0 < statementsOf (now file)) × (i .0 < statementsOf (now file)) ⌝ }
     ensures { λ r. ⌜ WalkPassed (flowOf (now (file .entry))) (now (work .entry)) (now (work .exit)) (statementsOf (now (file .entry))) (e .0) (i .0) r ⌝ }
 {
-    let n = statements(file);
+    let n = statement_count(file);
     let refs = fields::references_word(file, work, n, i);
     let inner = work[layout::call_touched(n) + i.0];
     let opaque_call = work[layout::calls(n) + i.0] == OPAQUE;
@@ -64,13 +64,13 @@ fn enter(file: &[u8], work: &mut [u64], e: StmtId) -> bool
     requires { ⌜ Ready (now file) (now work) (statementsOf (now file)) × (e .0 < statementsOf (now file)) × Summing (flowOf (now file)) (now work) (statementsOf (now file)) ⌝ }
     ensures { λ r. ⌜ Entered (flowOf (now (file .entry))) (now (work .entry)) (now (work .exit)) (statementsOf (now (file .entry))) (e .0) r ⌝ }
 {
-    let n = statements(file);
+    let n = statement_count(file);
     let at = layout::bodies(n) + e.0;
     if work[at] != UNENTERED {
         return false;
     }
     if fields::is_return(file, work, n, e) {
-        pass(file, work, e, e);
+        pass_by(file, work, e, e);
         work[at] = TRANSPARENT;
         return false;
     }
@@ -84,13 +84,13 @@ fn next_walked(file: &[u8], work: &[u64], e: StmtId, from: usize) -> usize
     requires { ⌜ Ready (now file) (now work) (statementsOf (now file)) × (e .0 < statementsOf (now file)) ⌝ }
     ensures { λ r. ⌜ r ≡ nextMember (now (work .entry)) (rowAt (statementsOf (now (file .entry))) (e .0)) from (statementsOf (now (file .entry))) ⌝ }
 {
-    let n = statements(file);
+    let n = statement_count(file);
     words::next(work, layout::row(n, e), from, n)
 }
 
 // The body that starts at e gets its summary, once. The file's lines stand at `lines_at`, and there are `lines` of them.
 fn sub_effect(file: &[u8], work: &mut [u64], lines_at: usize, lines: usize, e: StmtId)
-    requires { ⌜ Ready (now file) (now work) (statementsOf (now file)) × LinesAt (now file) «lines_at» lines × (e .0 < statementsOf (now file)) × Summing (flowOf (now file)) (now work) (statementsOf (now file)) × Leads (flowOf (now file)) (now work) (statementsOf (now file)) (e .0) ⌝ }
+    requires { ⌜ Located (now file) (now work) «lines_at» lines × (e .0 < statementsOf (now file)) × Summing (flowOf (now file)) (now work) (statementsOf (now file)) × Leads (flowOf (now file)) (now work) (statementsOf (now file)) (e .0) ⌝ }
     ensures { λ _. ⌜ BodySummed (flowOf (now (file .entry))) (now (work .entry)) (now (work .exit)) (statementsOf (now (file .entry))) (e .0) ⌝ }
 {
     if !enter(file, work, e) {
@@ -98,13 +98,13 @@ fn sub_effect(file: &[u8], work: &mut [u64], lines_at: usize, lines: usize, e: S
     }
     let mut opaque = false;
     let mut i = next_walked(file, work, e, 0);
-    while i < statements(file) {
+    while i < statement_count(file) {
         call_summary(file, work, lines_at, lines, StmtId(i));
-        let hides = pass(file, work, e, StmtId(i));
+        let hides = pass_by(file, work, e, StmtId(i));
         opaque = opaque | hides;
         i = next_walked(file, work, e, i + 1);
     }
-    work[layout::bodies(statements(file)) + e.0] = summary_state(opaque);
+    work[layout::bodies(statement_count(file)) + e.0] = summary_state(opaque);
 }
 
 // Whether statement c is a call with a continuation that has no summary yet.
@@ -112,7 +112,7 @@ fn awaits(file: &[u8], work: &[u64], c: StmtId) -> bool
     requires { ⌜ Ready (now file) (now work) (statementsOf (now file)) × (c .0 < statementsOf (now file)) ⌝ }
     ensures { λ r. ⌜ Awaits (flowOf (now (file .entry))) (now (work .entry)) (statementsOf (now (file .entry))) (c .0) r ⌝ }
 {
-    let n = statements(file);
+    let n = statement_count(file);
     if work[layout::calls(n) + c.0] != UNENTERED {
         return false;
     }
@@ -131,10 +131,10 @@ fn entered(
     c: StmtId,
     k: usize,
 ) -> LineEntry
-    requires { ⌜ Ready (now file) (now work) (statementsOf (now file)) × LinesAt (now file) «lines_at» lines × (c .0 < statementsOf (now file)) × (k < length (callLines (kind (flowOf (now file)) (c .0)))) ⌝ }
+    requires { ⌜ Located (now file) (now work) «lines_at» lines × (c .0 < statementsOf (now file)) × (k < length (callLines (kind (flowOf (now file)) (c .0)))) ⌝ }
     ensures { λ r. ⌜ r ≡ lineEntryOf (enters (flowOf (now (file .entry))) (getD (callLines (kind (flowOf (now (file .entry))) (c .0))) k 0)) ⌝ }
 {
-    let place = fields::offset(file, work, statements(file), c);
+    let place = fields::offset(file, work, statement_count(file), c);
     records::lines::line_entry(file, lines_at, lines, records::call_line(file, place, k))
 }
 
@@ -144,7 +144,7 @@ fn join_body(file: &[u8], work: &mut [u64], c: StmtId, b: StmtId) -> bool
     requires { ⌜ Ready (now file) (now work) (statementsOf (now file)) × (c .0 < statementsOf (now file)) × (b .0 < statementsOf (now file)) ⌝ }
     ensures { λ r. ⌜ BodyJoined (now (work .entry)) (now (work .exit)) (statementsOf (now (file .entry))) (c .0) (b .0) r ⌝ }
 {
-    let n = statements(file);
+    let n = statement_count(file);
     let opaque_body = work[layout::bodies(n) + b.0] != TRANSPARENT;
     let inner = work[layout::touched(n) + b.0];
     words::union_word(work, layout::call_touched(n) + c.0, inner);
@@ -154,13 +154,13 @@ fn join_body(file: &[u8], work: &mut [u64], c: StmtId, b: StmtId) -> bool
 // Statement c, if it is a call with a continuation, gets its summary, once: whether a body that it enters is opaque, and the
 // arrays that they touch.
 fn call_summary(file: &[u8], work: &mut [u64], lines_at: usize, lines: usize, c: StmtId)
-    requires { ⌜ Ready (now file) (now work) (statementsOf (now file)) × LinesAt (now file) «lines_at» lines × (c .0 < statementsOf (now file)) × Summing (flowOf (now file)) (now work) (statementsOf (now file)) × ((b : ℕ) → In b (callees (flowOf (now file)) (c .0)) → Leads (flowOf (now file)) (now work) (statementsOf (now file)) b) ⌝ }
+    requires { ⌜ Located (now file) (now work) «lines_at» lines × (c .0 < statementsOf (now file)) × Summing (flowOf (now file)) (now work) (statementsOf (now file)) × ((b : ℕ) → In b (callees (flowOf (now file)) (c .0)) → Leads (flowOf (now file)) (now work) (statementsOf (now file)) b) ⌝ }
     ensures { λ _. ⌜ CallSummed (flowOf (now (file .entry))) (now (work .entry)) (now (work .exit)) (statementsOf (now (file .entry))) (c .0) ⌝ }
 {
     if !awaits(file, work, c) {
         return;
     }
-    let count = fields::line_count(file, work, statements(file), c);
+    let count = fields::line_count(file, work, statement_count(file), c);
     let mut opaque = false;
     let mut k = 0;
     while k < count {
@@ -171,7 +171,7 @@ fn call_summary(file: &[u8], work: &mut [u64], lines_at: usize, lines: usize, c:
         }
         k += 1;
     }
-    work[layout::calls(statements(file)) + c.0] = summary_state(opaque);
+    work[layout::calls(statement_count(file)) + c.0] = summary_state(opaque);
 }
 
 // The summary of every call with a continuation.

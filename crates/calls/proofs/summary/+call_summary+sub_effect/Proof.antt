@@ -36,8 +36,8 @@ use Rattle.calls.proofs.summary.enter.Reads as enter-reads
 use Rattle.calls.proofs.summary.entered.Reads as entered-reads
 use Rattle.calls.proofs.summary.join_body.Reads as join-body-reads
 use Rattle.calls.proofs.summary.next_walked.Reads as next-walked-reads
-use Rattle.calls.proofs.summary.pass.Reads as pass-reads
-use Rattle.calls.proofs.summary.statements.Reads as statements-reads
+use Rattle.calls.proofs.summary.pass_by.Reads as pass-by-reads
+use Rattle.calls.proofs.summary.statement_count.Reads as statement-count-reads
 use Rattle.calls.proofs.summary.summary_state.Reads as summary-state-reads
 use Rattle.statements.proofs.fields.line_count.Reads as line-count-reads
 use Rattle.statements.proofs.layout.bodies.Reads as bodies-reads
@@ -69,8 +69,8 @@ abbrev call-claims : ℕ → call-summary-lts.Claims
 call-claims t = (
   awaits-reads.Asked,
   awaits-reads.Learnt,
-  statements-reads.Asked,
-  statements-reads.Learnt,
+  statement-count-reads.Asked,
+  statement-count-reads.Learnt,
   line-count-reads.Asked,
   line-count-reads.Learnt,
   entered-reads.Asked,
@@ -91,12 +91,12 @@ sub-claims t = (
   enter-reads.Learnt,
   next-walked-reads.Asked,
   next-walked-reads.Learnt,
-  statements-reads.Asked,
-  statements-reads.Learnt,
+  statement-count-reads.Asked,
+  statement-count-reads.Learnt,
   call-summary-below t,
   call-summary.Post,
-  pass-reads.Asked,
-  pass-reads.Learnt,
+  pass-by-reads.Asked,
+  pass-by-reads.Learnt,
   summary-state-reads.Asked,
   summary-state-reads.Learnt,
   bodies-reads.Asked,
@@ -118,7 +118,7 @@ sub-effect-μ-loop file work₀ lines-at lines e opaque₀ i₀ work opaque i = 
 -- call_summary
 
 call-summary-awaits-requires : (t : ℕ) → call-summary-lts.Need-awaits-requires (call-claims t) (call-summary-at t) call-summary.Post call-summary-Inv-loop call-summary-μ-loop
-call-summary-awaits-requires t c κs = let p = c .before .before .before .pre .1 in (p .0, p .2)
+call-summary-awaits-requires t c κs = let p = c .before .before .before .pre .1 in (p .0 .ready, p .1)
 
 call-summary-same-length : (t : ℕ) → call-summary-lts.Need-same-length (call-claims t) (call-summary-at t) call-summary.Post call-summary-Inv-loop call-summary-μ-loop
 call-summary-same-length t c = search needs
@@ -127,21 +127,21 @@ call-summary-returns : (t : ℕ) → call-summary-lts.Need-returns (call-claims 
 call-summary-returns t c =
     let s = c .before .before .before .before .before in
     record {
-      summing = s .pre .1 .3;
+      summing = s .pre .1 .2;
       onward = onward-refl _ _ _;
       done = subst (Awaits (flowOf (s .args .file .now)) (s .args .work .now) (statementsOf (s .args .file .now)) (s .args .c .0)) (not-true (c .before .awaits .result) (c .if1 .taken)) (c .before .awaits .ensures);
     }
 
-call-summary-statements-requires : (t : ℕ) → call-summary-lts.Need-statements-requires (call-claims t) (call-summary-at t) call-summary.Post call-summary-Inv-loop call-summary-μ-loop
-call-summary-statements-requires t c κs = c .before .before .before .before .before .before .pre .1 .0 .fit
+call-summary-statement-count-requires : (t : ℕ) → call-summary-lts.Need-statement-count-requires (call-claims t) (call-summary-at t) call-summary.Post call-summary-Inv-loop call-summary-μ-loop
+call-summary-statement-count-requires t c κs = c .before .before .before .before .before .before .pre .1 .0 .ready .fit
 
 call-summary-line-count-requires : (t : ℕ) → call-summary-lts.Need-line-count-requires (call-claims t) (call-summary-at t) call-summary.Post call-summary-Inv-loop call-summary-μ-loop
 call-summary-line-count-requires t c κs =
     let p = c .before .before .before .before .before .before .before .pre .1 in
-    (ready-again (c .statements .ensures .0) (p .0), rw (c .statements .ensures .0) (p .2))
+    (ready-again (c .statement-count .ensures .0) (p .0 .ready), rw (c .statement-count .ensures .0) (p .1))
 
 call-summary-loop-holds : (t : ℕ) → call-summary-lts.Need-loop-holds (call-claims t) (call-summary-at t) call-summary.Post call-summary-Inv-loop call-summary-μ-loop
-call-summary-loop-holds t c = call-first (c .before .before .before .before .before .before .before .before .pre .1 .3)
+call-summary-loop-holds t c = call-first (c .before .before .before .before .before .before .before .before .pre .1 .2)
 
 -- the call has a continuation
 module _ (t : ℕ) (c : call-summary-lts.After-line-count (call-claims t) (call-summary-at t) call-summary.Post call-summary-Inv-loop call-summary-μ-loop) where
@@ -166,7 +166,7 @@ module _ (t : ℕ) (c : call-summary-lts.In-loop (call-claims t) (call-summary-a
   call-inside = omega (arith, c .loop-test .taken, call-begun .line-count .ensures)
 
   call-ready : Ready (call-start t call-begun .args .file .now) (c .before .loop .work) (call-n t call-begun)
-  call-ready = ready-keeps (call-start t call-begun .pre .1 .0) (c .before .loop .inv .onward .keeps) (omega arith)
+  call-ready = ready-keeps (call-start t call-begun .pre .1 .0 .ready) (c .before .loop .inv .onward .keeps) (omega arith)
 
 -- a line enters b
 module _ (t : ℕ) (c : call-summary-lts.After-b (call-claims t) (call-summary-at t) call-summary.Post call-summary-Inv-loop call-summary-μ-loop) where
@@ -183,15 +183,15 @@ module _ (t : ℕ) (c : call-summary-lts.After-b (call-claims t) (call-summary-a
   is-callee = line-callee (flowOf (from .args .file .now)) (from .args .c .0) (continued t (call-begun t call-turn) .1) (call-inside t call-turn) entered-is
 
   call-leads : Leads (flowOf (from .args .file .now)) (call-turn .before .loop .work) (call-n t (call-begun t call-turn)) (c .b .given .0 .0 .0)
-  call-leads = leads-onward (call-turn .before .loop .inv .onward) (from .pre .1 .4 (c .b .given .0 .0 .0) is-callee)
+  call-leads = leads-onward (call-turn .before .loop .inv .onward) (from .pre .1 .3 (c .b .given .0 .0 .0) is-callee)
 
   callee-below : c .b .given .0 .0 .0 < call-n t (call-begun t call-turn)
-  callee-below = let r = from .pre .1 .0 in callee-low (ready-formed r) (ready-size r) (from .args .c .0) (c .b .given .0 .0 .0) is-callee
+  callee-below = let r = from .pre .1 .0 .ready in callee-low (ready-formed r) (ready-size r) (from .args .c .0) (c .b .given .0 .0 .0) is-callee
 
 call-summary-entered-requires : (t : ℕ) → call-summary-lts.Need-entered-requires (call-claims t) (call-summary-at t) call-summary.Post call-summary-Inv-loop call-summary-μ-loop
 call-summary-entered-requires t c κs =
     let p = call-start t (call-begun t (c .before)) .pre .1 in
-    (call-ready t (c .before), p .1, p .2, call-inside t (c .before))
+    (record { ready = call-ready t (c .before); lines = p .0 .lines }, p .1, call-inside t (c .before))
 
 call-summary-enum-known-b : (t : ℕ) → call-summary-lts.Need-enum-known-b (call-claims t) (call-summary-at t) call-summary.Post call-summary-Inv-loop call-summary-μ-loop
 call-summary-enum-known-b t c = search needs
@@ -202,12 +202,12 @@ call-summary-sub-effect-requires t c κs =
     let turn = call-turn t d in
     let s = from t d in
     let less : 2 * unenteredCount (turn .before .loop .work) (call-n t (call-begun t turn)) < t = omega (arith, s .pre .0, unentered-le (turn .before .loop .inv .onward)) in
-    (less, (call-ready t turn, s .pre .1 .1, callee-below t d, turn .before .loop .inv .summing, call-leads t d))
+    (less, (record { ready = call-ready t turn; lines = s .pre .1 .0 .lines }, callee-below t d, turn .before .loop .inv .summing, call-leads t d))
 
 call-summary-join-body-requires : (t : ℕ) → call-summary-lts.Need-join-body-requires (call-claims t) (call-summary-at t) call-summary.Post call-summary-Inv-loop call-summary-μ-loop
 call-summary-join-body-requires t c κs =
     let d = c .before .before .before .before .before .before in
-    (ready-keeps (call-ready t (call-turn t d)) (c .before .before .before .sub-effect .ensures .onward .keeps) (omega arith), from t d .pre .1 .2, callee-below t d)
+    (ready-keeps (call-ready t (call-turn t d)) (c .before .before .before .sub-effect .ensures .onward .keeps) (omega arith), from t d .pre .1 .1, callee-below t d)
 
 call-summary-enum-told : (t : ℕ) → call-summary-lts.Need-enum-told (call-claims t) (call-summary-at t) call-summary.Post call-summary-Inv-loop call-summary-μ-loop
 call-summary-enum-told t c = search needs
@@ -222,13 +222,13 @@ call-summary-loop-again : (t : ℕ) → call-summary-lts.Need-loop-again (call-c
 call-summary-loop-again t c =
     let turn = c .before .before .before in
     let s = call-start t (call-begun t turn) in
-    let r = s .pre .1 .0 in
+    let r = s .pre .1 .0 .ready in
     let After : List ℕ → Bool → Type 0 = λ ws found-opaque. CallLoop (flowOf (s .args .file .now)) (s .args .work .now) ws (call-n t (call-begun t turn)) (s .args .c .0) found-opaque (turn .before .loop .k + 1) in
     ⊎-elim
     (λ w.
     let d : call-summary-lts.After-b (call-claims t) (call-summary-at t) call-summary.Post call-summary-Inv-loop call-summary-μ-loop = record { before = record { before = c .before; match = w .0 }; b = w .1 } in
     subst₂ After (sym (w .11)) (sym (w .12))
-    (call-line (flowOf (s .args .file .now)) (s .args .c .0) (continued t (call-begun t turn) .1) (ready-formed r) (ready-size r) (s .pre .1 .2) (omega (arith, call-ready t turn .room)) (turn .before .loop .inv)
+    (call-line (flowOf (s .args .file .now)) (s .args .c .0) (continued t (call-begun t turn) .1) (ready-formed r) (ready-size r) (s .pre .1 .1) (omega (arith, call-ready t turn .room)) (turn .before .loop .inv)
     (call-inside t turn) (entered-is t d) (call-leads t d) (w .4 .ensures) (w .8 .ensures)))
     (λ w.
     subst₂ After (sym (w .2)) (sym (w .3))
@@ -238,8 +238,8 @@ call-summary-loop-again t c =
 call-summary-summary-state-requires : (t : ℕ) → call-summary-lts.Need-summary-state-requires (call-claims t) (call-summary-at t) call-summary.Post call-summary-Inv-loop call-summary-μ-loop
 call-summary-summary-state-requires t c κs = search needs
 
-call-summary-statements-requires-2 : (t : ℕ) → call-summary-lts.Need-statements-requires-2 (call-claims t) (call-summary-at t) call-summary.Post call-summary-Inv-loop call-summary-μ-loop
-call-summary-statements-requires-2 t c κs = c .before .before .before .before .before .before .before .before .before .before .before .pre .1 .0 .fit
+call-summary-statement-count-requires-2 : (t : ℕ) → call-summary-lts.Need-statement-count-requires-2 (call-claims t) (call-summary-at t) call-summary.Post call-summary-Inv-loop call-summary-μ-loop
+call-summary-statement-count-requires-2 t c κs = c .before .before .before .before .before .before .before .before .before .before .before .pre .1 .0 .ready .fit
 
 call-summary-calls-requires : (t : ℕ) → call-summary-lts.Need-calls-requires (call-claims t) (call-summary-at t) call-summary.Post call-summary-Inv-loop call-summary-μ-loop
 call-summary-calls-requires t c κs = search needs
@@ -250,19 +250,19 @@ module _ (t : ℕ) (c : call-summary-lts.After-calls (call-claims t) (call-summa
   call-passed = c .before .before .before .before
 
   call-place : c .calls .result ≡ callsAt (call-n t (call-passed .before))
-  call-place = c .calls .ensures ∙ c .before .statements2 .ensures .0
+  call-place = c .calls .ensures ∙ c .before .statement-count2 .ensures .0
 
   call-room : matrixAt (call-n t (call-passed .before)) ≤ length (call-passed .loop .work)
-  call-room = omega (arith, call-start t (call-passed .before) .pre .1 .0 .room, call-passed .loop .inv .onward .keeps .size)
+  call-room = omega (arith, call-start t (call-passed .before) .pre .1 .0 .ready .room, call-passed .loop .inv .onward .keeps .size)
 
 call-summary-add-work : (t : ℕ) → call-summary-lts.Need-add-work (call-claims t) (call-summary-at t) call-summary.Post call-summary-Inv-loop call-summary-μ-loop
-call-summary-add-work t c = omega (arith, call-place t (c .before), call-room t (c .before), call-start t (call-passed t (c .before) .before) .pre .1 .2, ready-most (call-start t (call-passed t (c .before) .before) .pre .1 .0))
+call-summary-add-work t c = omega (arith, call-place t (c .before), call-room t (c .before), call-start t (call-passed t (c .before) .before) .pre .1 .1, ready-most (call-start t (call-passed t (c .before) .before) .pre .1 .0 .ready))
 
 call-summary-mul-work : (t : ℕ) → call-summary-lts.Need-mul-work (call-claims t) (call-summary-at t) call-summary.Post call-summary-Inv-loop call-summary-μ-loop
-call-summary-mul-work t c = omega (arith, call-place t (c .before), call-room t (c .before), call-start t (call-passed t (c .before) .before) .pre .1 .2, ready-most (call-start t (call-passed t (c .before) .before) .pre .1 .0))
+call-summary-mul-work t c = omega (arith, call-place t (c .before), call-room t (c .before), call-start t (call-passed t (c .before) .before) .pre .1 .1, ready-most (call-start t (call-passed t (c .before) .before) .pre .1 .0 .ready))
 
 call-summary-slice-write-work : (t : ℕ) → call-summary-lts.Need-slice-write-work (call-claims t) (call-summary-at t) call-summary.Post call-summary-Inv-loop call-summary-μ-loop
-call-summary-slice-write-work t c = omega (arith, call-place t (c .before), call-room t (c .before), call-start t (call-passed t (c .before) .before) .pre .1 .2)
+call-summary-slice-write-work t c = omega (arith, call-place t (c .before), call-room t (c .before), call-start t (call-passed t (c .before) .before) .pre .1 .1)
 
 call-summary-same-length-2 : (t : ℕ) → call-summary-lts.Need-same-length-2 (call-claims t) (call-summary-at t) call-summary.Post call-summary-Inv-loop call-summary-μ-loop
 call-summary-same-length-2 t c = length-set (call-passed t (c .before) .loop .work) _ _ ∙ call-passed t (c .before) .loop .inv .onward .keeps .size
@@ -272,16 +272,16 @@ call-summary-returns-2 t c =
     let d = c .before in
     let begun = call-passed t d .before in
     let s = call-start t begun in
-    let r = s .pre .1 .0 in
+    let r = s .pre .1 .0 .ready in
     let state = d .before .before .summary-state in
     subst (λ x. CallSummed (flowOf (s .args .file .now)) (s .args .work .now) (set (call-passed t d .loop .work) (x + s .args .c .0) (state .result)) (call-n t begun) (s .args .c .0)) (sym (call-place t d))
-    (call-done (flowOf (s .args .file .now)) (s .args .c .0) (continued t begun .1) (ready-formed r) (ready-size r) (s .pre .1 .2) (call-room t d) (call-passed t d .loop .inv)
+    (call-done (flowOf (s .args .file .now)) (s .args .c .0) (continued t begun .1) (ready-formed r) (ready-size r) (s .pre .1 .1) (call-room t d) (call-passed t d .loop .inv)
     (omega (arith, d .before .before .before .loop-test .left, begun .line-count .ensures)) (state .result) (state .ensures))
 
 -- sub_effect
 
 sub-effect-enter-requires : (t : ℕ) → sub-effect-lts.Need-enter-requires (sub-claims t) (sub-effect-at t) sub-effect.Post sub-effect-Inv-loop sub-effect-μ-loop
-sub-effect-enter-requires t c κs = let p = c .before .before .before .pre .1 in (p .0, p .2, p .3)
+sub-effect-enter-requires t c κs = let p = c .before .before .before .pre .1 in (p .0 .ready, p .1, p .2)
 
 sub-effect-same-length : (t : ℕ) → sub-effect-lts.Need-same-length (sub-claims t) (sub-effect-at t) sub-effect.Post sub-effect-Inv-loop sub-effect-μ-loop
 sub-effect-same-length t c = search needs
@@ -308,15 +308,15 @@ module _ (t : ℕ) (c : sub-effect-lts.Else1 (sub-claims t) (sub-effect-at t) su
 sub-effect-next-walked-requires : (t : ℕ) → sub-effect-lts.Need-next-walked-requires (sub-claims t) (sub-effect-at t) sub-effect.Post sub-effect-Inv-loop sub-effect-μ-loop
 sub-effect-next-walked-requires t c κs =
     let d = c .before in
-    (ready-keeps (entry t d .pre .1 .0) (body-opened t d .onward .keeps) (omega arith), entry t d .pre .1 .2)
+    (ready-keeps (entry t d .pre .1 .0 .ready) (body-opened t d .onward .keeps) (omega arith), entry t d .pre .1 .1)
 
 sub-effect-loop-holds : (t : ℕ) → sub-effect-lts.Need-loop-holds (sub-claims t) (sub-effect-at t) sub-effect.Post sub-effect-Inv-loop sub-effect-μ-loop
 sub-effect-loop-holds t c =
     let d = c .before .before in
-    body-next (entry t d .pre .1 .2) zero-le (passed-none (body-opened t d .summing) (body-opened t d .is)) (c .next-walked .ensures)
+    body-next (entry t d .pre .1 .1) zero-le (passed-none (body-opened t d .summing) (body-opened t d .is)) (c .next-walked .ensures)
 
-sub-effect-statements-requires : (t : ℕ) → sub-effect-lts.Need-statements-requires (sub-claims t) (sub-effect-at t) sub-effect.Post sub-effect-Inv-loop sub-effect-μ-loop
-sub-effect-statements-requires t c κs = c .before .before .before .before .before .before .before .before .before .before .pre .1 .0 .fit
+sub-effect-statement-count-requires : (t : ℕ) → sub-effect-lts.Need-statement-count-requires (sub-claims t) (sub-effect-at t) sub-effect.Post sub-effect-Inv-loop sub-effect-μ-loop
+sub-effect-statement-count-requires t c κs = c .before .before .before .before .before .before .before .before .before .before .pre .1 .0 .ready .fit
 
 -- a turn
 module _ (t : ℕ) (c : sub-effect-lts.Then2 (sub-claims t) (sub-effect-at t) sub-effect.Post sub-effect-Inv-loop sub-effect-μ-loop) where
@@ -327,7 +327,7 @@ module _ (t : ℕ) (c : sub-effect-lts.Then2 (sub-claims t) (sub-effect-at t) su
   given = entry t turn-opened
 
   turn-below : c .before .before .loop .i < n t turn-opened
-  turn-below = omega (arith, c .if2 .taken, c .before .statements .ensures .0)
+  turn-below = omega (arith, c .if2 .taken, c .before .statement-count .ensures .0)
 
   on-walk : Walks (flowOf (given .args .file .now)) (given .args .e .0) (c .before .before .loop .i)
   on-walk = c .before .before .loop .inv .member turn-below
@@ -336,7 +336,7 @@ module _ (t : ℕ) (c : sub-effect-lts.Then2 (sub-claims t) (sub-effect-at t) su
   turn-onward = onward-trans (body-opened t turn-opened .onward) (onward-but (given .args .e .0) (c .before .before .loop .inv .below .onward))
 
   turn-ready : Ready (given .args .file .now) (c .before .before .loop .work) (n t turn-opened)
-  turn-ready = ready-keeps (given .pre .1 .0) (turn-onward .keeps) (omega arith)
+  turn-ready = ready-keeps (given .pre .1 .0 .ready) (turn-onward .keeps) (omega arith)
 
 sub-effect-call-summary-requires : (t : ℕ) → sub-effect-lts.Need-call-summary-requires (sub-claims t) (sub-effect-at t) sub-effect.Post sub-effect-Inv-loop sub-effect-μ-loop
 sub-effect-call-summary-requires t c κs =
@@ -345,33 +345,33 @@ sub-effect-call-summary-requires t c κs =
     let p = turn .before .before .loop .inv .below in
     let d = turn-opened t turn in
     let less : 2 * unenteredCount (turn .before .before .loop .work) (n t d) + 1 < t =
-    omega (arith, s .pre .0, unentered-le (p .onward), unentered-falls (body-opened t d .onward) (s .pre .1 .2) (body-opened t d .was) (body-opened t d .is))
+    omega (arith, s .pre .0, unentered-le (p .onward), unentered-falls (body-opened t d .onward) (s .pre .1 .1) (body-opened t d .was) (body-opened t d .is))
     in
-    (less, (turn-ready t turn, s .pre .1 .1, turn-below t turn, p .summing, λ b m. body-leads (turn-onward t turn) (s .pre .1 .4) (on-walk t turn) m))
+    (less, (record { ready = turn-ready t turn; lines = s .pre .1 .0 .lines }, turn-below t turn, p .summing, λ b m. body-leads (turn-onward t turn) (s .pre .1 .3) (on-walk t turn) m))
 
-sub-effect-pass-requires : (t : ℕ) → sub-effect-lts.Need-pass-requires (sub-claims t) (sub-effect-at t) sub-effect.Post sub-effect-Inv-loop sub-effect-μ-loop
-sub-effect-pass-requires t c κs =
+sub-effect-pass-by-requires : (t : ℕ) → sub-effect-lts.Need-pass-by-requires (sub-claims t) (sub-effect-at t) sub-effect.Post sub-effect-Inv-loop sub-effect-μ-loop
+sub-effect-pass-by-requires t c κs =
     let turn = c .before .before .before .before .before in
-    (ready-keeps (turn-ready t turn) (c .before .before .before .call-summary .ensures .onward .keeps) (omega arith), given t turn .pre .1 .2, turn-below t turn)
+    (ready-keeps (turn-ready t turn) (c .before .before .before .call-summary .ensures .onward .keeps) (omega arith), given t turn .pre .1 .1, turn-below t turn)
 
 -- i is passed by
-module _ (t : ℕ) (c : sub-effect-lts.After-pass (sub-claims t) (sub-effect-at t) sub-effect.Post sub-effect-Inv-loop sub-effect-μ-loop) where
+module _ (t : ℕ) (c : sub-effect-lts.After-pass-by (sub-claims t) (sub-effect-at t) sub-effect.Post sub-effect-Inv-loop sub-effect-μ-loop) where
   abbrev turned : sub-effect-lts.Then2 (sub-claims t) (sub-effect-at t) sub-effect.Post sub-effect-Inv-loop sub-effect-μ-loop
   turned = c .before .before .before .before .before .before
 
-  passed : PassedBelow (flowOf (given t turned .args .file .now)) (walked t (turn-opened t turned)) (c .pass .last .1 .0) (n t (turn-opened t turned)) (given t turned .args .e .0) (turned .before .before .loop .opaque || c .pass .result) (turned .before .before .loop .i + 1)
+  passed : PassedBelow (flowOf (given t turned .args .file .now)) (walked t (turn-opened t turned)) (c .pass-by .last .1 .0) (n t (turn-opened t turned)) (given t turned .args .e .0) (turned .before .before .loop .opaque || c .pass-by .result) (turned .before .before .loop .i + 1)
   passed =
-      let r = given t turned .pre .1 .0 in
-      body-turn (ready-formed r) (ready-size r) (omega (arith, turn-ready t turned .room)) (given t turned .pre .1 .2) (turn-below t turned) (on-walk t turned) (turned .before .before .loop .inv .below) (c .before .before .before .before .call-summary .ensures) (c .pass .ensures)
+      let r = given t turned .pre .1 .0 .ready in
+      body-turn (ready-formed r) (ready-size r) (omega (arith, turn-ready t turned .room)) (given t turned .pre .1 .1) (turn-below t turned) (on-walk t turned) (turned .before .before .loop .inv .below) (c .before .before .before .before .call-summary .ensures) (c .pass-by .ensures)
 
 sub-effect-add-next-walked : (t : ℕ) → sub-effect-lts.Need-add-next-walked (sub-claims t) (sub-effect-at t) sub-effect.Post sub-effect-Inv-loop sub-effect-μ-loop
-sub-effect-add-next-walked t c = let turn = turned t (c .before .before .before) in omega (arith, turn-below t turn, ready-most (given t turn .pre .1 .0))
+sub-effect-add-next-walked t c = let turn = turned t (c .before .before .before) in omega (arith, turn-below t turn, ready-most (given t turn .pre .1 .0 .ready))
 
 sub-effect-next-walked-requires-2 : (t : ℕ) → sub-effect-lts.Need-next-walked-requires-2 (sub-claims t) (sub-effect-at t) sub-effect.Post sub-effect-Inv-loop sub-effect-μ-loop
 sub-effect-next-walked-requires-2 t c κs =
     let d = c .before .before .before in
     let turn = turned t d in
-    (ready-keeps (given t turn .pre .1 .0) (onward-trans (body-opened t (turn-opened t turn) .onward) (onward-but (given t turn .args .e .0) (passed t d .onward)) .keeps) (omega arith), given t turn .pre .1 .2)
+    (ready-keeps (given t turn .pre .1 .0 .ready) (onward-trans (body-opened t (turn-opened t turn) .onward) (onward-but (given t turn .args .e .0) (passed t d .onward)) .keeps) (omega arith), given t turn .pre .1 .1)
 
 sub-effect-loop-less : (t : ℕ) → sub-effect-lts.Need-loop-less (sub-claims t) (sub-effect-at t) sub-effect.Post sub-effect-Inv-loop sub-effect-μ-loop
 sub-effect-loop-less t c =
@@ -381,13 +381,13 @@ sub-effect-loop-less t c =
 sub-effect-loop-again : (t : ℕ) → sub-effect-lts.Need-loop-again (sub-claims t) (sub-effect-at t) sub-effect.Post sub-effect-Inv-loop sub-effect-μ-loop
 sub-effect-loop-again t c =
     let d = c .before .before .before .before in
-    body-next (given t (turned t d) .pre .1 .2) (omega (arith, turn-below t (turned t d))) (passed t d) (c .next-walked2 .ensures)
+    body-next (given t (turned t d) .pre .1 .1) (omega (arith, turn-below t (turned t d))) (passed t d) (c .next-walked2 .ensures)
 
 sub-effect-summary-state-requires : (t : ℕ) → sub-effect-lts.Need-summary-state-requires (sub-claims t) (sub-effect-at t) sub-effect.Post sub-effect-Inv-loop sub-effect-μ-loop
 sub-effect-summary-state-requires t c κs = search needs
 
-sub-effect-statements-requires-2 : (t : ℕ) → sub-effect-lts.Need-statements-requires-2 (sub-claims t) (sub-effect-at t) sub-effect.Post sub-effect-Inv-loop sub-effect-μ-loop
-sub-effect-statements-requires-2 t c κs = c .before .before .before .before .before .before .before .before .before .before .before .before .before .pre .1 .0 .fit
+sub-effect-statement-count-requires-2 : (t : ℕ) → sub-effect-lts.Need-statement-count-requires-2 (sub-claims t) (sub-effect-at t) sub-effect.Post sub-effect-Inv-loop sub-effect-μ-loop
+sub-effect-statement-count-requires-2 t c κs = c .before .before .before .before .before .before .before .before .before .before .before .before .before .pre .1 .0 .ready .fit
 
 sub-effect-bodies-requires : (t : ℕ) → sub-effect-lts.Need-bodies-requires (sub-claims t) (sub-effect-at t) sub-effect.Post sub-effect-Inv-loop sub-effect-μ-loop
 sub-effect-bodies-requires t c κs = search needs
@@ -401,22 +401,22 @@ module _ (t : ℕ) (c : sub-effect-lts.After-bodies (sub-claims t) (sub-effect-a
   walk-opened = walk-passed .before .before .before
 
   body-place : c .bodies .result ≡ bodiesAt (n t walk-opened)
-  body-place = c .bodies .ensures ∙ ap (_*_ 3) (c .before .statements2 .ensures .0)
+  body-place = c .bodies .ensures ∙ ap (_*_ 3) (c .before .statement-count2 .ensures .0)
 
   body-size : length (walk-passed .loop .work) ≡ length (entry t walk-opened .args .work .now)
   body-size = walk-passed .loop .inv .below .onward .keeps .size ∙ body-opened t walk-opened .onward .keeps .size
 
   body-room : matrixAt (n t walk-opened) ≤ length (walk-passed .loop .work)
-  body-room = omega (arith, entry t walk-opened .pre .1 .0 .room, body-size)
+  body-room = omega (arith, entry t walk-opened .pre .1 .0 .ready .room, body-size)
 
 sub-effect-add-work : (t : ℕ) → sub-effect-lts.Need-add-work (sub-claims t) (sub-effect-at t) sub-effect.Post sub-effect-Inv-loop sub-effect-μ-loop
-sub-effect-add-work t c = omega (arith, body-place t (c .before), body-room t (c .before), entry t (walk-opened t (c .before)) .pre .1 .2, ready-most (entry t (walk-opened t (c .before)) .pre .1 .0))
+sub-effect-add-work t c = omega (arith, body-place t (c .before), body-room t (c .before), entry t (walk-opened t (c .before)) .pre .1 .1, ready-most (entry t (walk-opened t (c .before)) .pre .1 .0 .ready))
 
 sub-effect-mul-work : (t : ℕ) → sub-effect-lts.Need-mul-work (sub-claims t) (sub-effect-at t) sub-effect.Post sub-effect-Inv-loop sub-effect-μ-loop
-sub-effect-mul-work t c = omega (arith, body-place t (c .before), body-room t (c .before), entry t (walk-opened t (c .before)) .pre .1 .2, ready-most (entry t (walk-opened t (c .before)) .pre .1 .0))
+sub-effect-mul-work t c = omega (arith, body-place t (c .before), body-room t (c .before), entry t (walk-opened t (c .before)) .pre .1 .1, ready-most (entry t (walk-opened t (c .before)) .pre .1 .0 .ready))
 
 sub-effect-slice-write-work : (t : ℕ) → sub-effect-lts.Need-slice-write-work (sub-claims t) (sub-effect-at t) sub-effect.Post sub-effect-Inv-loop sub-effect-μ-loop
-sub-effect-slice-write-work t c = omega (arith, body-place t (c .before), body-room t (c .before), entry t (walk-opened t (c .before)) .pre .1 .2, ready-most (entry t (walk-opened t (c .before)) .pre .1 .0))
+sub-effect-slice-write-work t c = omega (arith, body-place t (c .before), body-room t (c .before), entry t (walk-opened t (c .before)) .pre .1 .1, ready-most (entry t (walk-opened t (c .before)) .pre .1 .0 .ready))
 
 sub-effect-same-length-2 : (t : ℕ) → sub-effect-lts.Need-same-length-2 (sub-claims t) (sub-effect-at t) sub-effect.Post sub-effect-Inv-loop sub-effect-μ-loop
 sub-effect-same-length-2 t c = length-set (walk-passed t (c .before) .loop .work) _ _ ∙ body-size t (c .before)
@@ -426,10 +426,10 @@ sub-effect-returns-2 t c =
     let d = c .before in
     let from = walk-opened t d in
     let s = entry t from in
-    let r = s .pre .1 .0 in
+    let r = s .pre .1 .0 .ready in
     let state = d .before .before .summary-state in
     subst (λ x. BodySummed (flowOf (s .args .file .now)) (s .args .work .now) (set (walk-passed t d .loop .work) (x + s .args .e .0) (state .result)) (n t from) (s .args .e .0)) (sym (body-place t d))
-    (body-done (ready-formed r) (ready-size r) (body-room t d) (s .pre .1 .2) (walk-passed t d .loop .inv .below) (omega (arith, d .before .before .before .if2 .left, d .before .before .before .before .statements .ensures .0)) (state .result) (state .ensures)
+    (body-done (ready-formed r) (ready-size r) (body-room t d) (s .pre .1 .1) (walk-passed t d .loop .inv .below) (omega (arith, d .before .before .before .if2 .left, d .before .before .before .before .statement-count .ensures .0)) (state .result) (state .ensures)
     (body-opened t from .onward) (body-opened t from .was))
 
 pub +call-summary+sub-effect-spec : {M : Type 1} → statement M
@@ -440,7 +440,7 @@ pub +call-summary+sub-effect-spec : {M : Type 1} → statement M
     (call-summary-awaits-requires t)
     (call-summary-same-length t)
     (call-summary-returns t)
-    (call-summary-statements-requires t)
+    (call-summary-statement-count-requires t)
     (call-summary-line-count-requires t)
     (call-summary-loop-holds t)
     (call-summary-entered-requires t)
@@ -452,7 +452,7 @@ pub +call-summary+sub-effect-spec : {M : Type 1} → statement M
     (call-summary-loop-less t)
     (call-summary-loop-again t)
     (call-summary-summary-state-requires t)
-    (call-summary-statements-requires-2 t)
+    (call-summary-statement-count-requires-2 t)
     (call-summary-calls-requires t)
     (call-summary-add-work t)
     (call-summary-mul-work t)
@@ -466,15 +466,15 @@ pub +call-summary+sub-effect-spec : {M : Type 1} → statement M
     (sub-effect-returns t)
     (sub-effect-next-walked-requires t)
     (sub-effect-loop-holds t)
-    (sub-effect-statements-requires t)
+    (sub-effect-statement-count-requires t)
     (sub-effect-call-summary-requires t)
-    (sub-effect-pass-requires t)
+    (sub-effect-pass-by-requires t)
     (sub-effect-add-next-walked t)
     (sub-effect-next-walked-requires-2 t)
     (sub-effect-loop-less t)
     (sub-effect-loop-again t)
     (sub-effect-summary-state-requires t)
-    (sub-effect-statements-requires-2 t)
+    (sub-effect-statement-count-requires-2 t)
     (sub-effect-bodies-requires t)
     (sub-effect-add-work t)
     (sub-effect-mul-work t)

@@ -10,8 +10,8 @@ use Rattle.calls.proofs.Summaries.{none-some}
 use Rattle.calls.proofs.summary.awaits.Statement.{statement}
 use Rattle.calls.proofs.summary.awaits.Tie as tie
 
-statements-requires : tie.Need-statements-requires
-statements-requires c κs = search needs
+statement-count-requires : tie.Need-statement-count-requires
+statement-count-requires c κs = search needs
 
 calls-requires : tie.Need-calls-requires
 calls-requires c κs = search needs
@@ -28,12 +28,12 @@ shared-slice-read-if1 c = search needs
 returns : tie.Need-returns
 returns c =
     let a = c .before .before .before .before .before .before .before .args in
-    λ k e q. c .if1 .taken (ap (λ (x : ℕ). getD (now (a .work)) (x + a .c .0) 0) (c .before .before .before .calls .ensures ∙ c .before .before .before .before .statements .ensures .0) ∙ q)
+    λ k e q. c .if1 .taken (ap (λ (x : ℕ). getD (now (a .work)) (x + a .c .0) 0) (c .before .before .before .calls .ensures ∙ c .before .before .before .before .statement-count .ensures .0) ∙ q)
 
 continuation-requires : tie.Need-continuation-requires
 continuation-requires c κs =
     let p = c .before .before .before .before .before .before .before .pre in
-    let e = c .before .before .before .before .statements .ensures .0 in
+    let e = c .before .before .before .before .statement-count .ensures .0 in
     (ready-again e (p .0), rw e (p .1))
 
 enum-told : tie.Need-enum-told
@@ -52,7 +52,7 @@ pub awaits-spec : {M : Type 1} → statement M
 awaits-spec =
     tie.close
     (tie.spec
-    statements-requires
+    statement-count-requires
     calls-requires
     add-if1
     mul-if1

@@ -19,8 +19,8 @@ use Rattle.calls.proofs.BodySummary.{return-done, unentered-row}
 use Rattle.calls.proofs.summary.enter.Statement.{statement}
 use Rattle.calls.proofs.summary.enter.Tie as tie
 
-statements-requires : tie.Need-statements-requires
-statements-requires c κs = search needs
+statement-count-requires : tie.Need-statement-count-requires
+statement-count-requires c κs = search needs
 
 bodies-requires : tie.Need-bodies-requires
 bodies-requires c κs = search needs
@@ -37,7 +37,7 @@ module _ (c : tie.After-bodies) where
   ws = now (start .args .work)
 
   place : c .bodies .result ≡ bodiesAt n
-  place = c .bodies .ensures ∙ ap (_*_ 3) (c .before .statements .ensures .0)
+  place = c .bodies .ensures ∙ ap (_*_ 3) (c .before .statement-count .ensures .0)
 
   state : getD ws (c .bodies .result + start .args .e .0) 0 ≡ body ws n (start .args .e .0)
   state = ap (λ (x : ℕ). getD ws (x + start .args .e .0) 0) place
@@ -63,10 +63,10 @@ is-return-requires : tie.Need-is-return-requires
 is-return-requires c κs =
     let read = c .before .before .before .before .before in
     let p = read .before .before .before .pre in
-    (ready-again (read .statements .ensures .0) (p .0), rw (read .statements .ensures .0) (p .1))
+    (ready-again (read .statement-count .ensures .0) (p .0), rw (read .statement-count .ensures .0) (p .1))
 
-pass-requires : tie.Need-pass-requires
-pass-requires c κs = search needs
+pass-by-requires : tie.Need-pass-by-requires
+pass-by-requires c κs = search needs
 
 mul-work : tie.Need-mul-work
 mul-work c = search needs
@@ -84,8 +84,8 @@ returns-2 c =
     let s = start b in
     let e = s .args .e .0 in
     let r = s .pre .0 in
-    subst (λ (x : ℕ). BodySummed (flowOf (now (s .args .file))) (ws b) (set (c .before .before .pass .last .1 .0) (x + e) transparent) (n b) e) (sym (place b))
-    (return-done (ready-formed r) (ready-size r) (s .pre .2) (room b) (s .pre .1) (sym (state b) ∙ unent .if1 .left) (sym (c .before .before .before .before .before .is-return .ensures) ∙ c .before .before .before .before .if2 .taken) (c .before .before .pass .ensures))
+    subst (λ (x : ℕ). BodySummed (flowOf (now (s .args .file))) (ws b) (set (c .before .before .pass-by .last .1 .0) (x + e) transparent) (n b) e) (sym (place b))
+    (return-done (ready-formed r) (ready-size r) (s .pre .2) (room b) (s .pre .1) (sym (state b) ∙ unent .if1 .left) (sym (c .before .before .before .before .before .is-return .ensures) ∙ c .before .before .before .before .if2 .taken) (c .before .before .pass-by .ensures))
 
 mul-work-2 : tie.Need-mul-work-2
 mul-work-2 c = search needs
@@ -110,7 +110,7 @@ walk-requires : tie.Need-walk-requires
 walk-requires c κs =
     let unent = c .before .before .before .before in
     let b = unent .before .before .before in
-    let e = b .before .statements .ensures .0 in
+    let e = b .before .statement-count .ensures .0 in
     let was = sym (state b) ∙ unent .if1 .left in
     (ready-again e (ready b was), rw e (start b .pre .1), rw e (empty b was))
 
@@ -124,7 +124,7 @@ module _ (c : tie.After-walk) where
 
   is-walked : Walked (flowOf (now (start at .args .file))) (set (ws at) (bodiesAt (n at) + start at .args .e .0) opened) walked (n at) (start at .args .e .0)
   is-walked =
-      subst₂ (λ (x m : ℕ). Walked (flowOf (now (start at .args .file))) (set (ws at) (x + start at .args .e .0) opened) walked m (start at .args .e .0)) (place at) (at .before .statements .ensures .0)
+      subst₂ (λ (x m : ℕ). Walked (flowOf (now (start at .args .file))) (set (ws at) (x + start at .args .e .0) opened) walked m (start at .args .e .0)) (place at) (at .before .statement-count .ensures .0)
       (c .walk .ensures)
 
   onward : OnwardBut (start at .args .e .0) (ws at) walked (n at)
@@ -150,14 +150,14 @@ pub enter-spec : {M : Type 1} → statement M
 enter-spec =
     tie.close
     (tie.spec
-    statements-requires
+    statement-count-requires
     bodies-requires
     add-at
     mul-if1
     slice-read-if1
     returns
     is-return-requires
-    pass-requires
+    pass-by-requires
     mul-work
     slice-write-work
     same-length

@@ -12,8 +12,8 @@ use Rattle.calls.specs.contracts.Held.{transparent}
 use Rattle.calls.proofs.summary.join_body.Statement.{statement}
 use Rattle.calls.proofs.summary.join_body.Tie as tie
 
-statements-requires : tie.Need-statements-requires
-statements-requires c κs = search needs
+statement-count-requires : tie.Need-statement-count-requires
+statement-count-requires c κs = search needs
 
 bodies-requires : tie.Need-bodies-requires
 bodies-requires c κs = search needs
@@ -56,7 +56,7 @@ returns c =
     let read = c .before .before .before .before .before .before .before .before .before .before .before .before in
     let a = read .before .before .before .args in
     let ws = now (a .work) in
-    let e = read .statements .ensures .0 in
+    let e = read .statement-count .ensures .0 in
     record {
       slice = c .before .before .union-word .ensures .slice
           ∙ ap₂ (λ (x y : ℕ). joined ws (x + a .c .0) (getD ws (y + a .b .0) 0)) (c .before .before .before .before .call-touched .ensures ∙ ap (_*_ 2) e) (c .before .before .before .before .before .before .before .before .touched .ensures ∙ ap (_*_ 4) e);
@@ -67,7 +67,7 @@ pub join-body-spec : {M : Type 1} → statement M
 join-body-spec =
     tie.close
     (tie.spec
-    statements-requires
+    statement-count-requires
     bodies-requires
     add-opaque-body
     mul-opaque-body

@@ -27,8 +27,10 @@ call-summary-requires c κs =
     let p = c .before .before .loop .inv .0 in
     let h = s .pre .0 .header in
     let e = s .pre .0 .ready .count in (
-      rw (← e) (ready-keeps (s .pre .0 .ready) (p .onward .keeps) (omega arith)),
-      (ap (λ (x : Header). x .«lines_at») h, ap (λ (x : Header). x .lines) h),
+      record {
+        ready = rw (← e) (ready-keeps (s .pre .0 .ready) (p .onward .keeps) (omega arith));
+        lines = (ap (λ (x : Header). x .«lines_at») h, ap (λ (x : Header). x .lines) h);
+      },
       rw (← e) (c .before .loop-test .taken),
       rw (← e) (p .summing),
       λ b m. rw (← e) (λ o l q. absurd (fresh-shut (s .pre .1) o l (p .onward .was-open o l (λ z. omega arith) q))),

@@ -1,4 +1,4 @@
--- `pass` meets its contract: what is joined is the references and what the call touches, and the test is of the call's state and of the kind.
+-- `pass_by` meets its contract: what is joined is the references and what the call touches, and the test is of the call's state and of the kind.
 -- By what joining a word ensures. Assumes nothing.
 use Prim.Native.Nat.{ℕ, _+_, _*_}
 use mathlib.Core.Bool.{Bool, _||_}
@@ -11,16 +11,16 @@ use lib.ListN.{getD}
 use Rattle.words.specs.contracts.Change.{joined}
 use Rattle.calls.specs.contracts.Held.{opaque}
 use Rattle.calls.proofs.Checked.{ready-again}
-use Rattle.calls.proofs.summary.pass.Statement.{statement}
-use Rattle.calls.proofs.summary.pass.Tie as tie
+use Rattle.calls.proofs.summary.pass_by.Statement.{statement}
+use Rattle.calls.proofs.summary.pass_by.Tie as tie
 
-statements-requires : tie.Need-statements-requires
-statements-requires c κs = search needs
+statement-count-requires : tie.Need-statement-count-requires
+statement-count-requires c κs = search needs
 
 references-word-requires : tie.Need-references-word-requires
 references-word-requires c κs =
     let p = c .before .before .before .before .pre in
-    let e = c .before .statements .ensures .0 in
+    let e = c .before .statement-count .ensures .0 in
     (ready-again e (p .0), rw e (p .2))
 
 call-touched-requires : tie.Need-call-touched-requires
@@ -51,7 +51,7 @@ wipes-requires : tie.Need-wipes-requires
 wipes-requires c κs =
     let read = c .before .before .before .before .before .before .before .before .before in
     let p = read .before .before .before .pre in
-    (ready-again (read .statements .ensures .0) (p .0), rw (read .statements .ensures .0) (p .2))
+    (ready-again (read .statement-count .ensures .0) (p .0), rw (read .statement-count .ensures .0) (p .2))
 
 touched-requires : tie.Need-touched-requires
 touched-requires c κs = search needs
@@ -74,7 +74,7 @@ returns c =
     let read = inner .before .before .before in
     let a = read .before .before .before .args in
     let ws = now (a .work) in
-    let e = read .statements .ensures .0 in
+    let e = read .statement-count .ensures .0 in
     record {
       own = refs .result;
       set = refs .ensures;
@@ -83,11 +83,11 @@ returns c =
       state = ap₂ (λ (x : ℕ) (b : Bool). eqb (getD ws (x + a .i .0) 0) opaque || b) (found .calls .ensures ∙ e) (wiped .wipes .ensures);
     }
 
-pub pass-spec : {M : Type 1} → statement M
-pass-spec =
+pub pass-by-spec : {M : Type 1} → statement M
+pass-by-spec =
     tie.close
     (tie.spec
-    statements-requires
+    statement-count-requires
     references-word-requires
     call-touched-requires
     add-inner
