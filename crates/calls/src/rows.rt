@@ -1,62 +1,73 @@
-// The statements that a call enters: noted in the row of entered statements, and of each call that is not opaque in its own row of the matrix.
-ghost use Prim.Native.Nat.{ℕ, _+_, _≤_, _<_};
+// Rows of statements that calls enter: the bodies that the lines of a call name are joined to a row, and each call that is not opaque has
+// them in its own row of the matrix.
+ghost use Prim.Native.Nat.{_+_, _≤_, _<_};
+ghost use mathlib.Core.Bool.{true};
 ghost use mathlib.Core.Path.{_≡_};
 ghost use lib.ListN.{length, getD};
-ghost use Rattle.words.specs.contracts.Row.{has};
 ghost use Rattle.flow.specs.Flow.{enters};
-ghost use Rattle.flow.specs.Limits.{maxStatements, workWords};
+ghost use Rattle.flow.specs.Limits.{maxStatements};
 ghost use Rattle.flow.specs.Format.{flowOf};
 ghost use Rattle.theory.specs.Lists.{optionList};
 ghost use Rattle.theory.specs.Body.{kind, callLines, entered};
-ghost use Rattle.statements.specs.contracts.Layout.{rowAt, rowWords, enteredRowAt, solverAt};
-ghost use Rattle.statements.specs.contracts.Ready.{Indexed, Keeps};
-ghost use Rattle.calls.specs.contracts.Held.{EmptyEntered};
-ghost use Rattle.calls.specs.contracts.Joins.{Adds, Notes};
+ghost use Rattle.statements.specs.contracts.Layout.{rowWords};
+ghost use Rattle.statements.specs.contracts.Ready.{Ready, Indexed, Keeps};
+ghost use Rattle.calls.specs.contracts.Held.{Empty};
+ghost use Rattle.calls.specs.contracts.Joins.{Adds, Target, BodyRow, BodyRows, Notes, bodyOf, bodiesOf};
 use crate::TRANSPARENT;
+use flow::LineEntry;
 use flow::StmtId;
 use statements::fields;
 use statements::layout;
 
-// Line l of statement i: the statement that it enters joins the row of entered statements.
-fn note_line(file: &[u8], h: flow::Header, work: &mut [u64], i: StmtId, l: usize)
-    requires { ⌜ Indexed (now file) h (now work) × (i .0 < h .statements) × (l < length (callLines (kind (flowOf (now file)) (i .0)))) ⌝ }
-    ensures { λ _. ⌜ Adds (now (work .entry)) (now (work .exit)) (h .statements) (optionList (enters (flowOf (now (file .entry))) (getD (callLines (kind (flowOf (now (file .entry))) (i .0))) l 0))) ⌝ }
+// Body e joins the row at `to`: by itself, or whole, with its walk. The walk of a RETURN is itself.
+fn add_body(file: &[u8], work: &mut [u64], n: usize, to: usize, e: StmtId, whole: bool)
+    requires { ⌜ Ready (now file) (now work) n × (e .0 < n) × Target (now work) n to whole × (whole ≡ true → BodyRow (flowOf (now file)) (now work) n (e .0)) ⌝ }
+    ensures { λ _. ⌜ Adds to (now (work .entry)) (now (work .exit)) n (bodyOf (flowOf (now (file .entry))) whole (e .0)) ⌝ }
 {
-    let n = h.statements;
-    if let flow::LineEntry::At(b) = fields::entered(file, h, work, i, l) {
-        words::insert(work, layout::entered_row(n), b.0);
+    if whole & !fields::is_return(file, work, n, e) {
+        words::union(work, to, layout::row(n, e), layout::row_words(n));
+    } else {
+        words::insert(work, to, e.0);
     }
 }
 
-fn note_lines(file: &[u8], h: flow::Header, work: &mut [u64], i: StmtId)
-    requires { ⌜ Indexed (now file) h (now work) × (i .0 < h .statements) ⌝ }
-    ensures { λ _. ⌜ Adds (now (work .entry)) (now (work .exit)) (h .statements) (entered (flowOf (now (file .entry))) (i .0)) ⌝ }
+// Line l of the call c.
+fn add_line(
+    file: &[u8],
+    h: flow::Header,
+    work: &mut [u64],
+    to: usize,
+    c: StmtId,
+    l: usize,
+    whole: bool,
+)
+    requires { ⌜ Indexed (now file) h (now work) × (c .0 < h .statements) × (l < length (callLines (kind (flowOf (now file)) (c .0)))) × Target (now work) (h .statements) to whole × (whole ≡ true → BodyRows (flowOf (now file)) (now work) (h .statements) (c .0)) ⌝ }
+    ensures { λ _. ⌜ Adds to (now (work .entry)) (now (work .exit)) (h .statements) (bodiesOf (flowOf (now (file .entry))) whole (optionList (enters (flowOf (now (file .entry))) (getD (callLines (kind (flowOf (now (file .entry))) (c .0))) l 0)))) ⌝ }
 {
     let n = h.statements;
-    let count = fields::line_count(file, work, n, i);
+    if let LineEntry::At(b) = fields::entered(file, h, work, c, l) {
+        add_body(file, work, n, to, b, whole);
+    }
+}
+
+pub fn add_lines(file: &[u8], h: flow::Header, work: &mut [u64], to: usize, c: StmtId, whole: bool)
+    requires { ⌜ Indexed (now file) h (now work) × (c .0 < h .statements) × Target (now work) (h .statements) to whole × (whole ≡ true → BodyRows (flowOf (now file)) (now work) (h .statements) (c .0)) ⌝ }
+    ensures { λ _. ⌜ Adds to (now (work .entry)) (now (work .exit)) (h .statements) (bodiesOf (flowOf (now (file .entry))) whole (entered (flowOf (now (file .entry))) (c .0))) ⌝ }
+{
+    let n = h.statements;
+    let count = fields::line_count(file, work, n, c);
     let mut l = 0;
     while l < count {
-        note_line(file, h, work, i, l);
+        add_line(file, h, work, to, c, l, whole);
         l += 1;
     }
 }
 
-pub fn zero_entered(work: &mut [u64], n: usize)
-    requires { ⌜ (0 < n) × (n ≤ maxStatements) × (workWords n ≤ length (now work)) ⌝ }
-    ensures { λ _. ⌜ EmptyEntered (now (work .exit)) n × Keeps (enteredRowAt n) (solverAt n) (now (work .entry)) (now (work .exit)) ⌝ }
+pub fn zero_row(work: &mut [u64], n: usize, to: usize)
+    requires { ⌜ (n ≤ maxStatements) × (to + rowWords n ≤ length (now work)) ⌝ }
+    ensures { λ _. ⌜ Empty (now (work .exit)) n to × Keeps to (to + rowWords n) (now (work .entry)) (now (work .exit)) ⌝ }
 {
-    words::zero_row(work, layout::entered_row(n), layout::row_words(n));
-}
-
-// Row i of the matrix becomes the row of entered statements.
-fn copy_entered(work: &mut [u64], n: usize, i: StmtId)
-    requires { ⌜ (n ≤ maxStatements) × (solverAt n ≤ length (now work)) × (i .0 < n) ⌝ }
-    ensures { λ _. ⌜ ((j : ℕ) → j < n → has (now (work .exit)) (rowAt n (i .0)) j ≡ has (now (work .entry)) (enteredRowAt n) j) × Keeps (rowAt n (i .0)) (rowAt n (i .0) + rowWords n) (now (work .entry)) (now (work .exit)) ⌝ }
-{
-    let row = layout::row(n, i);
-    let width = layout::row_words(n);
-    words::zero_row(work, row, width);
-    words::union(work, row, layout::entered_row(n), width);
+    words::zero_row(work, to, layout::row_words(n));
 }
 
 // Statement i, if it is a call that is not opaque.
@@ -68,9 +79,9 @@ fn note_row(file: &[u8], h: flow::Header, work: &mut [u64], i: StmtId)
     if work[layout::calls(n) + i.0] != TRANSPARENT {
         return;
     }
-    zero_entered(work, n);
-    note_lines(file, h, work, i);
-    copy_entered(work, n, i);
+    let row = layout::row(n, i);
+    zero_row(work, n, row);
+    add_lines(file, h, work, row, i, false);
 }
 
 // The statements that each call that is not opaque enters, in its row of the matrix: a visit then need not look up its lines.
