@@ -8,12 +8,20 @@ ghost use Rattle.solve.specs.contracts.Layout as at;
 use flow::NodeId;
 use statements::layout;
 
-// What stands k parts of n words behind the place where the solver's words begin.
+// Words of a set of doubled numbers. The sets stand close together: at a distance of whole pages a read of one would wait for a write of another.
+fn node_words(n: usize) -> usize
+    requires { ⌜ n ≤ maxStatements ⌝ }
+    ensures { λ r. ⌜ r ≡ at.nodeWords n ⌝ }
+{
+    (2 * n + 63) / 64
+}
+
+// What stands k such sets behind the place where the solver's words begin.
 fn part(n: usize, k: usize) -> usize
     requires { ⌜ (n ≤ maxStatements) × (k ≤ 3) ⌝ }
-    ensures { λ r. ⌜ r ≡ solverAt n + k * n ⌝ }
+    ensures { λ r. ⌜ r ≡ solverAt n + k * at.nodeWords n ⌝ }
 {
-    layout::solver(n) + k * n
+    layout::solver(n) + k * node_words(n)
 }
 
 // The doubled numbers that wait.

@@ -31,7 +31,12 @@ grown-requires : tie.Need-grown-requires
 grown-requires c κs = search needs
 
 insert-requires : tie.Need-insert-requires
-insert-requires c κs = search needs
+insert-requires c κs =
+    let s = c .before .before .before .before .before .before .before .before .before in
+    let at = c .grown .ensures in
+    let low = row-from (s .args .n) (s .args .width) (2 * s .args .n) in
+    let long = c .before .before .before .before .before .union .kept .0 in
+    omega (arith, s .pre .2, s .pre .3)
 
 same-length : tie.Need-same-length
 same-length c = search needs
