@@ -2,7 +2,7 @@
 ghost use mathlib.Core.Path.{_≡_};
 ghost use mathlib.Core.Bool.{_&&_};
 ghost use mathlib.Core.List.{List};
-ghost use Prim.Native.Nat.{ℕ, _+_, _*_, _<_, _≤_};
+ghost use Prim.Native.Nat.{ℕ, _*_, _<_, _≤_};
 ghost use lib.Dec.{eqb};
 ghost use lib.ListN.{length};
 ghost use Rattle.words.specs.contracts.Row.{has};
@@ -14,7 +14,7 @@ ghost use Rattle.statements.specs.contracts.Layout.{queueAt, setWords, maxWidth
 ghost use Rattle.statements.specs.contracts.Ready.{Indexed, Keeps};
 ghost use Rattle.calls.specs.contracts.Held.{Linked};
 ghost use Rattle.calls.specs.contracts.Class.{EdgesOf};
-ghost use Rattle.solve.specs.contracts.Layout.{visitedAt, grownAt, areaEnd};
+ghost use Rattle.solve.specs.contracts.Layout.{visitedAt, grownAt, setRow, areaEnd};
 ghost use Rattle.solve.specs.contracts.Waiting.{Waits};
 ghost use Rattle.solve.specs.contracts.Pushed.{Pushed};
 ghost use Rattle.dataflow.specs.contracts.Sent.{edgeRow, Sent, Sends};
@@ -99,7 +99,7 @@ fn send(
 
 // d was visited, and its masks have not grown since.
 fn unchanged(work: &[u64], n: usize, d: NodeId) -> bool
-    requires { ⌜ (n ≤ maxStatements) × (grownAt n + n ≤ length (now work)) × (d .0 < 2 * n) ⌝ }
+    requires { ⌜ (n ≤ maxStatements) × (setRow n ≤ length (now work)) × (d .0 < 2 * n) ⌝ }
     ensures { λ r. ⌜ r ≡ (eqb (has (now (work .entry)) (visitedAt n) (d .0)) 1 && eqb (has (now (work .entry)) (grownAt n) (d .0)) 0) ⌝ }
 {
     if words::contains(work, layout::visited(n), d.0) {
@@ -110,7 +110,7 @@ fn unchanged(work: &[u64], n: usize, d: NodeId) -> bool
 
 // The visit of d is noted: its masks are as last set.
 fn note_visit(work: &mut [u64], n: usize, d: NodeId)
-    requires { ⌜ (n ≤ maxStatements) × (grownAt n + n ≤ length (now work)) × (d .0 < 2 * n) ⌝ }
+    requires { ⌜ (n ≤ maxStatements) × (setRow n ≤ length (now work)) × (d .0 < 2 * n) ⌝ }
     ensures { λ _. ⌜ now (work .exit) ≡ removed (inserted (now (work .entry)) (visitedAt n) (d .0)) (grownAt n) (d .0) ⌝ }
 {
     words::insert(work, layout::visited(n), d.0);
