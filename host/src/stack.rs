@@ -8,7 +8,7 @@ use crate::judge::{self, Lent};
 use crate::sides::NO_LIBRARY;
 
 /// The stack that a caller must have; README.md says so, and a test answers the deepest nests in it.
-pub const STACK: usize = 1 << 20;
+pub const STACK: usize = 640 << 10;
 
 /// The main part is one statement, and each subroutine one more.
 pub const DEEPEST: usize = MAX_STATEMENTS as usize - 1;
