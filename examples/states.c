@@ -1,5 +1,5 @@
 /* Prints, for each statement of a flow file, its masks, live-in and live-out.
-   cc -I include examples/states.c target/staticlib/libdataflow.a -o target/states && target/states examples/p5.flow */
+   cc -I include examples/states.c target/staticlib/libyarnuskel.a -o target/states && target/states examples/p5.flow */
 #include <inttypes.h>
 #include <stdio.h>
 

@@ -99,18 +99,16 @@ fn original(root: &Path) {
     }
 }
 
-/// The archives of the proved library, each with the cfg that says it is there.
+/// The archive of the proved library, and the cfg that says it is there.
 fn proved(root: &Path) {
     let folder = root.join("target/staticlib");
+    let archive = folder.join("libyarnuskel.a");
     println!("cargo::rerun-if-changed={}", folder.display());
-    for (library, cfg) in [("dataflow", "proved_states"), ("flow", "proved_reader")] {
-        let archive = folder.join(format!("lib{library}.a"));
-        println!("cargo::rerun-if-changed={}", archive.display());
-        if archive.is_file() {
-            println!("cargo::rustc-link-search=native={}", folder.display());
-            println!("cargo::rustc-link-lib=static={library}");
-            println!("cargo::rustc-cfg={cfg}");
-        }
+    println!("cargo::rerun-if-changed={}", archive.display());
+    if archive.is_file() {
+        println!("cargo::rustc-link-search=native={}", folder.display());
+        println!("cargo::rustc-link-lib=static=yarnuskel");
+        println!("cargo::rustc-cfg=proved");
     }
 }
 

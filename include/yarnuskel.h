@@ -1,4 +1,4 @@
-/* The door of the Yarnuskel library, in target/staticlib/libdataflow.a. */
+/* The doors of the Yarnuskel library, target/staticlib/libyarnuskel.a. */
 #ifndef YARNUSKEL_H
 #define YARNUSKEL_H
 
@@ -18,6 +18,10 @@ extern "C" {
 #define YARNUSKEL_NONE 1
 #define YARNUSKEL_AUTO 2
 #define YARNUSKEL_DIMMED 4
+
+/* Checks a flow file. Returns 0 where it is fit, and *place is then 0; else the refusal's number, with
+   its place in *place. No pointer may be null, even with length 0. */
+uint64_t yarnuskel_check(const uint8_t *file, size_t file_length, uint64_t *place);
 
 /* Answers a flow file. Returns 0 where it is accepted: the mask of an array at a statement is then
    masks[statement * arrays + array], bit i of live_in[statement] says that name i is live when the

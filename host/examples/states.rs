@@ -1,7 +1,7 @@
 //! Prints, for each statement of a flow file, its masks, live-in and live-out:
 //! `cargo run --release --example states ../examples/p5.flow`.
 
-#[cfg(proved_states)]
+#[cfg(proved)]
 fn main() -> Result<(), Box<dyn std::error::Error>> {
     let path = std::env::args().nth(1).ok_or("usage: states FILE")?;
     match yarnuskel_host::door::states(&std::fs::read(path)?) {
@@ -20,7 +20,7 @@ fn main() -> Result<(), Box<dyn std::error::Error>> {
     }
 }
 
-#[cfg(not(proved_states))]
+#[cfg(not(proved))]
 fn main() {
-    println!("{}", yarnuskel_host::sides::NO_STATES);
+    println!("{}", yarnuskel_host::sides::NO_LIBRARY);
 }

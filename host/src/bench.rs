@@ -77,7 +77,7 @@ pub fn loops(n: usize) -> Flow {
     flow
 }
 
-/// The deepest nest that there may be: each statement calls the next, and all share one RETURN.
+/// A deep nest: each statement calls the next, and all share one RETURN.
 pub fn deep_chain(n: usize) -> Flow {
     let mut random = Random::new(12, 0);
     let last = n as u16 - 1;
@@ -191,7 +191,7 @@ pub fn readers() -> bool {
             checked.is_ok() && ratio <= 2.0
         }
         None => {
-            println!("{}", sides::NO_READER);
+            println!("{}", sides::NO_LIBRARY);
             true
         }
     }
@@ -227,7 +227,7 @@ pub fn whole_call() -> bool {
     );
     let measured: Option<Vec<(f64, f64)>> = flows().iter().map(|(name, flow)| measure(name, flow)).collect();
     let Some(times) = measured else {
-        println!("{}", if cfg!(original) { sides::NO_STATES } else { sides::NO_ORIGINAL });
+        println!("{}", if cfg!(original) { sides::NO_LIBRARY } else { sides::NO_ORIGINAL });
         return true;
     };
     let least = times.iter().map(|t| t.0).fold(f64::MAX, f64::min);

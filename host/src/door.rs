@@ -1,10 +1,11 @@
-//! The safe side of the proved library's door. The areas are sized here, so that a caller cannot
+//! The safe side of the proved library's doors. The areas are sized here, so that a caller cannot
 //! lend short or overlapping ones; an answer owns what was written.
 
 use crate::answerer::{Answer, Areas};
 use crate::flow::{MAX_ARRAYS, MAX_STATEMENTS, Refusal, WORK_WORDS};
 
 unsafe extern "C" {
+    fn yarnuskel_check(file: *const u8, file_length: usize, place: *mut u64) -> u64;
     fn yarnuskel_states(
         file: *const u8,
         file_length: usize,
@@ -19,6 +20,14 @@ unsafe extern "C" {
         place: *mut u64,
         visits: *mut u64,
     ) -> u64;
+}
+
+/// Whether a flow file is fit, or its refusal.
+pub fn check(file: &[u8]) -> Result<(), Refusal> {
+    let mut place = 0;
+    // The pointer goes with the length of its own slice.
+    let number = unsafe { yarnuskel_check(file.as_ptr(), file.len(), &mut place) };
+    if number == 0 { Ok(()) } else { Err(Refusal { number, place }) }
 }
 
 /// What the library says of an accepted flow.

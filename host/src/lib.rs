@@ -1,10 +1,10 @@
 //! The Rust side of Yarnuskel: the original as judge, a reference answerer, generators, the
-//! stored answers, the door of the proved library and the benchmarks.
+//! stored answers, the doors of the proved library and the benchmarks.
 
 pub mod answerer;
 pub mod bench;
 pub mod cases;
-#[cfg(proved_states)]
+#[cfg(proved)]
 pub mod door;
 pub mod dot;
 pub mod flow;
@@ -13,12 +13,11 @@ pub mod judge;
 pub mod listing;
 #[cfg(original)]
 pub mod original;
-#[cfg(proved_reader)]
-pub mod proved_reader;
 pub mod random;
 pub mod reader;
 pub mod reading;
 pub mod sides;
+pub mod stack;
 #[cfg(original)]
 mod stand_ins;
 pub mod store;

@@ -7,8 +7,8 @@ use std::{env, fs};
 use yarnuskel_host::flow::Flow;
 use yarnuskel_host::generate::{self, Family};
 use yarnuskel_host::judge::{self, Comparison, Lent};
-use yarnuskel_host::sides::{self, NO_ORIGINAL, NO_READER, NO_STATES};
-use yarnuskel_host::{bench, cases, dot, flow, listing, reading, store, text, worst};
+use yarnuskel_host::sides::{self, NO_LIBRARY, NO_ORIGINAL};
+use yarnuskel_host::{bench, cases, dot, flow, listing, reading, stack, store, text, worst};
 
 const USAGE: &str = "commands:
   answer FILE|DIR              masks and live sets by the original, refusals by the answerer (of a DIR, its .flow files)
@@ -28,6 +28,8 @@ const USAGE: &str = "commands:
   dot FILE                     a flow file with its masks as a picture, for Graphviz
   bench-reader                 the proved reader beside a plain one
   bench                        the proved call beside the original
+  stack                        the stack that the deepest nest of subroutines takes, in each order of the file
+  stack-try ORDER DEPTH BYTES  whether a thread with so much stack answers a nest (Down or Up); an overflow ends the program
   worst SECONDS SEED           search for the file that takes the proved call longest, so long a family
   worst-again                  time the worst files found so far (worst.txt)
   worst-file NUMBER PATH       write one of them, counted from 0";
@@ -113,7 +115,7 @@ fn fit(path: &Path) -> Result<Flow, String> {
 fn picture(path: &Path) -> Outcome {
     let flow = fit(path)?;
     let Some(masks) = sides::proved_masks(&flow.bytes()) else {
-        println!("{NO_STATES}");
+        println!("{NO_LIBRARY}");
         return Ok(true);
     };
     let masks = masks.map_err(|r| format!("refused {} at {}", r.number, r.place))?;
@@ -198,10 +200,10 @@ fn run(words: &[&str]) -> Outcome {
             compare(number(count)?, number(seed)?, |c, s| Some(judge::compare(c, s)), "")
         }
         ["compare-reader", count, seed] => {
-            compare(number(count)?, number(seed)?, judge::compare_reader, NO_READER)
+            compare(number(count)?, number(seed)?, judge::compare_reader, NO_LIBRARY)
         }
         ["compare-proved", count, seed] => {
-            compare(number(count)?, number(seed)?, judge::compare_proved, NO_STATES)
+            compare(number(count)?, number(seed)?, judge::compare_proved, NO_LIBRARY)
         }
         ["faults", count, seed] => faults(number(count)?, number(seed)?),
         ["store"] => write_store(),
@@ -222,6 +224,8 @@ fn run(words: &[&str]) -> Outcome {
         ["flow", from, path] => write_flow(Path::new(from), Path::new(path)),
         ["bench-reader"] => Ok(bench::readers()),
         ["bench"] => Ok(bench::whole_call()),
+        ["stack"] => stack::measure(),
+        ["stack-try", order, depth, bytes] => stack::tried(order, number(depth)?, number(bytes)?),
         ["worst", seconds, seed] => worst::search(number(seconds)?, number(seed)?),
         ["worst-again"] => worst::again(),
         ["worst-file", which, path] => {

@@ -191,6 +191,16 @@ fn rattle_sources(folder: &Path) -> Vec<std::path::PathBuf> {
     sources
 }
 
+/// A door: a function that crates/yarnuskel exports to other languages.
+fn is_door(file: &str, before: &str, _: &str) -> bool {
+    file.starts_with("yarnuskel/") && before == "#[no_mangle]"
+}
+
+/// The function of the listing program that writes its text.
+fn is_listing(file: &str, _: &str, line: &str) -> bool {
+    file.starts_with("listing/") && line.starts_with("pub fn listing(")
+}
+
 impl Library {
     pub fn load(root: &Path) -> Library {
         let listed = text_of(&root.join("crates.txt"));
@@ -287,8 +297,8 @@ impl Library {
         found.iter().filter_map(|word| self.means("", &here, word).ok()).collect()
     }
 
-    /// What is named in the contracts of the functions that are exported to other languages, or of those
-    /// of one crate that the test names.
+    /// What is named in the contracts of the functions that the test picks by their file, the line before
+    /// and their first line.
     fn named(&self, root: &Path, exported: impl Fn(&str, &str, &str) -> bool) -> Vec<(String, String)> {
         let sources = self.modules.iter().filter(|(name, _)| name.contains("/src/"));
         let named = |(name, module): &(String, Module)| {
@@ -321,11 +331,8 @@ impl Library {
 
     /// Every definition that the promises of the doors rest on, and what the listing's promise rests on besides.
     pub fn believed(&self, root: &Path) -> String {
-        let doors = self.below_all(self.named(root, |_, before, _| before == "#[no_mangle]"));
-        let program = |name: &str, _: &str, line: &str| {
-            name.starts_with("listing/") && line.starts_with("pub fn listing(")
-        };
-        let mut listing = self.below_all(self.named(root, program));
+        let doors = self.below_all(self.named(root, is_door));
+        let mut listing = self.below_all(self.named(root, is_listing));
         listing.0.retain(|item| !doors.0.contains(item));
         listing.1.retain(|path| !doors.1.contains(path));
         format!(
@@ -338,7 +345,7 @@ impl Library {
     /// The names of those definitions, each with its module.
     pub fn believed_names(&self, root: &Path) -> BTreeSet<(String, String)> {
         let all = |name: &str, before: &str, line: &str| {
-            before == "#[no_mangle]" || name.starts_with("listing/") && line.starts_with("pub fn listing(")
+            is_door(name, before, line) || is_listing(name, before, line)
         };
         self.below_all(self.named(root, all)).0
     }

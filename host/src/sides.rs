@@ -1,12 +1,11 @@
-//! The sides of a comparison that may be absent: the original Rust, the proved reader and the
-//! proved call. Each answers `None` where it was not there at build time.
+//! The sides of a comparison that may be absent: the original Rust and the proved library. Each
+//! answers `None` where it was not there at build time.
 
 use crate::answerer::{Answer, Areas};
 use crate::flow::{Flow, Refusal};
 
 pub const NO_ORIGINAL: &str = "the original Rust is not here: what needs it is skipped";
-pub const NO_READER: &str = "target/staticlib/libflow.a is not built: what needs it is skipped";
-pub const NO_STATES: &str = "target/staticlib/libdataflow.a is not built: what needs it is skipped";
+pub const NO_LIBRARY: &str = "target/staticlib/libyarnuskel.a is not built: what needs it is skipped";
 
 /// What the original says of an accepted flow.
 #[derive(Clone, Debug, PartialEq, Eq)]
@@ -50,28 +49,28 @@ pub fn original_runs(_: &Flow) -> Option<[Run<'static>; 2]> {
     None
 }
 
-#[cfg(proved_reader)]
+#[cfg(proved)]
 pub fn proved_check(file: &[u8]) -> Option<Result<(), Refusal>> {
-    Some(crate::proved_reader::check(file))
+    Some(crate::door::check(file))
 }
 
-#[cfg(not(proved_reader))]
+#[cfg(not(proved))]
 pub fn proved_check(_: &[u8]) -> Option<Result<(), Refusal>> {
     None
 }
 
-#[cfg(proved_states)]
+#[cfg(proved)]
 pub fn proved_states(file: &[u8], areas: &mut Areas) -> Option<Answer> {
     Some(crate::door::states_in(file, areas))
 }
 
-#[cfg(not(proved_states))]
+#[cfg(not(proved))]
 pub fn proved_states(_: &[u8], _: &mut Areas) -> Option<Answer> {
     None
 }
 
 /// The masks of a file by the safe wrapper, statement by statement.
-#[cfg(proved_states)]
+#[cfg(proved)]
 pub fn proved_masks(file: &[u8]) -> Option<Result<Vec<u8>, Refusal>> {
     let masks = |states: crate::door::FlowStates| {
         (0..states.statements()).flat_map(|i| states.masks_of(i).to_vec()).collect()
@@ -79,7 +78,7 @@ pub fn proved_masks(file: &[u8]) -> Option<Result<Vec<u8>, Refusal>> {
     Some(crate::door::states(file).map(masks))
 }
 
-#[cfg(not(proved_states))]
+#[cfg(not(proved))]
 pub fn proved_masks(_: &[u8]) -> Option<Result<Vec<u8>, Refusal>> {
     None
 }

@@ -343,7 +343,7 @@ pub fn again() -> Result<bool, String> {
     for recipe in stored() {
         let file = recipe.file();
         let Some((time, visits)) = measure(&file, 3) else {
-            println!("{}", sides::NO_STATES);
+            println!("{}", sides::NO_LIBRARY);
             return Ok(true);
         };
         println!("{recipe}: {time:.2?}, the shortest of 3 runs, {visits} visits, {} bytes", file.len());
@@ -366,7 +366,7 @@ pub fn search(seconds: u64, seed: u64) -> Result<bool, String> {
     for family in FAMILIES {
         let from = stored.iter().copied().find(|recipe| recipe.family == family);
         let Some((recipe, _)) = climb(family, from, seconds, &mut Random::new(seed, family as u64)) else {
-            println!("{}", sides::NO_STATES);
+            println!("{}", sides::NO_LIBRARY);
             return Ok(true);
         };
         text += &format!("{recipe}\n");

@@ -5,7 +5,7 @@ use yarnuskel_host::answerer;
 use yarnuskel_host::cases;
 use yarnuskel_host::flow::{self, Refusal};
 use yarnuskel_host::judge::{self, Lent};
-use yarnuskel_host::sides::{NO_ORIGINAL, NO_STATES};
+use yarnuskel_host::sides::{NO_LIBRARY, NO_ORIGINAL};
 
 #[test]
 fn masks_and_live_sets_are_the_originals() {
@@ -19,7 +19,7 @@ fn masks_and_live_sets_are_the_originals() {
         }
         match judge::proved_outcome(&file, lent) {
             Some(outcome) => assert!(outcome == right.outcome, "{name} by the proved call"),
-            None => println!("{NO_STATES}"),
+            None => println!("{NO_LIBRARY}"),
         }
     }
 }

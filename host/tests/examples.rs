@@ -3,7 +3,7 @@
 use std::path::{Path, PathBuf};
 
 use yarnuskel_host::judge::{self, Lent};
-use yarnuskel_host::sides::{NO_ORIGINAL, NO_STATES};
+use yarnuskel_host::sides::{NO_LIBRARY, NO_ORIGINAL};
 use yarnuskel_host::{cases, flow, text};
 
 fn examples() -> PathBuf {
@@ -67,7 +67,7 @@ fn answered_as_they_say() {
         }
         match judge::proved_outcome(&file, lent) {
             Some(outcome) => assert!(outcome == right.outcome, "{name} by the proved call"),
-            None => println!("{NO_STATES}"),
+            None => println!("{NO_LIBRARY}"),
         }
     }
 }

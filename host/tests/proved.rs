@@ -1,13 +1,13 @@
 //! The proved library beside the stored answers, the original and the reference answerer. Without
-//! its archives each test says so in a line and passes.
+//! its archive each test says so in a line and passes.
 
 use std::path::{Path, PathBuf};
 use std::process::{Command, Stdio};
 
 use yarnuskel_host::answerer;
 use yarnuskel_host::judge::{self, Comparison, Lent};
-use yarnuskel_host::sides::{self, NO_READER, NO_STATES};
-use yarnuskel_host::{bench, cases, listing, store};
+use yarnuskel_host::sides::{self, NO_LIBRARY};
+use yarnuskel_host::{bench, cases, listing, stack, store};
 
 const SEED: u64 = 2;
 
@@ -30,14 +30,14 @@ fn stored_answers_by_the_proved_reader() {
     for (number, stored) in stored().iter().enumerate() {
         match judge::reader_agrees(&stored.file, stored.outcome.answer) {
             Some(agrees) => assert!(agrees, "stored case {number}"),
-            None => return println!("{NO_READER}"),
+            None => return println!("{NO_LIBRARY}"),
         }
     }
 }
 
 #[test]
 fn random_files_by_the_proved_reader() {
-    no_differences(20_000, judge::compare_reader(20_000, SEED), NO_READER);
+    no_differences(20_000, judge::compare_reader(20_000, SEED), NO_LIBRARY);
 }
 
 #[test]
@@ -45,14 +45,14 @@ fn stored_answers_by_the_proved_call() {
     for (number, stored) in stored().iter().enumerate() {
         match judge::proved_outcome(&stored.file, stored.lent) {
             Some(outcome) => assert!(outcome == stored.outcome, "stored case {number}"),
-            None => return println!("{NO_STATES}"),
+            None => return println!("{NO_LIBRARY}"),
         }
     }
 }
 
 #[test]
 fn random_files_by_the_proved_call() {
-    no_differences(20_000, judge::compare_proved(20_000, SEED), NO_STATES);
+    no_differences(20_000, judge::compare_proved(20_000, SEED), NO_LIBRARY);
 }
 
 /// The flows of the benchmark are at the limits of size.
@@ -63,26 +63,27 @@ fn large_flows_by_the_proved_call() {
         let lent = Lent::for_file(&file, 1);
         match judge::proved_outcome(&file, lent) {
             Some(outcome) => assert!(outcome == judge::outcome(&file, lent, None), "{name}"),
-            None => return println!("{NO_STATES}"),
+            None => return println!("{NO_LIBRARY}"),
         }
     }
 }
 
-/// No proof speaks of the machine stack: the deepest nest of subroutines in a thread of 1 MiB.
+/// No proof speaks of the machine stack: the deepest nest of subroutines, in both orders of the file.
 #[test]
-fn deepest_nest_in_a_small_thread() {
-    let flow = bench::deep_chain(2_048);
-    let file = flow.bytes();
-    let lent = Lent::for_file(&file, 0);
-    let call = move || judge::proved_outcome(&file, lent);
-    let thread = std::thread::Builder::new().stack_size(1 << 20).spawn(call).unwrap();
-    match thread.join().unwrap() {
-        Some(outcome) => assert_eq!(outcome.areas.masks, answerer::states(&flow, None).masks),
-        None => println!("{NO_STATES}"),
+fn deepest_nests_in_a_small_thread() {
+    for order in stack::ORDERS {
+        let flow = stack::nest(order, stack::DEEPEST);
+        match stack::outcome_in(stack::STACK, &flow) {
+            Some(outcome) => {
+                assert_eq!(outcome.answer.number, 0, "{order:?}");
+                assert_eq!(outcome.areas.masks, answerer::states(&flow, None).masks, "{order:?}");
+            }
+            None => return println!("{NO_LIBRARY}"),
+        }
     }
 }
 
-#[cfg(proved_states)]
+#[cfg(proved)]
 #[test]
 fn the_wrapper_sizes_its_areas() {
     use yarnuskel_host::{door, generate};
@@ -119,14 +120,14 @@ fn example_text(worked: &cases::Worked) -> String {
 #[test]
 fn example_programs() {
     if sides::proved_states(&[], &mut Lent::for_file(&[], 0).areas()).is_none() {
-        return println!("{NO_STATES}");
+        return println!("{NO_LIBRARY}");
     }
     let built = std::env::current_exe().unwrap();
     let rust = built.parent().unwrap().with_file_name("examples").join("states");
     let c = std::env::temp_dir().join(format!("yarnuskel-states-{}", std::process::id()));
     let mut cc = Command::new("cc");
     cc.arg("-I").arg(root().join("include")).arg(root().join("examples/states.c"));
-    cc.arg(root().join("target/staticlib/libdataflow.a")).arg("-o").arg(&c);
+    cc.arg(root().join("target/staticlib/libyarnuskel.a")).arg("-o").arg(&c);
     assert!(cc.status().unwrap().success());
     for worked in cases::worked() {
         let file = root().join("examples").join(format!("{}.flow", worked.name));

@@ -27,32 +27,47 @@ fn no_promise_rests_on_an_internal_contract() {
     let inside: Vec<_> = list.lines().filter(|line| line.contains("/contracts/")).collect();
     assert!(inside.is_empty(), "{inside:?}");
     assert!(
-        list.contains("`Promise`") && list.contains("`fileChecks`"),
+        list.contains("`Door`") && list.contains("`verdictNumber`"),
         "the doors' contracts were not found"
     );
 }
 
-fn definitions(folder: &Path, out: &mut Vec<PathBuf>) {
+fn below(folder: &Path, extension: &str, out: &mut Vec<PathBuf>) {
     for path in fs::read_dir(folder).unwrap().map(|entry| entry.unwrap().path()) {
         if path.is_dir() {
-            definitions(&path, out);
-        } else if path.extension().is_some_and(|e| e == "antt") {
+            below(&path, extension, out);
+        } else if path.extension().is_some_and(|e| e == extension) {
             out.push(path);
         }
     }
 }
 
-#[test]
-fn no_definition_cites_a_proof() {
+/// The files of one folder of every crate.
+fn of_crates(folder: &str, extension: &str) -> Vec<PathBuf> {
     let mut files = Vec::new();
     for entry in fs::read_dir(root().join("crates")).unwrap() {
-        let specs = entry.unwrap().path().join("specs");
-        if specs.is_dir() {
-            definitions(&specs, &mut files);
+        let inside = entry.unwrap().path().join(folder);
+        if inside.is_dir() {
+            below(&inside, extension, &mut files);
         }
     }
-    assert!(files.len() > 20, "the definitions were not found");
-    for file in files {
+    assert!(files.len() > 20, "the {extension} files of {folder} were not found");
+    files
+}
+
+/// The list starts from the doors of crates/yarnuskel, so a door elsewhere would be left out of it.
+#[test]
+fn every_door_is_in_one_crate() {
+    let doors = root().join("crates/yarnuskel");
+    for file in of_crates("src", "rt").iter().filter(|file| !file.starts_with(&doors)) {
+        let text = fs::read_to_string(file).unwrap();
+        assert!(!text.contains("#[no_mangle]"), "{} exports a function", file.display());
+    }
+}
+
+#[test]
+fn no_definition_cites_a_proof() {
+    for file in of_crates("specs", "antt") {
         let text = fs::read_to_string(&file).unwrap();
         let cites = text.lines().find(|line| line.contains("use ") && line.contains(".proofs."));
         assert!(cites.is_none(), "{}: {}", file.display(), cites.unwrap());

@@ -9,9 +9,12 @@ use mathlib.Core.Path.{_≡_, refl, sym, ap, _∙_, subst}
 use native.Mathlib.Decide.{decLt, ℕ-discrete}
 use native.Mathlib.Omega.{arith}
 use borrow.Author.Tests.{eqb-true, eqb-false}
+use lib.Bits.{bitOr}
+use lib.Dec.{eqb}
 use lib.ListN.{length, set}
 use Rattle.words.specs.contracts.Row.{bit, nextMember}
 use Rattle.words.proofs.NextMember.{first}
+use Rattle.words.proofs.Bit.{bit-or, bit-lt}
 use Rattle.flow.specs.Flow.{Flow, Kind, size}
 use Rattle.theory.specs.Lists as lists
 use Rattle.theory.specs.Lists.{In, any}
@@ -25,7 +28,7 @@ use Rattle.theory.proofs.Transparent.{Transparent, transparent-opaque, callee-t
 use Rattle.statements.specs.contracts.Layout.{bodiesAt, touchedAt, matrixAt, rowAt}
 use Rattle.statements.specs.contracts.Ready.{MembersWord}
 use Rattle.calls.specs.contracts.Held.{unentered, opened, transparent, opaque, EmptyRow, WalkRow}
-use Rattle.calls.specs.contracts.Summing.{body, call, touchedBy, callTouchedBy, summaryState, Within, Holds, BodyState, CallState, Summing, OnwardBut, Onward, Leads, Referred, CallJoined, BodySummed, CallSummed}
+use Rattle.calls.specs.contracts.Summing.{body, call, touchedBy, callTouchedBy, summaryState, Within, Holds, BodyState, CallState, Summing, OnwardBut, Onward, Leads, WalkPassed, BodySummed, CallSummed}
 use Rattle.calls.proofs.Summing.{joined-has, onward-refl, onward-trans, onward-but, onward-all, walk-low, onward-touched, summing-touched, body-set, body-other, onward-body, summing-body, rows-set, walk-kept}
 
 -- Members of a word
@@ -148,9 +151,9 @@ pub record BodyLoop (f : Flow) (ws₀ ws : List ℕ) (n e : ℕ) (found-opaque :
   pub member : i < n → Walks f e i
 
 -- to the next statement of the walk
-pub body-next : {f : Flow} {ws₀ ws : List ℕ} {n e from : ℕ} {found-opaque : Bool} → e < n → from ≤ n → PassedBelow f ws₀ ws n e found-opaque from → {base i : ℕ} → base ≡ rowAt n e → i ≡ nextMember ws base from n
+pub body-next : {f : Flow} {ws₀ ws : List ℕ} {n e from : ℕ} {found-opaque : Bool} → e < n → from ≤ n → PassedBelow f ws₀ ws n e found-opaque from → {i : ℕ} → i ≡ nextMember ws (rowAt n e) from n
     → BodyLoop f ws₀ ws n e found-opaque i
-body-next {f} {ws₀} {ws} {n} {e} {from} {found-opaque} le l p {base} {i} q is = record {
+body-next {f} {ws₀} {ws} {n} {e} {from} {found-opaque} le l p {i} is = record {
   below = record {
     summing = p .summing;
     onward = p .onward;
@@ -158,22 +161,19 @@ body-next {f} {ws₀} {ws} {n} {e} {from} {found-opaque} le l p {base} {i} q is 
     passed = λ j h r z. passed j h r z (decLt j from);
     found = p .found;
   };
-  high = rw is′ (is-first .high);
-  member = λ h. row .sound i h (rw is′ (is-first .member (rw is′ at h)));
+  high = rw is (is-first .high);
+  member = λ h. row .sound i h (rw is (is-first .member (rw is at h)));
 }
   where
     row : WalkRow f ws n e
     row = open-row (p .is-open) (p .summing .bodies e le)
-
-    is′ : i ≡ nextMember ws (rowAt n e) from n
-    is′ = is ∙ ap (λ b. nextMember ws b from n) q
 
     is-first : Rattle.words.specs.contracts.Row.First ws (rowAt n e) from n (nextMember ws (rowAt n e) from n)
     is-first = first ws (rowAt n e) from n l
 
     passed : (j : ℕ) → j < i → Walks f e j → found-opaque ≡ false → Dec (j < from) → Passed f ws n e j
     passed j h r z (yes k) = p .passed j k r z
-    passed j h r z (no k) = absurd (let w : j < nextMember ws (rowAt n e) from n = rw is′ at h in omega (arith, is-first .none j (omega (arith, k)) w, row .complete j r))
+    passed j h r z (no k) = absurd (let w : j < nextMember ws (rowAt n e) from n = rw is at h in omega (arith, is-first .none j (omega (arith, k)) w, row .complete j r))
 
 pub next-low : (ws : List ℕ) (base : ℕ) {from n i : ℕ} → from ≤ n → i ≡ nextMember ws base from n → from ≤ i
 next-low ws base {from} {n} l q = rw q (first ws base from n l .low)
@@ -208,40 +208,60 @@ module _ {f : Flow} {n : ℕ} (w : WellFormed f) (sz : size f ≡ n) where
       go : OpaqueCall f i → theory.opaque f e ≡ true
       go (OpaqueCall.enters-opaque m o) = opaque-complete w (low le) (Opaque.calls (Calls.calls r m) o)
 
-  -- the references of a statement on the walk are noted
-  module _ {ws vs : List ℕ} {e i : ℕ} (s : Summing f ws n) (room : matrixAt n ≤ length ws) (le : e < n) (r : Walks f e i) (j : Referred f ws vs n e i) where
-    pub referred-summing : Summing f vs n
-    referred-summing = rw (j .slice) (summing-touched w sz s room le (j .word) (own-within le r (j .set)))
+  -- a statement on the walk is passed by
+  module _ {ws vs : List ℕ} {e i : ℕ} {found-opaque : Bool} (s : Summing f ws n) (room : matrixAt n ≤ length ws) (le : e < n) (li : i < n) (r : Walks f e i) (j : WalkPassed f ws vs n e i found-opaque) where
+    word : ℕ
+    word = bitOr (j .own) (callTouchedBy ws n i)
 
-    pub referred-onward : Onward ws vs n
-    referred-onward = rw (j .slice) (onward-touched w sz s room le (j .word))
+    within : Within word (touches f e)
+    unfolding word
+    within a l h = go (ℕ-discrete (bit (j .own) a) 1)
+      where
+        go : Dec (bit (j .own) a ≡ 1) → touches f e a ≡ true
+        go (yes q) = own-within le r (j .set) a l q
+        go (no d) = call-touches a le r (s .callTouched i li a l (omega (arith, bit-or (j .own) (callTouchedBy ws n i) a, bit-lt (j .own) a, bit-lt (callTouchedBy ws n i) a, d, h)))
 
-    pub referred-own : Holds (touchedBy vs n e) (λ a. lists.elem a (references f i))
-    referred-own a l h = rw (j .slice) (joined-has ws (touchedAt n + e) (j .word) a (omega arith) (true-member (j .set) l h))
+    pub walk-summing : Summing f vs n
+    unfolding word
+    walk-summing = rw (j .slice) (summing-touched w sz s room le word within)
 
-  -- a turn: the references of i, the summary of i, and what i touches as a call
-  module _ {ws₀ ws us vs zs : List ℕ} {e i : ℕ} {before wiped found-opaque : Bool} (room : matrixAt n ≤ length ws) (le : e < n) (li : i < n) (r : Walks f e i)
-      (p : PassedBelow f ws₀ ws n e before i) (j : Referred f ws us n e i) (k : CallSummed f us vs n i) (q : wiped ≡ wipes (kind f i)) (z : CallJoined vs zs n e i found-opaque) where
-    room-then : matrixAt n ≤ length vs
-    room-then = omega (arith, room, referred-onward (p .summing) room le r j .keeps .size, k .onward .keeps .size)
+    pub walk-onward : Onward ws vs n
+    unfolding word
+    walk-onward = rw (j .slice) (onward-touched w sz s room le word)
 
-    onward-here : Onward us zs n
-    onward-here = onward-trans (k .onward) (rw (z .slice) (onward-touched w sz (k .summing) room-then le (callTouchedBy vs n i)))
+    joins : (a : ℕ) → bit word a ≡ 1 → bit (touchedBy vs n e) a ≡ 1
+    unfolding word
+    joins a h = rw (j .slice) (joined-has ws (touchedAt n + e) word a (omega arith) h)
 
-    onward-turn : Onward ws zs n
-    onward-turn = onward-trans (referred-onward (p .summing) room le r j) onward-here
+    pub walk-own : Holds (touchedBy vs n e) (λ a. lists.elem a (references f i))
+    unfolding word
+    walk-own a l h = joins a (omega (arith, bit-or (j .own) (callTouchedBy ws n i) a, bit-lt (callTouchedBy ws n i) a, true-member (j .set) l h))
 
-    here : found-opaque ≡ false → wiped ≡ false → Passed f zs n e i
-    here h g =
-        let c = none-opaque-there (k .done) (eqb-false (call vs n i) opaque (sym (z .state) ∙ h)) (k .summing .calls i li) in
+    walk-nested : (a : ℕ) → bit (callTouchedBy ws n i) a ≡ 1 → bit (touchedBy vs n e) a ≡ 1
+    unfolding word
+    walk-nested a h = joins a (omega (arith, bit-or (j .own) (callTouchedBy ws n i) a, bit-lt (j .own) a, h))
+
+  -- a turn: the summary of i, and i is passed by
+  module _ {ws₀ ws us vs : List ℕ} {e i : ℕ} {before found-opaque : Bool} (room : matrixAt n ≤ length ws) (le : e < n) (li : i < n) (r : Walks f e i)
+      (p : PassedBelow f ws₀ ws n e before i) (k : CallSummed f ws us n i) (j : WalkPassed f us vs n e i found-opaque) where
+    room-then : matrixAt n ≤ length us
+    room-then = omega (arith, room, k .onward .keeps .size)
+
+    onward-turn : Onward ws vs n
+    onward-turn = onward-trans (k .onward) (walk-onward (k .summing) room-then le li r j)
+
+    here : found-opaque ≡ false → Passed f vs n e i
+    here h =
+        let q = sym (j .state) ∙ h in
+        let c = none-opaque-there (k .done) (eqb-false (call us n i) opaque (or-first (eqb (call us n i) opaque) (wipes (kind f i)) q)) (k .summing .calls i li) in
         record {
-          keeps = sym q ∙ g;
+          keeps = or-second (eqb (call us n i) opaque) (wipes (kind f i)) q;
           call = c .call;
-          own = λ a l t. onward-here .touched e a le (referred-own (p .summing) room le r j a l t);
-          nested = λ a l t. rw (z .slice) (joined-has vs (touchedAt n + e) (callTouchedBy vs n i) a (omega (arith, room-then)) (c .touched a l t));
+          own = walk-own (k .summing) room-then le li r j;
+          nested = λ a l t. walk-nested (k .summing) room-then le li r j a (c .touched a l t);
         }
 
-    further : {x : ℕ} → Passed f ws n e x → Passed f zs n e x
+    further : {x : ℕ} → Passed f ws n e x → Passed f vs n e x
     further t = record {
       keeps = t .keeps;
       call = t .call;
@@ -249,18 +269,23 @@ module _ {f : Flow} {n : ℕ} (w : WellFormed f) (sz : size f ≡ n) where
       nested = λ a l h. onward-turn .touched e a le (t .nested a l h);
     }
 
-    pub body-turn : PassedBelow f ws₀ zs n e ((before || wiped) || found-opaque) (i + 1)
+    hides : found-opaque ≡ true → theory.opaque f e ≡ true
+    hides h =
+        ⊎-elim (λ o. call-hides le r (opaque-there (eqb-true (call us n i) opaque o) (k .summing .calls i li))) (λ o. opaque-complete w (low le) (Opaque.own r o))
+        (or-cases (eqb (call us n i) opaque) (wipes (kind f i)) (sym (j .state) ∙ h))
+
+    pub body-turn : PassedBelow f ws₀ vs n e (before || found-opaque) (i + 1)
     body-turn = record {
-      summing = rw (z .slice) (summing-touched w sz (k .summing) room-then le (callTouchedBy vs n i) (λ a l h. call-touches a le r (k .summing .callTouched i li a l h)));
+      summing = walk-summing (k .summing) room-then le li r j;
       onward = onward-trans (p .onward) onward-turn;
       is-open = onward-turn .still-open e le (λ x. omega arith) (p .is-open);
       passed = λ x l t h. passed x l t h (ℕ-discrete x i);
-      found = λ h. ⊎-elim (λ g. ⊎-elim (p .found) (λ o. opaque-complete w (low le) (Opaque.own r (sym q ∙ o))) (or-cases before wiped g)) (λ g. call-hides le r (opaque-there (eqb-true (call vs n i) opaque (sym (z .state) ∙ g)) (k .summing .calls i li))) (or-cases (before || wiped) found-opaque h);
+      found = λ h. ⊎-elim (p .found) hides (or-cases before found-opaque h);
     }
       where
-        passed : (x : ℕ) → x < i + 1 → Walks f e x → ((before || wiped) || found-opaque) ≡ false → Dec (x ≡ i) → Passed f zs n e x
-        passed x l t h (yes y) = subst (λ y. Passed f zs n e y) (sym y) (here (or-second (before || wiped) found-opaque h) (or-second before wiped (or-first (before || wiped) found-opaque h)))
-        passed x l t h (no d) = further (p .passed x (omega (arith, d)) t (or-first before wiped (or-first (before || wiped) found-opaque h)))
+        passed : (x : ℕ) → x < i + 1 → Walks f e x → (before || found-opaque) ≡ false → Dec (x ≡ i) → Passed f vs n e x
+        passed x l t h (yes y) = subst (λ y. Passed f vs n e y) (sym y) (here (or-second before found-opaque h))
+        passed x l t h (no d) = further (p .passed x (omega (arith, d)) t (or-first before found-opaque h))
 
   -- the walk is passed by: the body is summaryState
   module _ {ws₀ ws : List ℕ} {e i : ℕ} {found-opaque : Bool} (room : matrixAt n ≤ length ws) (le : e < n) (p : PassedBelow f ws₀ ws n e found-opaque i) (end : n ≤ i) where
@@ -306,8 +331,8 @@ module _ {f : Flow} {n : ℕ} (w : WellFormed f) (sz : size f ≡ n) where
         not-open = summary-state-not found-opaque opened (λ x. omega arith) (λ x. omega arith)
 
   -- a RETURN touches what it references and calls nothing
-  module _ {ws vs : List ℕ} {e : ℕ} (s : Summing f ws n) (room : matrixAt n ≤ length ws) (le : e < n) (was : body ws n e ≡ unentered) (ret : isReturn (kind f e) ≡ true)
-      (j : Referred f ws vs n e e) where
+  module _ {ws vs : List ℕ} {e : ℕ} {found-opaque : Bool} (s : Summing f ws n) (room : matrixAt n ≤ length ws) (le : e < n) (was : body ws n e ≡ unentered) (ret : isReturn (kind f e) ≡ true)
+      (j : WalkPassed f ws vs n e e found-opaque) where
     no-call : {c b : ℕ} → Walks f e c → In b (callees f c) → ⊥
     no-call {c} {b} r m =
         List·Memᴰ·not-nil (subst (λ l. In b l) (no-callees f e (return-ordinary (kind f e) ret)) (subst (λ x. In b (callees f x)) (return-stays f ret r) m))
@@ -326,15 +351,15 @@ module _ {f : Flow} {n : ℕ} (w : WellFormed f) (sz : size f ≡ n) where
         go x q (Touches.nested (Calls.calls {c = c} r m) t) = absurd (no-call (subst (λ y. Walks f y c) q r) m)
 
     vs-summing : Summing f vs n
-    vs-summing = referred-summing s room le Reach.here j
+    vs-summing = walk-summing s room le le Reach.here j
 
     return-room : matrixAt n ≤ length vs
-    return-room = omega (arith, room, referred-onward s room le Reach.here j .keeps .size)
+    return-room = omega (arith, room, walk-onward s room le le Reach.here j .keeps .size)
 
     pub return-done : BodySummed f ws (set vs (bodiesAt n + e) transparent) n e
     return-done = record {
       summing = summing-body w sz vs-summing return-room le transparent (λ x. omega arith) (BodyState.is-transparent is (transparent-opaque return-transparent) holds (λ h. clash (isReturn (kind f e)) ret h));
-      onward = onward-all (onward-trans (onward-but e (referred-onward s room le Reach.here j)) (onward-body w sz vs-summing return-room le transparent)) was (λ x. omega (arith, is, x)) (λ x. omega (arith, is, x));
+      onward = onward-all (onward-trans (onward-but e (walk-onward s room le le Reach.here j)) (onward-body w sz vs-summing return-room le transparent)) was (λ x. omega (arith, is, x)) (λ x. omega (arith, is, x));
       done = λ x. omega (arith, is, x);
     }
       where
@@ -344,4 +369,4 @@ module _ {f : Flow} {n : ℕ} (w : WellFormed f) (sz : size f ≡ n) where
         holds : Holds (touchedBy (set vs (bodiesAt n + e) transparent) n e) (touches f e)
         holds a l t =
             ap (λ x. bit x a) (body-other w sz vs-summing return-room le transparent (touchedAt n + e) (λ q. omega arith))
-            ∙ referred-own s room le Reach.here j a l (return-touches a (touches-sound f e a t))
+            ∙ walk-own s room le le Reach.here j a l (return-touches a (touches-sound f e a t))

@@ -12,13 +12,13 @@ use Rattle.words.specs.contracts.Row.{has}
 use Rattle.flow.specs.Flow.{Flow}
 use Rattle.theory.specs.Lists as lists
 use Rattle.theory.specs.Body.{entered}
-use Rattle.statements.specs.contracts.Layout.{callsAt, rowAt, rowWords, enteredRowAt, solverAt}
+use Rattle.statements.specs.contracts.Layout.{callsAt, rowAt, rowWords}
 use Rattle.statements.specs.contracts.Ready.{Keeps}
 use Rattle.statements.proofs.WorkArea.{member-word, row-from, row-fits, rows-apart}
 use Rattle.statements.proofs.Keeps.{keeps-refl, keeps-trans, keeps-widen, keeps-has}
-use Rattle.calls.specs.contracts.Held.{EmptyEntered, transparent}
+use Rattle.calls.specs.contracts.Held.{EmptyRow, transparent}
 use Rattle.calls.specs.contracts.Joins.{Adds, Notes}
-use Rattle.calls.proofs.Joined.{row-stays, adds-all}
+use Rattle.calls.proofs.Joined.{adds-all}
 
 pub notes-none : {f : Flow} {ws : List ℕ} {n : ℕ} (lo : ℕ) → Notes f ws ws n lo lo
 notes-none lo = record { kept = keeps-refl; noted = λ c j a b l q. absurd (omega arith); others = λ e j l m h. refl }
@@ -45,22 +45,21 @@ notes-then {f} {ws} {vs} {us} {n} {lo} {m} {hi} low high top x y = record {
     go c j a b l q (yes d) = y .others c j (omega arith) l (λ p r s. absurd (omega arith)) ∙ x .noted c j a d l q
     go c j a b l q (no d) = y .noted c j (omega (arith, d)) b l (state c (omega arith) ∙ q)
 
--- the row of entered statements is zeroed, gains those of the transparent call i, and becomes its row
-pub notes-row : {f : Flow} {ws us vs ts : List ℕ} {n i : ℕ} → i < n → getD ws (callsAt n + i) 0 ≡ transparent
-    → EmptyEntered us n → Keeps (enteredRowAt n) (solverAt n) ws us → Adds us vs n (entered f i)
-    → ((j : ℕ) → j < n → has ts (rowAt n i) j ≡ has vs (enteredRowAt n) j) → Keeps (rowAt n i) (rowAt n i + rowWords n) vs ts → Notes f ws ts n i (i + 1)
-notes-row {f} {ws} {us} {vs} {ts} {n} {i} l is empty zeroed adds copied k = record {
-  kept = keeps-trans (keeps-widen (omega (arith, row-from n n)) (omega arith) before) (keeps-widen (row-from n i) (omega (arith, row-fits n l)) k);
-  noted = λ c j a b lj q. subst (λ (x : ℕ). has ts (rowAt n x) j ≡ cond (lists.elem j (entered f x)) 1 0) (omega arith) (copied j lj ∙ adds-all empty adds j lj);
-  others = λ e j le lj h. apart e j lj (λ same. h (omega arith) (omega arith) (subst (λ (x : ℕ). getD ws (callsAt n + x) 0 ≡ transparent) (sym same) is)) ∙ row-stays before le lj;
+-- the row of the transparent call i is zeroed, and gains the statements that the call enters
+pub notes-row : {f : Flow} {ws us vs : List ℕ} {n i : ℕ} → i < n → getD ws (callsAt n + i) 0 ≡ transparent → EmptyRow us n i
+    → Keeps (rowAt n i) (rowAt n i + rowWords n) ws us → Adds (rowAt n i) us vs n (entered f i) → Notes f ws vs n i (i + 1)
+notes-row {f} {ws} {us} {vs} {n} {i} l is empty zeroed adds = record {
+  kept = keeps-widen (row-from n i) (omega (arith, row-fits n l)) k;
+  noted = λ c j a b lj q. subst (λ (x : ℕ). has vs (rowAt n x) j ≡ cond (lists.elem j (entered f x)) 1 0) (omega arith) (adds-all empty adds j lj);
+  others = λ e j le lj h. apart e j lj (λ same. h (omega arith) (omega arith) (subst (λ (x : ℕ). getD ws (callsAt n + x) 0 ≡ transparent) (sym same) is));
 }
   where
-    before : Keeps (enteredRowAt n) (solverAt n) ws vs
-    before = keeps-trans zeroed (adds .kept)
+    k : Keeps (rowAt n i) (rowAt n i + rowWords n) ws vs
+    k = keeps-trans zeroed (adds .kept)
 
-    apart : (e j : ℕ) → j < n → e ≢ i → has ts (rowAt n e) j ≡ has vs (rowAt n e) j
+    apart : (e j : ℕ) → j < n → e ≢ i → has vs (rowAt n e) j ≡ has ws (rowAt n e) j
     apart e j lj other = go (decLt e i)
       where
-        go : Dec (e < i) → has ts (rowAt n e) j ≡ has vs (rowAt n e) j
+        go : Dec (e < i) → has vs (rowAt n e) j ≡ has ws (rowAt n e) j
         go (yes d) = keeps-has k (rowAt n e) j (λ a b. omega (arith, rows-apart n d, member-word lj))
         go (no d) = keeps-has k (rowAt n e) j (λ a b. omega (arith, rows-apart n {i = i} {j = e} (omega (arith, d, other)), member-word lj))

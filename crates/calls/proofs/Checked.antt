@@ -7,10 +7,11 @@ use mathlib.Core.Path.{_≡_, refl, ap, _∙_}
 use native.Mathlib.Omega.{arith}
 use lib.ListN.{length, getD}
 use Rattle.flow.specs.Limits.{maxFile}
+use Rattle.flow.specs.Flow.{size}
 use Rattle.flow.specs.declared.StmtId.{StmtId}
 use Rattle.flow.specs.declared.Continuation as C
 use Rattle.flow.specs.declared.LineEntry as E
-use Rattle.flow.specs.contracts.Answers.{FitRecord}
+use Rattle.flow.specs.contracts.Answers.{FitFile, FitRecord}
 use Rattle.records.specs.contracts.Fields.{callLineCount, callLineAt, continuationTo, lineEntryOf}
 use Rattle.flow.specs.Format.{flowOf, statementsOf, recordPlace, successorCount, successorAt}
 use Rattle.records.proofs.Files.{limited, record-fit}
@@ -23,10 +24,11 @@ use Rattle.theory.specs.Body.{kind, callLines, successors, walkNext}
 use Rattle.theory.proofs.Body.{walkNext-below}
 use Rattle.theory.proofs.Lists.{getD-In}
 use Rattle.statements.specs.contracts.Layout as layout
-use Rattle.statements.specs.contracts.Layout.{rowAt, rowWords, queueAt, solverAt}
+use Rattle.statements.specs.contracts.Layout.{rowAt, rowWords, queueAt}
 use Rattle.statements.specs.contracts.Ready.{Ready}
 use Rattle.statements.proofs.Keeps.{ready-formed, ready-below, ready-room}
-use Rattle.statements.proofs.WorkArea.{member-word, row-words-le, row-fits}
+use Rattle.statements.proofs.WellFormed.{well-formed}
+use Rattle.statements.proofs.WorkArea.{member-word, row-fits}
 
 module _ {s ws : List ℕ} {n : ℕ} (r : Ready s ws n) where
   pub ready-next : (i j : ℕ) → In j (walkNext (flowOf s) i) → j < n
@@ -64,15 +66,9 @@ module _ {s ws : List ℕ} {n : ℕ} (r : Ready s ws n) where
     pub matrix-room : queueAt n ≤ length ws
     matrix-room = omega (arith, ready-room r (omega arith))
 
-    pub entered-room : solverAt n ≤ length ws
-    entered-room = omega (arith, ready-room r (omega arith))
-
     -- the row of entered statements
     pub members-room : layout.enteredRowAt n + (n + 63) / 64 ≤ length ws
     members-room = omega (arith, ready-room r (omega arith))
-
-    pub entered-word : layout.enteredRowAt n + i / 64 < length ws
-    entered-word = omega (arith, member-word l, row-words-le n, ready-room r (omega arith))
 
 -- What a continuation and an entered statement are told as
 
@@ -92,5 +88,9 @@ pub enters-nothing : (o : Option ℕ) → lineEntryOf o ≡ E.the-variants.Nothi
 enters-nothing none e = refl
 enters-nothing (some t) e = let z : _≡_ {A = ℕ} 0 1 = cc in absurd (omega arith)
 
-pub successor-below : {s ws : List ℕ} {n : ℕ} → Ready s ws n → (i k : ℕ) → k < length (successors (flowOf s) i) → getD (successors (flowOf s) i) k 0 < n
-successor-below {s} r i k h = ready-below r (ready-formed r .successor i (getD (successors (flowOf s) i) k 0) (getD-In (successors (flowOf s) i) k 0 h))
+pub successor-below : {s : List ℕ} → FitFile s → (i k : ℕ) → k < length (successors (flowOf s) i) → getD (successors (flowOf s) i) k 0 < size (flowOf s)
+successor-below {s} h i k l = well-formed h .successor i (getD (successors (flowOf s) i) k 0) (getD-In (successors (flowOf s) i) k 0 l)
+
+-- where the number of statements was read again
+pub ready-again : {s ws : List ℕ} {n : ℕ} → n ≡ statementsOf s → Ready s ws (statementsOf s) → Ready s ws n
+ready-again e r = rw e r

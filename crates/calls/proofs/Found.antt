@@ -20,15 +20,16 @@ use Rattle.flow.specs.declared.Base.{Base}
 use Rattle.flow.specs.declared.Base.the-variants.{Zero, N}
 use Rattle.flow.specs.Flow.{Flow, size, enters}
 use Rattle.theory.specs.Lists.{any, elem, upTo}
-use Rattle.theory.specs.Body.{kind, successors, callLines, continuationOf, entered, isReturn, opaqueCall}
+use Rattle.theory.specs.Body.{kind, successors, callLines, continuationOf, entered, opaqueCall}
 use Rattle.theory.specs.Doubled.{Node, Edge, at, plain, number, numberIn, sameNode, returnsTo}
 use Rattle.theory.proofs.Lists.{same-test, or-second, says-one, length-upTo}
 use Rattle.theory.proofs.Edges.{node-same}
-use Rattle.statements.specs.contracts.Layout.{callsAt, enteredRowAt}
-use Rattle.calls.specs.contracts.Held.{EnteredIs, Linked, transparent, opaque}
-use Rattle.calls.specs.contracts.Slots.{edgeTo, ifEntered, otherSlots, callSlots, returnSlots, listedSlots, slotsOf, slots, edgeFrom, memberEdge}
+use Rattle.statements.specs.contracts.Layout.{callsAt}
+use Rattle.calls.specs.contracts.Held.{Linked, transparent, opaque}
+use Rattle.calls.specs.contracts.Slots.{edgeTo, ifEntered, otherSlots, callSlots, returnSlots, listedSlots, edgeFrom, memberEdge}
+use Rattle.calls.specs.contracts.Class.{CallOf}
+use Rattle.calls.specs.declared.edges.Call.{Call}
 use Rattle.calls.specs.declared.Edge as E
-use Rattle.calls.proofs.BodySummary.{return-ordinary}
 
 abbrev pub to : Flow → Node → Bool → ℕ → E.Edge
 to f v c next = E.the-variants.To (record { 0 = number f v }) c next
@@ -182,25 +183,6 @@ return-edge f r c ws base h = go (decLt c (size f))
     go (yes l) = member-from f r ws base h (size f - c) c (omega arith)
     go (no l) = let d : size f - c ≡ 0 = omega (arith, l) in rw d (none-left f r ws base h c (omega (arith, l)))
 
--- Which slots a statement has
-
-module _ (f : Flow) (b : Base) (i : ℕ) where
-  pub slots-return : isReturn (kind f i) ≡ true → slots f (at b i) ≡ returnSlots f b i
-  unfolding slots slotsOf
-  slots-return h = rw (return-ordinary (kind f i) h, h) refl
-
-  pub slots-call : (k : ℕ) → continuationOf (kind f i) ≡ some k → opaqueCall f i ≡ false → slots f (at b i) ≡ callSlots f b i k
-  unfolding slots slotsOf
-  slots-call k e h = rw (e, h) refl
-
-  pub slots-listed : isReturn (kind f i) ≡ false → ((k : ℕ) → continuationOf (kind f i) ≡ some k → opaqueCall f i ≡ true) → slots f (at b i) ≡ listedSlots f b i
-  unfolding slots slotsOf
-  slots-listed h op = go (continuationOf (kind f i)) refl
-    where
-      go : (o : Option ℕ) → continuationOf (kind f i) ≡ o → slotsOf f b i (continuationOf (kind f i)) ≡ listedSlots f b i
-      go none e = rw (e, h) refl
-      go (some k) e = rw (e, op k e) refl
-
 -- The doubled numbers of copies, of n statements
 
 -- an edge to statement j of the copy
@@ -215,10 +197,12 @@ same-number {n} N e k l =
     (λ q. let same = eqb-true (n + e) (n + k) q in eq-eqb e k (omega arith))
     (λ q. let same = eqb-true e k q in eq-eqb (n + e) (n + k) (omega arith))
 
--- what is left out, by the row of entered statements
-pub left-out-is : (f : Flow) (ws : List ℕ) {n : ℕ} (i k s : ℕ) → EnteredIs f ws n i → s < n
-    → (eqb s k || eqb (row.has ws (enteredRowAt n) s) 1) ≡ (elem s (entered f i) || eqb s k)
-left-out-is f ws i k s r l = ap (λ (x : ℕ). eqb s k || eqb x 1) (r s l) ∙ ap (λ (b : Bool). eqb s k || b) (says-one (elem s (entered f i))) ∙ or-comm (eqb s k) (elem s (entered f i))
+-- what is left out, by the row of the call
+pub left-out-is : (f : Flow) (ws : List ℕ) {i : ℕ} {x : Call} (s : ℕ) → CallOf f ws i x → s < size f
+    → (eqb s (x .continuation .0) || eqb (row.has ws (x .row) s) 1) ≡ (elem s (entered f i) || eqb s (x .continuation .0))
+left-out-is f ws {i} {x} s r l =
+    let k = x .continuation .0 in
+    ap (λ (y : ℕ). eqb s k || eqb y 1) (r .entered s l) ∙ ap (λ (b : Bool). eqb s k || b) (says-one (elem s (entered f i))) ∙ or-comm (eqb s k) (elem s (entered f i))
 
 -- the state of a call as its summary says it
 

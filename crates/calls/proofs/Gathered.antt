@@ -1,7 +1,7 @@
 -- Where the RETURNs of a call's bodies go, gathered member by member of the row that the walks were joined in, and call by call.
 -- Each step adds what its part gives, so that the whole is what the definitions say.
 use Prim.Native.Nat.{ℕ, _+_, _≤_, _<_, max}
-use mathlib.Core.Bool.{Bool, true, false, cond, _&&_, _||_, or-false, and-comm, and-false, and-or-distrib-right}
+use mathlib.Core.Bool.{Bool, true, false, cond, not, _&&_, _||_, or-false, and-comm, and-false, and-or-distrib-right}
 use mathlib.Core.List.{List, [], _∷_, _++_, append-nil}
 use mathlib.Core.Option.{Option, none, some}
 use mathlib.Core.Path.{_≡_, refl, sym, _∙_, ap, subst}
@@ -20,15 +20,15 @@ use Rattle.theory.specs.Reach.{Reach}
 use Rattle.theory.specs.Body.{kind, continuationOf, isReturn, entered, callees, walked, opaqueCall, callTouches}
 use Rattle.theory.specs.contracts.WellFormed.{WellFormed}
 use Rattle.theory.specs.Doubled.{returnsTo, isSome}
-use Rattle.theory.proofs.Lists.{same-test, not-so, eqb-sym, says-one, any-append, In-elem, elem-In, elem-not, elem-append, concatMap-append}
+use Rattle.theory.proofs.Lists.{clash, same-test, not-so, eqb-sym, says-one, any-append, In-elem, elem-In, elem-not, elem-append, concatMap-append}
 use Rattle.theory.proofs.Body.{entered-below, walked-sound, walked-complete}
 use Rattle.statements.specs.contracts.Layout.{callsAt, callTouchedAt, matrixAt, rowAt, queueAt, enteredRowAt, solverAt}
 use Rattle.statements.specs.contracts.Ready.{Keeps, MembersWord}
 use Rattle.statements.proofs.Keeps.{keeps-has}
 use Rattle.statements.proofs.Members.{first-as, members-none, members-next}
-use Rattle.calls.specs.contracts.Held.{WalkRow, EmptyEntered, CallSummaries, Summarized, Linked, transparent, opaque}
-use Rattle.calls.specs.contracts.Joins.{Joins, Adds, Notes, Summary, BodyRows, walks, fromReturn, fromEntered, fromBodies}
-use Rattle.calls.proofs.Joined.{joins-none, joins-then, joins-same, row-stays, adds-all}
+use Rattle.calls.specs.contracts.Held.{WalkRow, Empty, CallSummaries, Summarized, Linked, transparent, opaque}
+use Rattle.calls.specs.contracts.Joins.{Joins, Adds, Notes, Summary, BodyRows, bodyOf, bodiesOf, fromReturn, fromEntered, fromBodies}
+use Rattle.calls.proofs.Joined.{joins-none, joins-then, joins-same, row-stays, adds-same, adds-all}
 use Rattle.calls.proofs.Summing.{walk-low, walk-kept}
 use Rattle.calls.proofs.BodySummary.{return-stays, return-ordinary}
 
@@ -89,13 +89,19 @@ row-walked {f} {ws} {n} {e} w z l r i li = go (elem i (walked f e)) refl
 
 -- the walk of a RETURN is itself
 
-pub return-walk : {f : Flow} {e : ℕ} → WellFormed f → e < size f → isReturn (kind f e) ≡ true → (s : ℕ) → elem s (e ∷ []) ≡ elem s (walked f e)
+return-walk : {f : Flow} {e : ℕ} → WellFormed f → e < size f → isReturn (kind f e) ≡ true → (s : ℕ) → elem s (e ∷ []) ≡ elem s (walked f e)
 unfolding elem
 return-walk {f} {e} w l is s =
     or-false (eqb s e)
     ∙ same-test (eqb s e) (elem s (walked f e))
     (λ q. subst (λ (x : ℕ). elem x (walked f e) ≡ true) (sym (eqb-true s e q)) (In-elem (walked-complete w l Reach.here)))
     (λ q. eq-eqb s e (return-stays f is (walked-sound f e (elem-In s (walked f e) q))))
+
+-- a body that joins a row by itself, since no walk is asked for or its walk is itself
+pub adds-alone : {f : Flow} {ws vs : List ℕ} {n to e : ℕ} (whole ret : Bool) → (whole && not ret) ≡ false → WellFormed f → e < size f → ret ≡ isReturn (kind f e) → Adds to ws vs n (e ∷ []) → Adds to ws vs n (bodyOf f whole e)
+adds-alone false ret h w l is a = a
+adds-alone true true h w l is a = adds-same a (return-walk w l (sym is))
+adds-alone true false h w l is a = clash true refl h
 
 -- rows of walks stay where their members do
 
@@ -105,34 +111,34 @@ rows-kept c w z js rs b m other =
     let l = subst (λ x. b < x) z (entered-below w c b m) in
     walk-kept (walk-low w z l) (λ i li. js .others b i l li other) (rs b m other)
 
-pub rows-stay : {f : Flow} {ws vs : List ℕ} {n : ℕ} (c : ℕ) → WellFormed f → size f ≡ n → Keeps (enteredRowAt n) (solverAt n) ws vs
-    → BodyRows f ws n c → BodyRows f vs n c
-rows-stay c w z k rs b m other =
+pub rows-stay : {f : Flow} {ws vs : List ℕ} {n lo hi : ℕ} (c : ℕ) → WellFormed f → size f ≡ n → Keeps lo hi ws vs → queueAt n ≤ lo → BodyRows f ws n c → BodyRows f vs n c
+rows-stay c w z k h rs b m other =
     let l = subst (λ x. b < x) z (entered-below w c b m) in
-    walk-kept (walk-low w z l) (λ i li. row-stays k l li) (rs b m other)
+    walk-kept (walk-low w z l) (λ i li. row-stays k h l li) (rs b m other)
 
--- the walks of the bodies that the call enters
+-- what the bodies that the call enters add to a row
 module _ (f : Flow) where
-  pub walks-none : walks f [] ≡ []
+  pub bodies-append : (whole : Bool) (xs ys : List ℕ) → bodiesOf f whole (xs ++ ys) ≡ bodiesOf f whole xs ++ bodiesOf f whole ys
+  bodies-append whole = concatMap-append (bodyOf f whole)
+
+  pub bodies-one : (whole : Bool) (b : ℕ) → bodiesOf f whole (b ∷ []) ≡ bodyOf f whole b
   unfolding concatMap
-  walks-none = refl
+  bodies-one whole b = append-nil (bodyOf f whole b)
 
-  pub walks-append : (xs ys : List ℕ) → walks f (xs ++ ys) ≡ walks f xs ++ walks f ys
-  walks-append = concatMap-append (walked f)
-
-  pub walks-one : (b : ℕ) → walks f (b ∷ []) ≡ walked f b
+  pub bodies-alone : (bs : List ℕ) → bodiesOf f false bs ≡ bs
   unfolding concatMap
-  walks-one b = append-nil (walked f b)
+  bodies-alone [] = refl
+  bodies-alone (b ∷ bs) = ap (λ (xs : List ℕ). b ∷ xs) (bodies-alone bs)
 
-  elem-walks : (s : ℕ) (bs : List ℕ) → elem s (walks f bs) ≡ any (λ e. elem s (walked f e)) bs
+  elem-walks : (s : ℕ) (bs : List ℕ) → elem s (bodiesOf f true bs) ≡ any (λ e. elem s (walked f e)) bs
   unfolding concatMap any elem
   elem-walks s [] = refl
-  elem-walks s (b ∷ bs) = elem-append s (walked f b) (walks f bs) ∙ ap (λ (t : Bool). elem s (walked f b) || t) (elem-walks s bs)
+  elem-walks s (b ∷ bs) = elem-append s (walked f b) (bodiesOf f true bs) ∙ ap (λ (t : Bool). elem s (walked f b) || t) (elem-walks s bs)
 
   -- once the row has the bodies' walks and no more, its RETURNs are those of the bodies
-  pub bodies-noted : {ws us vs : List ℕ} {n : ℕ} (k : ℕ) (bs : List ℕ) → EmptyEntered ws n → Adds ws us n (walks f bs)
+  pub bodies-noted : {ws us vs : List ℕ} {n : ℕ} (k : ℕ) (bs : List ℕ) → Empty ws n (enteredRowAt n) → Adds (enteredRowAt n) ws us n (bodiesOf f true bs)
       → Joins f us vs n (queueAt n) (fromEntered us n k) → Joins f us vs n (queueAt n) (fromBodies f bs k)
-  bodies-noted k bs empty a js = joins-same js (λ s j ls lj is. ap (λ (t : Bool). t && eqb j k) (ap (λ (x : ℕ). eqb x 1) (adds-all empty a s ls) ∙ says-one (elem s (walks f bs)) ∙ elem-walks s bs))
+  bodies-noted k bs empty a js = joins-same js (λ s j ls lj is. ap (λ (t : Bool). t && eqb j k) (ap (λ (x : ℕ). eqb x 1) (adds-all empty a s ls) ∙ says-one (elem s (bodiesOf f true bs)) ∙ elem-walks s bs))
 
 -- Call by call
 

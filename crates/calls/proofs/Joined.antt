@@ -1,15 +1,15 @@
 -- Laws of `Joins`, what noting changes in the rows of RETURNs: nothing, one insertion, one change after another, and the same test in other words;
--- and of `Adds`, the same for the row of entered statements. By the laws of rows.
+-- and of `Adds`, the same for a row that bodies are joined to. By the laws of rows.
 use Prim.Native.Nat.{ℕ, _+_, _/_, _≤_, _<_, max}
 use mathlib.Core.Bool.{Bool, true, false, cond, _&&_, _||_, or-false}
 use mathlib.Core.List.{List, [], _∷_, _++_}
-use mathlib.Core.Path.{_≡_, refl, sym, _∙_, ap, subst}
+use mathlib.Core.Path.{_≡_, refl, sym, _∙_, ap, ap₂, subst}
 use native.Mathlib.Omega.{arith}
 use borrow.Author.Tests.{eqb-true, eqb-false}
 use lib.Dec.{eqb}
 use lib.ListN.{length}
 use Rattle.words.specs.contracts.Row.{has}
-use Rattle.words.specs.contracts.Change.{Inserted, inserted, Unioned}
+use Rattle.words.specs.contracts.Change.{Inserted, inserted, Unioned, unioned}
 use Rattle.words.proofs.Row.{has-lt}
 use Rattle.words.proofs.Inserted.{insert-same, insert-other}
 use Rattle.words.proofs.Unioned.{unioned-has}
@@ -19,10 +19,10 @@ use Rattle.theory.specs.Body.{kind, isReturn}
 use Rattle.theory.proofs.Lists.{clash, not-so, elem-append}
 use Rattle.statements.specs.contracts.Layout.{rowAt, rowWords, queueAt, enteredRowAt, solverAt}
 use Rattle.statements.specs.contracts.Ready.{Keeps}
-use Rattle.statements.proofs.WorkArea.{member-word, row-holds, row-words-le, row-from, row-fits, insert-row}
+use Rattle.statements.proofs.WorkArea.{member-word, row-holds, row-from, row-fits, insert-row}
 use Rattle.statements.proofs.Keeps.{keeps-refl, keeps-trans, keeps-widen, keeps-has, keeps-inserted, keeps-unioned}
-use Rattle.calls.specs.contracts.Held.{EmptyEntered}
-use Rattle.calls.specs.contracts.Joins.{Joins, Adds, fromReturn}
+use Rattle.calls.specs.contracts.Held.{Empty}
+use Rattle.calls.specs.contracts.Joins.{Joins, Adds, Target, fromReturn}
 
 max-or : (a : ℕ) (p q : Bool) → max (max a (cond p 1 0)) (cond q 1 0) ≡ max a (cond (p || q) 1 0)
 max-or a true true = omega arith
@@ -38,9 +38,9 @@ inserted-bit ws base i l j = go (eqb j i) refl
     go true e = rw (eqb-true j i e) (insert-same ws base i l ∙ omega (arith, has-lt ws base i))
     go false e = insert-other ws base i j l (eqb-false j i e) ∙ omega arith
 
--- a change of the row of entered statements leaves the rows of the matrix
-pub row-stays : {ws vs : List ℕ} {n e i : ℕ} → Keeps (enteredRowAt n) (solverAt n) ws vs → e < n → i < n → has vs (rowAt n e) i ≡ has ws (rowAt n e) i
-row-stays {n = n} {e = e} {i = i} a l m = keeps-has a (rowAt n e) i (λ x y. omega (arith, row-fits n l, member-word m))
+-- a change above the matrix leaves its rows
+pub row-stays : {ws vs : List ℕ} {n lo hi e i : ℕ} → Keeps lo hi ws vs → queueAt n ≤ lo → e < n → i < n → has vs (rowAt n e) i ≡ has ws (rowAt n e) i
+row-stays {n = n} {e = e} {i = i} a h l m = keeps-has a (rowAt n e) i (λ x y. omega (arith, row-fits n l, member-word m))
 
 pub joins-none : {f : Flow} {ws : List ℕ} {n hi : ℕ} → Joins f ws ws n hi (λ r k. false)
 joins-none = record { kept = keeps-refl; others = λ e i l m h. refl; joined = λ r k l m h. omega arith }
@@ -89,58 +89,54 @@ pub joins-after : {f : Flow} {ws vs us : List ℕ} {n : ℕ} {q : ℕ → ℕ �
     → Joins f ws us n (solverAt n) q
 joins-after {ws = ws} {vs = vs} {n = n} {q = q} a js = record {
   kept = keeps-trans (keeps-widen (omega (arith, row-from n n)) (omega arith) a) (keeps-widen (omega arith) (omega arith) (js .kept));
-  others = λ e i l m h. js .others e i l m h ∙ row-stays a l m;
-  joined = λ r k l m h. js .joined r k l m h ∙ ap (λ (x : ℕ). max x (cond (q r k) 1 0)) (row-stays a l m);
+  others = λ e i l m h. js .others e i l m h ∙ row-stays a (omega arith) l m;
+  joined = λ r k l m h. js .joined r k l m h ∙ ap (λ (x : ℕ). max x (cond (q r k) 1 0)) (row-stays a (omega arith) l m);
 }
 
--- The row of entered statements
+-- A row that bodies are joined to
 
-pub adds-none : {ws : List ℕ} {n : ℕ} → Adds ws ws n []
-unfolding lists.elem
-adds-none = record { kept = keeps-refl; joined = λ j l. omega arith }
+module _ {to : ℕ} where
+  pub adds-none : {ws : List ℕ} {n : ℕ} → Adds to ws ws n []
+  unfolding lists.elem
+  adds-none = record { kept = keeps-refl; joined = λ j l. omega arith }
 
-pub adds-then : {ws vs us : List ℕ} {n : ℕ} {xs ys : List ℕ} → Adds ws vs n xs → Adds vs us n ys → Adds ws us n (xs ++ ys)
-adds-then {ws} {n = n} {xs = xs} {ys = ys} a b = record {
-  kept = keeps-trans (a .kept) (b .kept);
-  joined = λ j l.
-      b .joined j l ∙ ap (λ (x : ℕ). max x (cond (lists.elem j ys) 1 0)) (a .joined j l)
-      ∙ max-or (has ws (enteredRowAt n) j) (lists.elem j xs) (lists.elem j ys)
-      ∙ ap (λ (t : Bool). max (has ws (enteredRowAt n) j) (cond t 1 0)) (sym (elem-append j xs ys));
-}
+  pub adds-then : {ws vs us : List ℕ} {n : ℕ} {xs ys : List ℕ} → Adds to ws vs n xs → Adds to vs us n ys → Adds to ws us n (xs ++ ys)
+  adds-then {ws} {n = n} {xs = xs} {ys = ys} a b = record {
+    kept = keeps-trans (a .kept) (b .kept);
+    joined = λ j l.
+        b .joined j l ∙ ap (λ (x : ℕ). max x (cond (lists.elem j ys) 1 0)) (a .joined j l) ∙ max-or (has ws to j) (lists.elem j xs) (lists.elem j ys)
+        ∙ ap (λ (t : Bool). max (has ws to j) (cond t 1 0)) (sym (elem-append j xs ys));
+  }
 
-pub adds-insert : {ws vs : List ℕ} {n b : ℕ} {t : Bool} → Inserted ws vs (enteredRowAt n) b t → b < n → solverAt n ≤ length ws → Adds ws vs n (b ∷ [])
-unfolding lists.elem
-adds-insert {ws} {vs} {n} {b} i l room = subst (λ (us : List ℕ). Adds ws us n (b ∷ [])) (sym (i .slice)) (record {
-  kept = keeps-inserted ws (enteredRowAt n) b (omega arith) (omega (arith, member-word l, row-words-le n));
-  joined = λ j lj. inserted-bit ws (enteredRowAt n) b (omega (arith, member-word l, row-words-le n)) j
-      ∙ ap (λ (t : Bool). max (has ws (enteredRowAt n) j) (cond t 1 0)) (sym (or-false (eqb j b)));
-})
+  pub adds-insert : {ws vs : List ℕ} {n b : ℕ} {t : Bool} → Inserted ws vs to b t → b < n → to + rowWords n ≤ length ws → Adds to ws vs n (b ∷ [])
+  unfolding lists.elem
+  adds-insert {ws} {vs} {n} {b} i l room = subst (λ (us : List ℕ). Adds to ws us n (b ∷ [])) (sym (i .slice)) (record {
+    kept = keeps-inserted ws to b (omega arith) (omega (arith, member-word l));
+    joined = λ j lj. inserted-bit ws to b (omega (arith, member-word l)) j ∙ ap (λ (t : Bool). max (has ws to j) (cond t 1 0)) (sym (or-false (eqb j b)));
+  })
 
--- a union, its rows and their width in other words
-pub union-at : {ws vs : List ℕ} {to to′ from from′ width width′ : ℕ} {t : Bool} → to ≡ to′ → from ≡ from′ → width ≡ width′
-    → Unioned ws vs to from width t → Unioned ws vs to′ from′ width′ t
-union-at {ws} {vs} {to} {to′} {from} {from′} {width} {width′} {t} a b c u =
-    subst (λ (w : ℕ). Unioned ws vs to′ from′ w t) c (subst (λ (x : ℕ). Unioned ws vs to′ x width t) b (subst (λ (x : ℕ). Unioned ws vs x from width t) a u))
+  -- the row e of the matrix joins it
+  pub adds-union : {ws vs : List ℕ} {n e from width : ℕ} {t : Bool} (xs : List ℕ) → Unioned ws vs to from width t → from ≡ rowAt n e → width ≡ rowWords n → e < n → queueAt n ≤ to → to + rowWords n ≤ length ws
+      → ((j : ℕ) → j < n → has ws (rowAt n e) j ≡ cond (lists.elem j xs) 1 0) → Adds to ws vs n xs
+  adds-union {ws} {vs} {n} {e} xs u p q l apart room holds = subst (λ (us : List ℕ). Adds to ws us n xs) (sym (u .slice ∙ ap₂ (λ (x y : ℕ). unioned ws to x y) p q)) (record {
+    kept = keeps-unioned ws to (rowAt n e) (rowWords n) (omega arith) (omega arith);
+    joined = λ j lj.
+        unioned-has ws to (rowAt n e) (rowWords n) room (λ i k a b z. omega (arith, row-fits n l)) j (omega (arith, row-holds n))
+        ∙ ap (max (has ws to j)) (holds j lj);
+  })
 
--- the row e of the matrix joins it
-pub adds-union : {ws vs : List ℕ} {n e : ℕ} {t : Bool} (xs : List ℕ) → Unioned ws vs (enteredRowAt n) (rowAt n e) (rowWords n) t → e < n → solverAt n ≤ length ws
-    → ((j : ℕ) → j < n → has ws (rowAt n e) j ≡ cond (lists.elem j xs) 1 0) → Adds ws vs n xs
-adds-union {ws} {vs} {n} {e} xs u l room holds = subst (λ (us : List ℕ). Adds ws us n xs) (sym (u .slice)) (record {
-  kept = keeps-unioned ws (enteredRowAt n) (rowAt n e) (rowWords n) (omega arith) (omega (arith, row-words-le n));
-  joined = λ j lj.
-      unioned-has ws (enteredRowAt n) (rowAt n e) (rowWords n) (omega (arith, row-words-le n)) (λ i k a b q. omega (arith, row-fits n l)) j (omega (arith, row-holds n))
-      ∙ ap (max (has ws (enteredRowAt n) j)) (holds j lj);
-})
+  pub adds-same : {ws vs : List ℕ} {n : ℕ} {xs ys : List ℕ} → Adds to ws vs n xs → ((j : ℕ) → lists.elem j xs ≡ lists.elem j ys) → Adds to ws vs n ys
+  adds-same {ws} {n = n} a e = record {
+    kept = a .kept;
+    joined = λ j l. a .joined j l ∙ ap (λ (t : Bool). max (has ws to j) (cond t 1 0)) (e j);
+  }
 
-pub adds-same : {ws vs : List ℕ} {n : ℕ} {xs ys : List ℕ} → Adds ws vs n xs → ((j : ℕ) → lists.elem j xs ≡ lists.elem j ys) → Adds ws vs n ys
-adds-same {ws} {n = n} a e = record {
-  kept = a .kept;
-  joined = λ j l. a .joined j l ∙ ap (λ (t : Bool). max (has ws (enteredRowAt n) j) (cond t 1 0)) (e j);
-}
+  -- where the row was empty, it holds what was joined
+  pub adds-all : {ws vs : List ℕ} {n : ℕ} {xs : List ℕ} → Empty ws n to → Adds to ws vs n xs → (j : ℕ) → j < n → has vs to j ≡ cond (lists.elem j xs) 1 0
+  adds-all {xs = xs} empty a j l =
+      let t : ℕ = cond (lists.elem j xs) 1 0 in
+      let only : max 0 t ≡ t = omega arith in
+      a .joined j l ∙ ap (λ (x : ℕ). max x t) (empty j l) ∙ only
 
--- where the row was empty, it holds what was joined
-pub adds-all : {ws vs : List ℕ} {n : ℕ} {xs : List ℕ} → EmptyEntered ws n → Adds ws vs n xs → (j : ℕ) → j < n → has vs (enteredRowAt n) j ≡ cond (lists.elem j xs) 1 0
-adds-all {xs = xs} empty a j l =
-    let t : ℕ = cond (lists.elem j xs) 1 0 in
-    let only : max 0 t ≡ t = omega arith in
-    a .joined j l ∙ ap (λ (x : ℕ). max x t) (empty j l) ∙ only
+  pub adds-target : {ws vs : List ℕ} {n : ℕ} {xs : List ℕ} {whole : Bool} → Adds to ws vs n xs → Target ws n to whole → Target vs n to whole
+  adds-target a h = record { low = h .low; high = let z = a .kept .size in let r = h .high in omega arith; apart = h .apart }

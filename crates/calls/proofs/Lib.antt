@@ -7,6 +7,7 @@ pub mod Summaries
 pub mod Slots
 pub mod Cursor
 pub mod Found
+pub mod Classes
 pub mod Joined
 pub mod Lines
 pub mod CallRows

@@ -1,5 +1,5 @@
 -- The bodies that the lines of a call enter, line by line: one line more adds what it enters, and all lines enter what the call enters.
--- So it is with the row of entered statements, whatever an entered body adds to it. By the laws of lists and of `Adds`.
+-- So it is with a row that they are joined to, whatever an entered body adds to it. By the laws of lists and of `Adds`.
 use Prim.Native.Nat.{ℕ, _+_, _≤_, _<_}
 use mathlib.Core.List.{List, [], _∷_, _++_, append-nil}
 use mathlib.Core.Option.{Option, some}
@@ -38,22 +38,22 @@ unfolding entered
 entered-line f c l b h e =
     concatMap-In (λ x. optionList (enters f x)) (getD-In (callLines (kind f c)) l 0 h) (optionList-In (enters f (getD (callLines (kind f c)) l 0)) b e)
 
--- The row of entered statements, where g says what bodies add to it
+-- A row that bodies are joined to, where g says what they add to it
 
-module _ (g : List ℕ → List ℕ) where
-  pub adds-entered : (o : Option ℕ) {k : StmtId} {ws vs : List ℕ} {n : ℕ} → lineEntryOf o ≡ E.the-variants.At k → Adds ws vs n (g (k .0 ∷ [])) → Adds ws vs n (g (optionList o))
+module _ (g : List ℕ → List ℕ) {to : ℕ} where
+  pub adds-entered : (o : Option ℕ) {k : StmtId} {ws vs : List ℕ} {n : ℕ} → lineEntryOf o ≡ E.the-variants.At k → Adds to ws vs n (g (k .0 ∷ [])) → Adds to ws vs n (g (optionList o))
   unfolding optionList
-  adds-entered o {k} {ws} {vs} {n} e a = subst (λ (x : Option ℕ). Adds ws vs n (g (optionList x))) (sym (enters-at o k e)) a
+  adds-entered o {k} {ws} {vs} {n} e a = subst (λ (x : Option ℕ). Adds to ws vs n (g (optionList x))) (sym (enters-at o k e)) a
 
-  pub adds-nothing : (o : Option ℕ) {ws : List ℕ} {n : ℕ} → lineEntryOf o ≡ E.the-variants.Nothing → g [] ≡ [] → Adds ws ws n (g (optionList o))
+  pub adds-nothing : (o : Option ℕ) {ws : List ℕ} {n : ℕ} → lineEntryOf o ≡ E.the-variants.Nothing → g [] ≡ [] → Adds to ws ws n (g (optionList o))
   unfolding optionList
-  adds-nothing o {ws} {n} e none = subst (λ (x : Option ℕ). Adds ws ws n (g (optionList x))) (sym (enters-nothing o e)) (subst (λ (xs : List ℕ). Adds ws ws n xs) (sym none) adds-none)
+  adds-nothing o {ws} {n} e none = subst (λ (x : Option ℕ). Adds to ws ws n (g (optionList x))) (sym (enters-nothing o e)) (subst (λ (xs : List ℕ). Adds to ws ws n xs) (sym none) adds-none)
 
   pub adds-line : ((xs ys : List ℕ) → g (xs ++ ys) ≡ g xs ++ g ys) → (f : Flow) (ls : List ℕ) (l : ℕ) → l < length ls → {ws vs us : List ℕ} {n : ℕ}
-      → Adds ws vs n (g (enteredBy f (take l ls))) → Adds vs us n (g (optionList (enters f (getD ls l 0)))) → Adds ws us n (g (enteredBy f (take (l + 1) ls)))
+      → Adds to ws vs n (g (enteredBy f (take l ls))) → Adds to vs us n (g (optionList (enters f (getD ls l 0)))) → Adds to ws us n (g (enteredBy f (take (l + 1) ls)))
   adds-line splits f ls l h {ws} {us = us} {n = n} a b =
-      subst (λ (xs : List ℕ). Adds ws us n xs) (sym (splits (enteredBy f (take l ls)) (optionList (enters f (getD ls l 0)))) ∙ ap g (entered-more f ls l h)) (adds-then a b)
+      subst (λ (xs : List ℕ). Adds to ws us n xs) (sym (splits (enteredBy f (take l ls)) (optionList (enters f (getD ls l 0)))) ∙ ap g (entered-more f ls l h)) (adds-then a b)
 
   pub adds-lines : (f : Flow) (c l : ℕ) → length (callLines (kind f c)) ≤ l → {ws vs : List ℕ} {n : ℕ}
-      → Adds ws vs n (g (enteredBy f (take l (callLines (kind f c))))) → Adds ws vs n (g (entered f c))
-  adds-lines f c l h {ws} {vs} {n} a = subst (λ (bs : List ℕ). Adds ws vs n (g bs)) (entered-all f c l h) a
+      → Adds to ws vs n (g (enteredBy f (take l (callLines (kind f c))))) → Adds to ws vs n (g (entered f c))
+  adds-lines f c l h {ws} {vs} {n} a = subst (λ (bs : List ℕ). Adds to ws vs n (g bs)) (entered-all f c l h) a

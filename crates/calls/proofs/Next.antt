@@ -1,12 +1,12 @@
--- What holds of the edge that a cursor finds: its target is a doubled number, and it carries the touched step only where the summary says that the call is
--- transparent. By the slots of each kind of statement.
+-- What holds of the edge that a cursor finds: its target is a doubled number, and it carries the touched step only where the call is not opaque.
+-- By the slots of each kind of statement.
 use Prim.Native.Nat.{ℕ, zero, suc, _+_, _≤_, _<_}
 use mathlib.Core.Bool.{Bool, true, false, cond}
 use mathlib.Core.List.{List, [], _∷_, map, List·Memᴰ·head, List·Memᴰ·tail, List·Memᴰ·not-nil}
 use mathlib.Core.Option.{Option, none, some}
-use mathlib.Core.Path.{_≡_, refl, sym, _∙_, ap, subst}
+use mathlib.Core.Path.{_≡_, refl, sym, ap, subst}
 use native.Mathlib.Omega.{arith}
-use lib.ListN.{getD, drop}
+use lib.ListN.{drop}
 use Rattle.flow.specs.declared.Base.{Base}
 use Rattle.flow.specs.declared.Base.the-variants.{Zero, N}
 use Rattle.flow.specs.declared.NodeId.{NodeId}
@@ -15,14 +15,11 @@ use Rattle.theory.specs.Lists.{In, any, concatMap, optionList, select, upTo}
 use Rattle.theory.specs.Body.{kind, successors, continuationOf, isReturn, opaqueCall}
 use Rattle.theory.specs.contracts.WellFormed.{WellFormed}
 use Rattle.theory.specs.Doubled.{Node, Edge, at, plain, offset, returnsTo, returnEdges, listedEdges, edgesOf, edges}
-use Rattle.theory.proofs.Lists.{clash, In-map}
+use Rattle.theory.proofs.Lists.{In-map}
 use Rattle.theory.proofs.Edges.{edge-below}
-use Rattle.statements.specs.contracts.Layout.{callsAt}
-use Rattle.calls.specs.contracts.Held.{Linked, EnteredRow, transparent, opaque}
 use Rattle.calls.specs.contracts.Slots.{slots, present}
 use Rattle.calls.proofs.Slots.{slot-edge}
 use Rattle.calls.proofs.Cursor.{NextEdge}
-use Rattle.calls.proofs.Found.{call-opaque}
 
 -- a slot that is left is a slot
 left-In : {x : Edge} (c : ℕ) (xs : List (Option Edge)) → In x (present (drop c xs)) → In x (present xs)
@@ -63,20 +60,3 @@ none-continue f b i {x} (some k) h m = plain-only (at b) (successors f i) (rw (h
 pub plain-edge : (f : Flow) (v : Node) {x : Edge} → ((k : ℕ) → continuationOf (kind f (v .stmt)) ≡ some k → opaqueCall f (v .stmt) ≡ true) → In x (edges f v) → x .continues ≡ false
 unfolding edges
 plain-edge f v op m = none-continue f (v .base) (v .stmt) (continuationOf (kind f (v .stmt))) op m
-
--- where an edge carries the touched step, the call is transparent
-pub next-transparent : {f : Flow} {ws : List ℕ} {n : ℕ} (v : Node) {cursor : ℕ} {t : NodeId} {next : ℕ} → Linked f ws n → v .stmt < n → NextEdge f (slots f v) cursor t true next
-    → getD ws (callsAt n + v .stmt) 0 ≡ transparent
-next-transparent {f} {ws} {n} v h l x = go (continuationOf (kind f (v .stmt))) refl (opaqueCall f (v .stmt)) refl
-  where
-    still : ((k : ℕ) → continuationOf (kind f (v .stmt)) ≡ some k → opaqueCall f (v .stmt) ≡ true) → getD ws (callsAt n + v .stmt) 0 ≡ transparent
-    still op = clash (x .edge .continues) (sym (x .step)) (plain-edge f v op (next-edge v x))
-
-    go : (o : Option ℕ) → continuationOf (kind f (v .stmt)) ≡ o → (b : Bool) → opaqueCall f (v .stmt) ≡ b → getD ws (callsAt n + v .stmt) 0 ≡ transparent
-    go none e b q = still (λ k s. let z : _≡_ {A = ℕ} 0 1 = cc in absurd (omega arith))
-    go (some k) e true q = still (λ m s. q)
-    go (some k) e false q = h .calls .call (v .stmt) k l e ∙ ap (λ (t : Bool). cond t opaque transparent) q
-
--- a statement that is no transparent call needs no row of entered statements
-pub entered-vain : {f : Flow} {ws : List ℕ} {n i : ℕ} → Linked f ws n → i < n → (getD ws (callsAt n + i) 0 ≡ transparent → ⊥) → EnteredRow f ws n i
-entered-vain {f} {i = i} h l other = record { row = λ k e o. clash (opaqueCall f i) (call-opaque h l other e) o }

@@ -3,4 +3,5 @@ pub mod Held
 pub mod Walking
 pub mod Summing
 pub mod Slots
+pub mod Class
 pub mod Joins

@@ -1,127 +1,148 @@
-// The edges of a doubled number, in the paper's order, one after the other by a cursor.
-ghost use Prim.Native.Nat.{ℕ, _+_, _-_, _/_, _^_, _≤_, _<_};
-ghost use mathlib.Core.Bool.{false, _||_};
-ghost use mathlib.Core.Option.{some};
+// The edges of a doubled number, in the paper's order, one after the other by a cursor. What they are made from is read once, so that no
+// edge looks it up again.
+ghost use Prim.Native.Nat.{_+_, _-_, _/_, _≤_, _<_};
+ghost use mathlib.Core.Bool.{_||_};
 ghost use mathlib.Core.Path.{_≡_};
 ghost use lib.Dec.{eqb};
 ghost use lib.ListN.{length, getD, drop};
 ghost use Rattle.words.specs.contracts.Row.{has, nextMember};
 ghost use Rattle.flow.specs.Flow.{enters};
-ghost use Rattle.flow.specs.Limits.{maxStatements, workWords};
-ghost use Rattle.flow.specs.Format.{flowOf};
-ghost use Rattle.theory.specs.Lists.{optionList};
-ghost use Rattle.theory.specs.Body.{kind, callLines, continuationOf, entered};
+ghost use Rattle.flow.specs.Limits.{maxStatements};
+ghost use Rattle.flow.specs.Format.{flowOf, statementsOf};
+ghost use Rattle.flow.specs.contracts.Answers.{FitFile};
+ghost use Rattle.records.specs.contracts.Fields.{lineEntryOf};
+ghost use Rattle.theory.specs.Body.{kind, successors, callLines};
 ghost use Rattle.theory.specs.Doubled as theory;
-ghost use Rattle.statements.specs.contracts.Layout.{rowAt, rowWords, enteredRowAt, solverAt};
-ghost use Rattle.statements.specs.contracts.Ready.{Ready, Indexed, Keeps};
-ghost use Rattle.calls.specs.contracts.Held.{Linked, EnteredRow, EnteredIs, EmptyEntered};
+ghost use Rattle.statements.specs.contracts.Ready.{Ready, Indexed, RecordOf};
+ghost use Rattle.calls.specs.contracts.Held.{Linked};
 ghost use Rattle.calls.specs.contracts.Slots.{slots, listedSlots, callSlots, otherSlots, edgeFrom, memberEdge};
-ghost use Rattle.calls.specs.contracts.Joins.{Adds, Notes};
+ghost use Rattle.calls.specs.contracts.Class.{class, EdgesOf, CallOf};
 use crate::Edge;
 use crate::TRANSPARENT;
 use flow::Base;
+use flow::Continuation;
+use flow::KIND_RETURN;
+use flow::LineEntry;
 use flow::StmtId;
-use statements::doubled::copy_of;
 use statements::doubled::node;
 use statements::fields;
 use statements::layout;
 
-// Line l of statement i: the statement that it enters joins the row of entered statements.
-fn note_line(file: &[u8], h: flow::Header, work: &mut [u64], i: StmtId, l: usize)
-    requires { ⌜ Indexed (now file) h (now work) × (i .0 < h .statements) × (l < length (callLines (kind (flowOf (now file)) (i .0)))) ⌝ }
-    ensures { λ _. ⌜ Adds (now (work .entry)) (now (work .exit)) (h .statements) (optionList (enters (flowOf (now (file .entry))) (getD (callLines (kind (flowOf (now (file .entry))) (i .0))) l 0))) ⌝ }
+// A call that is not opaque: where it goes on, how many lines it names and successors it lists, and the place of its row of the matrix,
+// which holds the statements that it enters.
+pub struct Call {
+    pub continuation: StmtId,
+    pub lines: usize,
+    pub successors: usize,
+    pub row: usize,
+}
+
+pub enum EdgeClass {
+    // To the successors, of which there are so many.
+    Listed(usize),
+    // A RETURN in base 0: to the members of its row, which stands there.
+    Return(usize),
+    // A RETURN in base n.
+    Nowhere,
+    Call(Call),
+}
+
+// What the edges of that copy of the statement are made from. Its record stands at `place`.
+pub struct Edges {
+    pub base: Base,
+    pub stmt: StmtId,
+    pub place: usize,
+    pub class: EdgeClass,
+}
+
+// What the edges of that copy of statement i are, whose record stands at `place`.
+fn class_of(file: &[u8], work: &[u64], n: usize, base: Base, i: StmtId, place: usize) -> EdgeClass
+    requires { ⌜ Ready (now file) (now work) n × Linked (flowOf (now file)) (now work) n × (i .0 < n) × RecordOf (now file) (i .0) place ⌝ }
+    ensures { λ r. ⌜ r ≡ class (flowOf (now (file .entry))) (theory.at base (i .0)) ⌝ }
+{
+    let successors = records::successor_count(file, place);
+    if work[layout::calls(n) + i.0] == TRANSPARENT {
+        return match records::continuation(file, place) {
+            Continuation::To(k) => EdgeClass::Call(Call {
+                continuation: k,
+                lines: records::line_count(file, place),
+                successors: successors,
+                row: layout::row(n, i),
+            }),
+            // Never met: only a call with a continuation has a summary.
+            Continuation::None => EdgeClass::Listed(successors),
+        };
+    }
+    if records::kind(file, place) == KIND_RETURN {
+        return match base {
+            Base::Zero => EdgeClass::Return(layout::row(n, i)),
+            Base::N => EdgeClass::Nowhere,
+        };
+    }
+    EdgeClass::Listed(successors)
+}
+
+// What the edges of that copy of statement i are made from.
+pub fn edges_of(file: &[u8], h: flow::Header, work: &[u64], base: Base, i: StmtId) -> Edges
+    requires { ⌜ Indexed (now file) h (now work) × Linked (flowOf (now file)) (now work) (h .statements) × (i .0 < h .statements) ⌝ }
+    ensures { λ r. ⌜ (theory.at (r .base) (r .stmt .0) ≡ theory.at base (i .0)) × EdgesOf (now (file .entry)) r ⌝ }
 {
     let n = h.statements;
-    if let flow::LineEntry::At(b) = fields::entered(file, h, work, i, l) {
-        words::insert(work, layout::entered_row(n), b.0);
+    let place = fields::offset(file, work, n, i);
+    let class = class_of(file, work, n, base, i, place);
+    Edges {
+        base: base,
+        stmt: i,
+        place: place,
+        class: class,
     }
 }
 
-fn note_lines(file: &[u8], h: flow::Header, work: &mut [u64], i: StmtId)
-    requires { ⌜ Indexed (now file) h (now work) × (i .0 < h .statements) ⌝ }
-    ensures { λ _. ⌜ Adds (now (work .entry)) (now (work .exit)) (h .statements) (entered (flowOf (now (file .entry))) (i .0)) ⌝ }
+// The statement that line l of the call enters. Of a call that names one line it is the only member of the call's row, and no line is
+// looked up.
+fn line_entered(
+    file: &[u8],
+    h: flow::Header,
+    work: &[u64],
+    es: Edges,
+    call: Call,
+    l: usize,
+) -> LineEntry
+    requires { ⌜ Indexed (now file) h (now work) × EdgesOf (now file) es × CallOf (flowOf (now file)) (now work) (es .stmt .0) call × (l < call .lines) ⌝ }
+    ensures { λ r. ⌜ r ≡ lineEntryOf (enters (flowOf (now (file .entry))) (getD (callLines (kind (flowOf (now (file .entry))) (es .stmt .0))) l 0)) ⌝ }
 {
     let n = h.statements;
-    let count = fields::line_count(file, work, n, i);
-    let mut l = 0;
-    while l < count {
-        note_line(file, h, work, i, l);
-        l += 1;
+    if call.lines == 1 {
+        let b = words::next(work, call.row, 0, n);
+        if b < n {
+            return LineEntry::At(StmtId(b));
+        }
+        return LineEntry::Nothing;
     }
+    let lines_at = h.lines_at;
+    let lines = h.lines;
+    records::lines::line_entry(file, lines_at, lines, records::call_line(file, es.place, l))
 }
 
-pub fn zero_entered(work: &mut [u64], n: usize)
-    requires { ⌜ (0 < n) × (n ≤ maxStatements) × (workWords n ≤ length (now work)) ⌝ }
-    ensures { λ _. ⌜ EmptyEntered (now (work .exit)) n × Keeps (enteredRowAt n) (solverAt n) (now (work .entry)) (now (work .exit)) ⌝ }
-{
-    words::zero_row(work, layout::entered_row(n), layout::row_words(n));
-}
-
-// Row i of the matrix becomes the row of entered statements.
-fn copy_entered(work: &mut [u64], n: usize, i: StmtId)
-    requires { ⌜ (n ≤ maxStatements) × (solverAt n ≤ length (now work)) × (i .0 < n) ⌝ }
-    ensures { λ _. ⌜ ((j : ℕ) → j < n → has (now (work .exit)) (rowAt n (i .0)) j ≡ has (now (work .entry)) (enteredRowAt n) j) × Keeps (rowAt n (i .0)) (rowAt n (i .0) + rowWords n) (now (work .entry)) (now (work .exit)) ⌝ }
-{
-    let row = layout::row(n, i);
-    let width = layout::row_words(n);
-    words::zero_row(work, row, width);
-    words::union(work, row, layout::entered_row(n), width);
-}
-
-// Statement i, if it is a call that is not opaque.
-fn note_row(file: &[u8], h: flow::Header, work: &mut [u64], i: StmtId)
-    requires { ⌜ Indexed (now file) h (now work) × (i .0 < h .statements) ⌝ }
-    ensures { λ _. ⌜ Notes (flowOf (now (file .entry))) (now (work .entry)) (now (work .exit)) (h .statements) (i .0) (i .0 + 1) ⌝ }
-{
-    let n = h.statements;
-    if work[layout::calls(n) + i.0] != TRANSPARENT {
-        return;
-    }
-    zero_entered(work, n);
-    note_lines(file, h, work, i);
-    copy_entered(work, n, i);
-}
-
-// The statements that each call that is not opaque enters, in its row of the matrix: a visit then need not look up its lines.
-pub fn note_rows(file: &[u8], h: flow::Header, work: &mut [u64])
-    requires { ⌜ Indexed (now file) h (now work) ⌝ }
-    ensures { λ _. ⌜ Notes (flowOf (now (file .entry))) (now (work .entry)) (now (work .exit)) (h .statements) 0 (h .statements) ⌝ }
-{
-    let n = h.statements;
-    let mut i = 0;
-    while i < n {
-        note_row(file, h, work, StmtId(i));
-        i += 1;
-    }
-}
-
-// Sets the row of entered statements for statement i, which is empty.
-pub fn note_entered(file: &[u8], work: &mut [u64], n: usize, i: StmtId)
-    requires { ⌜ Ready (now file) (now work) n × Linked (flowOf (now file)) (now work) n × (i .0 < n) × EmptyEntered (now work) n ⌝ }
-    ensures { λ _. ⌜ EnteredRow (flowOf (now (file .entry))) (now (work .exit)) n (i .0) × Keeps (enteredRowAt n) (solverAt n) (now (work .entry)) (now (work .exit)) ⌝ }
-{
-    let row = layout::row(n, i);
-    words::union(work, layout::entered_row(n), row, layout::row_words(n));
-}
-
-// A call that is not opaque, with the continuation k: the entered statements, then the continuation, then the other successors.
+// The entered statements, then the continuation, then the other successors.
 fn call_edge(
     file: &[u8],
     h: flow::Header,
     work: &[u64],
-    base: Base,
-    i: StmtId,
-    k: StmtId,
+    es: Edges,
+    call: Call,
     cursor: usize,
 ) -> Edge
-    requires { ⌜ Indexed (now file) h (now work) × (i .0 < h .statements) × (continuationOf (kind (flowOf (now file)) (i .0)) ≡ some (k .0)) × EnteredIs (flowOf (now file)) (now work) (h .statements) (i .0) ⌝ }
-    ensures { λ r. ⌜ r ≡ edgeFrom (flowOf (now (file .entry))) (drop cursor (callSlots (flowOf (now (file .entry))) base (i .0) (k .0))) cursor ⌝ }
+    requires { ⌜ Indexed (now file) h (now work) × EdgesOf (now file) es × CallOf (flowOf (now file)) (now work) (es .stmt .0) call ⌝ }
+    ensures { λ r. ⌜ r ≡ edgeFrom (flowOf (now (file .entry))) (drop cursor (callSlots (flowOf (now (file .entry))) (es .base) (es .stmt .0) (call .continuation .0))) cursor ⌝ }
 {
     let n = h.statements;
-    let lines = fields::line_count(file, work, n, i);
+    let base = es.base;
+    let k = call.continuation;
+    let lines = call.lines;
     let mut c = cursor;
     while c < lines {
-        if let flow::LineEntry::At(b) = fields::entered(file, h, work, i, c) {
+        if let LineEntry::At(b) = line_entered(file, h, work, es, call, c) {
             let to = node(n, Base::N, b);
             let back = node(n, base, k);
             return Edge::To(to, to.0 == back.0, c + 1);
@@ -131,39 +152,32 @@ fn call_edge(
     if c == lines {
         return Edge::To(node(n, base, k), true, c + 1);
     }
-    other_edge(file, work, n, base, i, k, lines + 1, c)
+    other_edge(file, work, n, es, call, c)
 }
 
-// Whether the successor s of such a call is left out: it is the continuation, or entered.
-fn left_out(work: &[u64], n: usize, k: StmtId, s: StmtId) -> bool
-    requires { ⌜ (n ≤ maxStatements) × (solverAt n ≤ length (now work)) × (s .0 < n) ⌝ }
-    ensures { λ r. ⌜ r ≡ (eqb (s .0) (k .0) || eqb (has (now (work .entry)) (enteredRowAt n) (s .0)) 1) ⌝ }
+// Whether the successor s of a call is left out: it is the continuation, or entered.
+fn left_out(work: &[u64], call: Call, s: StmtId) -> bool
+    requires { ⌜ call .row + s .0 / 64 < length (now work) ⌝ }
+    ensures { λ r. ⌜ r ≡ (eqb (s .0) (call .continuation .0) || eqb (has (now (work .entry)) (call .row) (s .0)) 1) ⌝ }
 {
-    if s.0 == k.0 {
+    if s.0 == call.continuation.0 {
         return true;
     }
-    words::contains(work, layout::entered_row(n), s.0)
+    words::contains(work, call.row, s.0)
 }
 
-// The successors of such a call that are neither entered nor the continuation; they stand from the slot `first` on.
-fn other_edge(
-    file: &[u8],
-    work: &[u64],
-    n: usize,
-    base: Base,
-    i: StmtId,
-    k: StmtId,
-    first: usize,
-    cursor: usize,
-) -> Edge
-    requires { ⌜ Ready (now file) (now work) n × (i .0 < n) × EnteredIs (flowOf (now file)) (now work) n (i .0) × (first ≤ cursor) × (first < 2 ^ 32) ⌝ }
-    ensures { λ r. ⌜ r ≡ edgeFrom (flowOf (now (file .entry))) (drop (cursor - first) (otherSlots (flowOf (now (file .entry))) base (i .0) (k .0))) cursor ⌝ }
+// The successors of a call that are neither entered nor the continuation; their slots stand behind that of the continuation.
+fn other_edge(file: &[u8], work: &[u64], n: usize, es: Edges, call: Call, cursor: usize) -> Edge
+    requires { ⌜ Ready (now file) (now work) n × EdgesOf (now file) es × CallOf (flowOf (now file)) (now work) (es .stmt .0) call × (call .lines < cursor) ⌝ }
+    ensures { λ r. ⌜ r ≡ edgeFrom (flowOf (now (file .entry))) (drop (cursor - (call .lines + 1)) (otherSlots (flowOf (now (file .entry))) (es .base) (es .stmt .0) (call .continuation .0))) cursor ⌝ }
 {
-    let count = fields::successor_count(file, work, n, i);
+    let first = call.lines + 1;
+    let count = call.successors;
+    let base = es.base;
     let mut c = cursor;
     while c - first < count {
-        let j = fields::successor(file, work, n, i, c - first);
-        if !left_out(work, n, k, j) {
+        let j = records::successor(file, es.place, c - first);
+        if !left_out(work, call, j) {
             return Edge::To(node(n, base, j), false, c + 1);
         }
         c += 1;
@@ -183,47 +197,30 @@ fn member_edge(work: &[u64], row: usize, n: usize, cursor: usize) -> Edge
     Edge::End
 }
 
-fn listed_edge(file: &[u8], work: &[u64], n: usize, base: Base, i: StmtId, cursor: usize) -> Edge
-    requires { ⌜ Ready (now file) (now work) n × (i .0 < n) ⌝ }
-    ensures { λ r. ⌜ r ≡ edgeFrom (flowOf (now (file .entry))) (drop cursor (listedSlots (flowOf (now (file .entry))) base (i .0))) cursor ⌝ }
+// The next of so many successors.
+fn listed_edge(file: &[u8], n: usize, es: Edges, count: usize, cursor: usize) -> Edge
+    requires { ⌜ FitFile (now file) × (n ≡ statementsOf (now file)) × EdgesOf (now file) es × (count ≡ length (successors (flowOf (now file)) (es .stmt .0))) ⌝ }
+    ensures { λ r. ⌜ r ≡ edgeFrom (flowOf (now (file .entry))) (drop cursor (listedSlots (flowOf (now (file .entry))) (es .base) (es .stmt .0))) cursor ⌝ }
 {
-    if cursor < fields::successor_count(file, work, n, i) {
-        let j = fields::successor(file, work, n, i, cursor);
+    let base = es.base;
+    if cursor < count {
+        let j = records::successor(file, es.place, cursor);
         return Edge::To(node(n, base, j), false, cursor + 1);
     }
     Edge::End
 }
 
-// The next edge of that copy of statement i. RETURN goes on from base 0 only.
-fn edge_of(file: &[u8], h: flow::Header, work: &[u64], base: Base, i: StmtId, cursor: usize) -> Edge
-    requires { ⌜ Indexed (now file) h (now work) × Linked (flowOf (now file)) (now work) (h .statements) × (i .0 < h .statements) × EnteredRow (flowOf (now file)) (now work) (h .statements) (i .0) ⌝ }
-    ensures { λ r. ⌜ r ≡ edgeFrom (flowOf (now (file .entry))) (drop cursor (slots (flowOf (now (file .entry))) (theory.at base (i .0)))) cursor ⌝ }
+// The next edge at or after the cursor.
+pub fn edge(file: &[u8], h: flow::Header, work: &[u64], es: Edges, cursor: usize) -> Edge
+    requires { ⌜ Indexed (now file) h (now work) × Linked (flowOf (now file)) (now work) (h .statements) × EdgesOf (now file) es ⌝ }
+    ensures { λ r. ⌜ r ≡ edgeFrom (flowOf (now (file .entry))) (drop cursor (slots (flowOf (now (file .entry))) (theory.at (es .base) (es .stmt .0)))) cursor ⌝ }
 {
     let n = h.statements;
-    if fields::is_return(file, work, n, i) {
-        return match base {
-            Base::Zero => member_edge(work, layout::row(n, i), n, cursor),
-            Base::N => Edge::End,
-        };
+    let class = es.class;
+    match class {
+        EdgeClass::Listed(count) => listed_edge(file, n, es, count, cursor),
+        EdgeClass::Return(row) => member_edge(work, row, n, cursor),
+        EdgeClass::Nowhere => Edge::End,
+        EdgeClass::Call(call) => call_edge(file, h, work, es, call, cursor),
     }
-    if work[layout::calls(n) + i.0] != TRANSPARENT {
-        return listed_edge(file, work, n, base, i, cursor);
-    }
-    match fields::continuation(file, work, n, i) {
-        flow::Continuation::To(k) => call_edge(file, h, work, base, i, k, cursor),
-        // Never met: only a call with a continuation has a summary. What such a statement would do is what the definition says of it.
-        flow::Continuation::None => listed_edge(file, work, n, base, i, cursor),
-    }
-}
-
-// The next edge of d at or after the cursor.
-pub fn edge(file: &[u8], h: flow::Header, work: &[u64], d: flow::NodeId, cursor: usize) -> Edge
-    requires { ⌜ Indexed (now file) h (now work) × Linked (flowOf (now file)) (now work) (h .statements) × (d .0 < h .statements + h .statements) × EnteredRow (flowOf (now file)) (now work) (h .statements) (theory.node (flowOf (now file)) (d .0) .stmt) ⌝ }
-    ensures { λ r. ⌜ r ≡ edgeFrom (flowOf (now (file .entry))) (drop cursor (slots (flowOf (now (file .entry))) (theory.node (flowOf (now (file .entry))) (d .0)))) cursor ⌝ }
-{
-    let n = h.statements;
-    let copy = copy_of(n, d);
-    let base = copy.base;
-    let i = copy.stmt;
-    edge_of(file, h, work, base, i, cursor)
 }

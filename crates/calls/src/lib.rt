@@ -18,5 +18,6 @@ pub const OPAQUE: u64 = 3;
 
 pub mod edges;
 pub mod returns;
+mod rows;
 pub mod summary;
 pub mod walk;

@@ -2,62 +2,18 @@
 // walk meets it. A RETURN's own body walk is just itself, so its row is free for this. The walks of the bodies that a call enters
 // are first joined in the row of entered statements, so that a call goes through its RETURNs once, however many lines it names.
 ghost use Prim.Native.Nat.{_<_};
-ghost use lib.ListN.{length, getD};
-ghost use Rattle.flow.specs.Flow.{enters};
 ghost use Rattle.flow.specs.Format.{flowOf};
-ghost use Rattle.theory.specs.Lists.{optionList};
-ghost use Rattle.theory.specs.Body.{kind, callLines, entered, walked};
+ghost use Rattle.theory.specs.Body.{entered};
 ghost use Rattle.theory.specs.Doubled.{returnsTo};
 ghost use Rattle.statements.specs.contracts.Layout.{matrixAt, queueAt, solverAt};
 ghost use Rattle.statements.specs.contracts.Ready.{Ready, Indexed, Keeps};
 ghost use Rattle.calls.specs.contracts.Held.{Summarized, Linked};
-ghost use Rattle.calls.specs.contracts.Joins.{Joins, Adds, Summary, BodyRow, BodyRows, walks, fromReturn, fromEntered, fromBodies};
+ghost use Rattle.calls.specs.contracts.Joins.{Joins, Summary, BodyRows, fromReturn, fromEntered, fromBodies};
 use crate::OPAQUE;
-use crate::edges;
+use crate::rows;
 use flow::StmtId;
 use statements::fields;
 use statements::layout;
-
-// The walk of the body e joins the row of entered statements.
-fn join_walk(file: &[u8], work: &mut [u64], n: usize, e: StmtId)
-    requires { ⌜ Ready (now file) (now work) n × (e .0 < n) × BodyRow (flowOf (now file)) (now work) n (e .0) ⌝ }
-    ensures { λ _. ⌜ Adds (now (work .entry)) (now (work .exit)) n (walked (flowOf (now (file .entry))) (e .0)) ⌝ }
-{
-    if fields::is_return(file, work, n, e) {
-        words::insert(work, layout::entered_row(n), e.0);
-    } else {
-        words::union(
-            work,
-            layout::entered_row(n),
-            layout::row(n, e),
-            layout::row_words(n),
-        );
-    }
-}
-
-// Line l of the call c.
-fn join_line(file: &[u8], h: flow::Header, work: &mut [u64], c: StmtId, l: usize)
-    requires { ⌜ Indexed (now file) h (now work) × (c .0 < h .statements) × (l < length (callLines (kind (flowOf (now file)) (c .0)))) × BodyRows (flowOf (now file)) (now work) (h .statements) (c .0) ⌝ }
-    ensures { λ _. ⌜ Adds (now (work .entry)) (now (work .exit)) (h .statements) (walks (flowOf (now (file .entry))) (optionList (enters (flowOf (now (file .entry))) (getD (callLines (kind (flowOf (now (file .entry))) (c .0))) l 0)))) ⌝ }
-{
-    let n = h.statements;
-    if let flow::LineEntry::At(b) = fields::entered(file, h, work, c, l) {
-        join_walk(file, work, n, b);
-    }
-}
-
-fn join_lines(file: &[u8], h: flow::Header, work: &mut [u64], c: StmtId)
-    requires { ⌜ Indexed (now file) h (now work) × (c .0 < h .statements) × BodyRows (flowOf (now file)) (now work) (h .statements) (c .0) ⌝ }
-    ensures { λ _. ⌜ Adds (now (work .entry)) (now (work .exit)) (h .statements) (walks (flowOf (now (file .entry))) (entered (flowOf (now (file .entry))) (c .0))) ⌝ }
-{
-    let n = h.statements;
-    let count = fields::line_count(file, work, n, c);
-    let mut l = 0;
-    while l < count {
-        join_line(file, h, work, c, l);
-        l += 1;
-    }
-}
 
 fn note_return(file: &[u8], work: &mut [u64], n: usize, r: StmtId, k: StmtId)
     requires { ⌜ Ready (now file) (now work) n × (r .0 < n) × (k .0 < n) ⌝ }
@@ -87,8 +43,9 @@ fn note_bodies(file: &[u8], h: flow::Header, work: &mut [u64], c: StmtId, k: Stm
     ensures { λ _. ⌜ Joins (flowOf (now (file .entry))) (now (work .entry)) (now (work .exit)) (h .statements) (solverAt (h .statements)) (fromBodies (flowOf (now (file .entry))) (entered (flowOf (now (file .entry))) (c .0)) (k .0)) ⌝ }
 {
     let n = h.statements;
-    edges::zero_entered(work, n);
-    join_lines(file, h, work, c);
+    let row = layout::entered_row(n);
+    rows::zero_row(work, n, row);
+    rows::add_lines(file, h, work, row, c, true);
     note_members(file, work, n, k);
 }
 
@@ -120,5 +77,5 @@ pub fn note_edges(file: &[u8], h: flow::Header, work: &mut [u64])
         note_call(file, h, work, StmtId(c));
         c += 1;
     }
-    edges::note_rows(file, h, work);
+    rows::note_rows(file, h, work);
 }

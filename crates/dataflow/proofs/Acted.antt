@@ -1,30 +1,30 @@
--- The act of a statement on a row of masks: its references step, then its items with dimensions, then CLR and RUN step every array below the count.
+-- The act of a statement on a row of masks: its references step, then its items with dimensions; CLR and RUN step every array below the count.
 -- By the statement's kind; an array at or above the count is named by no reference and no item.
-use Prim.Native.Nat.{ℕ, _≤_, _<_}
-use mathlib.Core.Bool.{Bool, true, false, cond, _&&_}
+use Prim.Native.Nat.{ℕ, _*_, _≤_, _<_}
+use mathlib.Core.Bool.{Bool, true, false, cond}
 use mathlib.Core.List.{List, [], _∷_, _++_}
-use mathlib.Core.Path.{_≡_, refl, sym, ap, ap₂, subst, _∙_}
+use mathlib.Core.Path.{_≡_, refl, sym, ap, subst, _∙_}
 use native.Mathlib.Decide.{decLt}
 use native.Mathlib.Omega.{arith}
 use borrow.Author.Tests.{lt-ltb, le-ltb, eqb-true}
 use lib.Dec.{eqb, ltb}
+use lib.ListN.{length, getD}
 use Rattle.masks.specs.declared.Effect.{Effect}
 use Rattle.masks.specs.declared.Effect.the-variants.{Reference, Dim, Reset}
 use Rattle.masks.specs.Step.{stepOf}
-use Rattle.flow.specs.Flow.{Flow, Kind, items}
+use Rattle.flow.specs.Flow.{Flow, Kind, Item, items}
 use Rattle.theory.specs.Lists.{any, elem}
 use Rattle.theory.specs.Body.{kind, references}
 use Rattle.theory.specs.Doubled.{dims, resets, kindEffects, statementEffects}
 use Rattle.theory.specs.Queue.{stepAll}
 use Rattle.theory.specs.contracts.WellFormed.{WellFormed}
 use Rattle.theory.proofs.Lists.{clash, not-so, elem-In, any-find, and-both}
-use Rattle.words.specs.contracts.Row as bits
-use Rattle.words.specs.contracts.Byte.{byteAt}
-use Rattle.flow.specs.Limits.{maxArrays}
-use Rattle.statements.proofs.Keeps.{keeps-has}
-use Rattle.solve.specs.contracts.Rows.{RowIs, stepWhere, memberBelow}
-use Rattle.solve.proofs.RowChanges.{row-as, row-step}
-use Rattle.dataflow.specs.contracts.Transfer.{acted}
+use Rattle.statements.specs.contracts.Ready.{Keeps}
+use Rattle.solve.specs.contracts.Layout.{setRow, outRow, backRow, maskRowAt}
+use Rattle.solve.specs.contracts.Rows.{stepWhere}
+use Rattle.solve.specs.contracts.Pushed.{masksAt}
+use Rattle.solve.proofs.Room.{row-first}
+use Rattle.dataflow.specs.contracts.Transfer.{acted, RowSteps, Acted}
 
 pub stepAll-append : (es fs : List Effect) (m : ℕ) → stepAll (es ++ fs) m ≡ stepAll fs (stepAll es m)
 unfolding stepAll
@@ -106,42 +106,54 @@ module _ {f : Flow} (wf : WellFormed f) (i : ℕ) (m : ℕ → ℕ) (a : ℕ) wh
       at (yes l) = rw (lt-ltb a (f .arrays) l) (within e ∙ sym effects)
       at (no l) = rw (le-ltb a (f .arrays) (omega (arith, l))) (beyond l)
 
-  acted-resets : resets (kind f i) ≡ true → stepWhere (λ b. ltb b (f .arrays)) Reset (stepped f i m) a ≡ acted (f .arrays) (statementEffects f i) m a
+  acted-resets : resets (kind f i) ≡ true → cond (ltb a (f .arrays)) 1 (m a) ≡ acted (f .arrays) (statementEffects f i) m a
   unfolding acted stepWhere
   acted-resets e = at (decLt a (f .arrays))
     where
-      at : Dec (a < f .arrays) → cond (ltb a (f .arrays)) 1 (stepped f i m a) ≡ cond (ltb a (f .arrays)) (stepAll (statementEffects f i a) (m a)) (m a)
+      at : Dec (a < f .arrays) → cond (ltb a (f .arrays)) 1 (m a) ≡ cond (ltb a (f .arrays)) (stepAll (statementEffects f i a) (m a)) (m a)
       at (yes l) = rw (lt-ltb a (f .arrays) l) (kind-resets (kind f i) a (stepWhere (λ a. elem a (references f i)) Reference m a) e ∙ sym effects)
-      at (no l) = rw (le-ltb a (f .arrays) (omega (arith, l))) (beyond l)
+      at (no l) = rw (le-ltb a (f .arrays) (omega (arith, l)))
 
--- the row of the statement at hand, by its place and the place of the row that it was copied from
-module _ {f : Flow} (wf : WellFormed f) (i count row from : ℕ) (all : count ≡ f .arrays) {ws vs : List ℕ} {row′ from′ : ℕ} (at : row′ ≡ row) (of : from′ ≡ from) where
-  placed : {m : ℕ → ℕ} → RowIs ws vs row′ m → ((a : ℕ) → m a ≡ acted (f .arrays) (statementEffects f i) (byteAt ws from′) a)
-      → RowIs ws vs row (acted count (statementEffects f i) (byteAt ws from))
-  placed x h =
-      subst (λ (r : ℕ). RowIs ws vs r (acted count (statementEffects f i) (byteAt ws from))) at
-      (row-as x (λ a l. h a ∙ ap₂ (λ (k p : ℕ). acted k (statementEffects f i) (byteAt ws p) a) (sym all) of))
+-- The row for the edges of the statement at hand
 
-  pub stays-row : resets (kind f i) ≡ false → RowIs ws vs row′ (stepped f i (byteAt ws from′)) → RowIs ws vs row (acted count (statementEffects f i) (byteAt ws from))
-  stays-row e x = placed x (λ a. acted-stays wf i (byteAt ws from′) a e)
+module _ {f : Flow} (wf : WellFormed f) (n w d i : ℕ) (below : d < 2 * n) {ws vs : List ℕ} where
+  -- where only the set and the rows for edges were written
+  around : length vs ≡ length ws → ((x : ℕ) → (setRow n ≤ x → x < maskRowAt n w 0 → ⊥) → getD vs x 0 ≡ getD ws x 0) → Keeps (setRow n) (maskRowAt n w 0) ws vs
+  around size h = record { size = size; below = λ x l. h x (λ a b. omega arith); above = λ x l. h x (λ a b. omega arith) }
 
-  pub resets-row : resets (kind f i) ≡ true → RowIs ws vs row′ (stepWhere (λ b. ltb b count) Reset (stepped f i (byteAt ws from′)))
-      → RowIs ws vs row (acted count (statementEffects f i) (byteAt ws from))
-  resets-row e x =
-      placed (subst (λ (k : ℕ). RowIs ws vs row′ (stepWhere (λ b. ltb b k) Reset (stepped f i (byteAt ws from′)))) all x)
-      (λ a. acted-resets wf i (byteAt ws from′) a e)
+  pub acts-plain : resets (kind f i) ≡ false → items (kind f i) ≡ [] → RowSteps ws vs w (setRow n) (outRow n w) (maskRowAt n w d) (λ a. elem a (references f i)) Reference → Acted f ws vs n w d i
+  unfolding any stepWhere
+  acts-plain e none x =
+      let first = row-first n w in
+      record {
+        keeps = around (x .size) (λ y out. x .elsewhere y (λ a b. out a (omega arith)) (λ a b. out (omega arith) (omega arith)));
+        masks = λ a l. x .masks a l
+            ∙ sym (ap (λ (its : List Item). cond (any (dims a) its) (stepOf Dim (stepWhere (λ b. elem b (references f i)) Reference (masksAt ws n w d) a)) (stepWhere (λ b. elem b (references f i)) Reference (masksAt ws n w d) a)) none)
+            ∙ acted-stays wf i (masksAt ws n w d) a e;
+      }
 
--- a set below the row has the members that it had
-pub touched-row : {ws vs us : List ℕ} {row set count from row′ set′ from′ : ℕ} (e : Effect) → row′ ≡ row → set′ ≡ set → from′ ≡ from → set < row → count ≤ maxArrays
-    → RowIs ws vs row′ (byteAt ws from′) → RowIs vs us row′ (stepWhere (memberBelow vs set′ count) e (byteAt vs row′))
-    → RowIs ws us row (stepWhere (memberBelow ws set count) e (byteAt ws from))
-unfolding memberBelow stepWhere
-touched-row {ws} {vs} {us} {row} {set} {count} {from} {row′} {set′} {from′} e at in′ of below few x y =
-    subst (λ (r : ℕ). RowIs ws us r (stepWhere (memberBelow ws set count) e (byteAt ws from))) at
-    (row-as (row-step (byteAt ws from′) (memberBelow vs set′ count) e x y) (λ a l.
-    ap₂ (λ (b : Bool) (p : ℕ). cond b (stepOf e (byteAt ws p a)) (byteAt ws p a)) (member a (decLt a count)) of))
-  where
-    member : (a : ℕ) → Dec (a < count) → (ltb a count && eqb (bits.has vs set′ a) 1) ≡ (ltb a count && eqb (bits.has ws set a) 1)
-    member a (yes l) =
-        ap (λ (b : ℕ). ltb a count && eqb b 1) (ap (λ (p : ℕ). bits.has vs p a) in′ ∙ keeps-has (x .keeps) set a (λ p q. omega arith))
-    member a (no l) = rw (le-ltb a count (omega (arith, l)))
+  pub acts-resets : {count : ℕ} → count ≡ f .arrays → resets (kind f i) ≡ true → RowSteps ws vs w (setRow n) (outRow n w) (maskRowAt n w d) (λ a. ltb a count) Reset → Acted f ws vs n w d i
+  unfolding stepWhere
+  acts-resets {count} all e x =
+      let first = row-first n w in
+      record {
+        keeps = around (x .size) (λ y out. x .elsewhere y (λ a b. out a (omega arith)) (λ a b. out (omega arith) (omega arith)));
+        masks = λ a l. x .masks a l ∙ ap (λ (k : ℕ). cond (ltb a k) 1 (masksAt ws n w d a)) all ∙ reset a;
+      }
+    where
+      reset : (a : ℕ) → cond (ltb a (f .arrays)) 1 (masksAt ws n w d a) ≡ acted (f .arrays) (statementEffects f i) (masksAt ws n w d) a
+      reset a = acted-resets wf i (masksAt ws n w d) a e
+
+  pub acts-dims : {us : List ℕ} → resets (kind f i) ≡ false
+      → RowSteps ws us w (setRow n) (backRow n w) (maskRowAt n w d) (λ a. elem a (references f i)) Reference
+      → RowSteps us vs w (setRow n) (outRow n w) (backRow n w) (λ a. any (dims a) (items (kind f i))) Dim → Acted f ws vs n w d i
+  unfolding stepWhere
+  acts-dims {us} e x y =
+      let first = row-first n w in
+      record {
+        keeps = around (y .size ∙ x .size) (λ z out.
+            y .elsewhere z (λ a b. out a (omega arith)) (λ a b. out (omega arith) (omega arith)) ∙ x .elsewhere z (λ a b. out a (omega arith)) (λ a b. out (omega arith) (omega arith)));
+        masks = λ a l. y .masks a l
+            ∙ ap (λ (m : ℕ). cond (any (dims a) (items (kind f i))) (stepOf Dim m) m) (x .masks a l)
+            ∙ acted-stays wf i (masksAt ws n w d) a e;
+      }

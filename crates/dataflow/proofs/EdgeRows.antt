@@ -1,6 +1,6 @@
 -- The rows of a number's edges: that of the statement's act, and for the edge to the continuation of a call that is not opaque the one with the touched
 -- step. What the edges carry of these rows is what the doubled graph's edges bring of the number's masks.
-use Prim.Native.Nat.{ℕ, _+_, _/_, _%_, _<_}
+use Prim.Native.Nat.{ℕ, _+_, _*_, _/_, _%_, _<_}
 use mathlib.Core.Bool.{Bool, true, false, cond, _&&_}
 use mathlib.Core.List.{List, [], _∷_, _++_, map, List·Memᴰ·head, List·Memᴰ·tail}
 use mathlib.Core.Path.{_≡_, refl, sym, ap, ap₂, _∙_}
@@ -9,7 +9,6 @@ use lib.Bits.{bitOr}
 use lib.Dec.{eqb, ltb}
 use lib.ListN.{getD}
 use Rattle.words.specs.contracts.Row as bits
-use Rattle.words.specs.contracts.Byte.{byteAt}
 use Rattle.masks.specs.declared.Effect.the-variants.{Touched}
 use Rattle.masks.specs.Step.{stepOf}
 use Rattle.flow.specs.Flow.{Flow}
@@ -21,7 +20,7 @@ use Rattle.theory.specs.Queue.{stepAll, brings}
 use Rattle.theory.proofs.Lists.{says-one}
 use Rattle.statements.specs.contracts.Ready.{MembersWord}
 use Rattle.calls.specs.contracts.Slots.{toArc}
-use Rattle.solve.specs.contracts.Rows.{stepWhere, memberBelow}
+use Rattle.solve.specs.contracts.Rows.{maskAt, stepWhere, member}
 use Rattle.dataflow.specs.contracts.Transfer.{acted}
 use Rattle.dataflow.specs.contracts.Sent.{edgeRow, carried, masksBelow}
 use Rattle.dataflow.proofs.Unions.{cond-zero}
@@ -53,31 +52,31 @@ act-row f i count m row x a is e = at (ltb a count) is
 -- and with the touched step
 pub back-row : (f : Flow) (ws : List ℕ) (i count set : ℕ) (m row : ℕ → ℕ) (x : Edge) (a : ℕ) → a < maxArrays → row a ≡ masksBelow count m a → x .continues ≡ true
     → MembersWord (getD ws set 0) (callTouches f i)
-    → stepWhere (memberBelow ws set count) Touched (acted count (statementEffects f i) row) a ≡ masksBelow count (λ b. stepAll (edgeEffects f i x b) (m b)) a
-unfolding acted masksBelow edgeEffects stepAll stepWhere memberBelow
+    → stepWhere (member ws set) Touched (acted count (statementEffects f i) row) a ≡ masksBelow count (λ b. stepAll (edgeEffects f i x b) (m b)) a
+unfolding acted masksBelow edgeEffects stepAll stepWhere member
 back-row f ws i count set m row x a l is e touched = at (ltb a count) is
   where
-    member : eqb (bits.has ws set a) 1 ≡ callTouches f i a
-    member = ap (λ (y : ℕ). eqb y 1) (low ∙ touched .member a l) ∙ says-one (callTouches f i a)
+    touches : eqb (bits.has ws set a) 1 ≡ callTouches f i a
+    touches = ap (λ (y : ℕ). eqb y 1) (low ∙ touched .member a l) ∙ says-one (callTouches f i a)
       where
         low : bits.has ws set a ≡ bits.bit (getD ws set 0) a
         low = word-has ws set a l
 
     at : (b : Bool) → row a ≡ cond b (m a) 0
-        → cond (b && eqb (bits.has ws set a) 1) (stepOf Touched (cond b (stepAll (statementEffects f i a) (row a)) (row a))) (cond b (stepAll (statementEffects f i a) (row a)) (row a))
+        → cond (eqb (bits.has ws set a) 1) (stepOf Touched (cond b (stepAll (statementEffects f i a) (row a)) (row a))) (cond b (stepAll (statementEffects f i a) (row a)) (row a))
         ≡ cond b (stepAll (statementEffects f i a ++ cond ((x .continues) && callTouches f i a) (Touched ∷ []) []) (m a)) 0
     at true q =
-        ap₂ (λ (c : Bool) (v : ℕ). cond c (stepOf Touched (stepAll (statementEffects f i a) v)) (stepAll (statementEffects f i a) v)) member q
+        ap₂ (λ (c : Bool) (v : ℕ). cond c (stepOf Touched (stepAll (statementEffects f i a) v)) (stepAll (statementEffects f i a) v)) touches q
         ∙ sym (stepAll-append (statementEffects f i a) (cond ((x .continues) && callTouches f i a) (Touched ∷ []) []) (m a)
         ∙ ap (λ (c : Bool). stepAll (cond (c && callTouches f i a) (Touched ∷ []) []) (stepAll (statementEffects f i a) (m a))) e
         ∙ stepAll-if (callTouches f i a) Touched (stepAll (statementEffects f i a) (m a)))
-    at false q = q
+    at false q = ap (λ (v : ℕ). cond (eqb (bits.has ws set a) 1) (stepOf Touched v) v) q ∙ sym (cond-zero (eqb (bits.has ws set a) 1))
 
-module _ (f : Flow) (ws : List ℕ) (n i : ℕ) (m : ℕ → ℕ) (t : ℕ) where
+module _ (f : Flow) (ws : List ℕ) (n w i : ℕ) (m : ℕ → ℕ) (t : ℕ) where
   -- what the edges carry is what they bring of the masks
   pub carried-brings : (es : List Edge)
-      → ((x : Edge) → In x es → (a : ℕ) → a < maxArrays → byteAt ws (edgeRow n (x .continues)) a ≡ masksBelow (f .arrays) (λ b. stepAll (edgeEffects f i x b) (m b)) a)
-      → (a : ℕ) → a < maxArrays → carried f ws n es t a ≡ masksBelow (f .arrays) (λ b. brings t b (m b) (map (toArc f i) es)) a
+      → ((x : Edge) → In x es → (a : ℕ) → a < 64 * w → maskAt ws w (edgeRow n w (x .continues)) a ≡ masksBelow (f .arrays) (λ b. stepAll (edgeEffects f i x b) (m b)) a)
+      → (a : ℕ) → a < 64 * w → carried f ws n w es t a ≡ masksBelow (f .arrays) (λ b. brings t b (m b) (map (toArc f i) es)) a
   unfolding carried brings masksBelow
   carried-brings [] h a l = cond-zero (ltb a (f .arrays))
   carried-brings (x ∷ xs) h a l =

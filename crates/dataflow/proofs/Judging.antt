@@ -1,6 +1,7 @@
 -- How the call answers: a file that is refused, areas that are too short, or an accepted flow, each gives the promise from what is known where the call returns.
 -- By the laws of verdicts: the areas' checks come after the file's.
-use Prim.Native.Nat.{ℕ, zero, suc, _*_, _≤_}
+use Prim.Native.Nat.{ℕ, _+_, _*_, _≤_, _<_}
+use native.Mathlib.Nat.{zero-add}
 use native.Mathlib.Omega.{arith}
 use mathlib.Core.Bool.{Bool, true, false, cond, _&&_}
 use mathlib.Core.List.{List}
@@ -9,7 +10,7 @@ use lib.Dec.{leb}
 use lib.ListN.{length, getD, replicate}
 use borrow.Author.Tests.{leb-true}
 use Rattle.words.specs.contracts.Change.{zeroed}
-use Rattle.words.proofs.Zeroed.{zeroed-all}
+use Rattle.words.proofs.Zeroed.{zeroed-all, zeroed-word}
 use Rattle.flow.specs.declared.Refusal.{Refusal}
 use Rattle.flow.specs.declared.Refusal.the-variants.{Areas}
 use Rattle.flow.specs.declared.Header.{Header}
@@ -28,9 +29,8 @@ use Rattle.theory.specs.Doubled.{doubled}
 use Rattle.theory.specs.Queue.{initial}
 use Rattle.theory.proofs.Terms.{term-1-empty}
 use Rattle.statements.proofs.WellFormed.{arrays-is, well-formed}
-use Rattle.dataflow.specs.declared.Answer.{Answer}
 use Rattle.dataflow.specs.declared.Answer.the-variants.{Accepted, Refused}
-use Rattle.dataflow.specs.Promise.{Promise, Door, judged, numberOfAnswer, placeOfAnswer, visitsOfAnswer}
+use Rattle.dataflow.specs.Promise.{Promise, judged}
 use Rattle.dataflow.specs.contracts.Phases.{Findings}
 use Rattle.dataflow.proofs.Promised.{promised}
 
@@ -136,13 +136,6 @@ nothing-solved s masks liveIn liveOut z =
       live-out = record { size = refl; written = λ i l. absurd (omega arith); kept = λ x l. refl };
     }
 
--- the door says the answer as numbers
-pub doored : {s masks masks′ liveIn liveIn′ liveOut liveOut′ work work′ : List ℕ} (r : Answer) {place visits number : ℕ}
-    → Promise s masks masks′ liveIn liveIn′ liveOut liveOut′ work work′ r
-    → number ≡ numberOfAnswer r → place ≡ placeOfAnswer r → visits ≡ visitsOfAnswer r
-    → Door s masks masks′ liveIn liveIn′ liveOut liveOut′ work work′ place visits number
-doored r p n l v = record { answer = r; number = n; place-is = l; visits-is = v; promise = p }
-
 -- what the reader's answer says of a file that it found fit
 module _ (s : List ℕ) {c : Checked} (h : Header) (e : c ≡ checkedOf (verdict (fileChecks s)) (headerOf s)) (told : c ≡ Fit h) where
   pub file-fit : FitFile s
@@ -156,20 +149,15 @@ module _ (s : List ℕ) {c : Checked} (h : Header) (e : c ≡ checkedOf (verdict
   areas-by masks liveIn liveOut work b =
       subst (λ (x : Header). isFit (verdict (areaChecks (x .statements) (x .arrays) masks liveIn liveOut work)) ≡ b) header-is
 
--- a list of zeros reads as 0 everywhere, also past its end
-pub zeros : (n x : ℕ) → _≡_ {A = ℕ} (getD (replicate n 0) x 0) 0
-zeros zero x = refl
-zeros (suc n) zero = refl
-zeros (suc n) (suc x) = zeros n x
-
 -- a list that was zeroed whole, by its length before
 pub zeroed-whole : (ws : List ℕ) (n : ℕ) → length ws ≡ n → zeroed ws 0 n ≡ replicate n 0
 zeroed-whole ws n e = subst (λ k. zeroed ws 0 k ≡ replicate k 0) e (zeroed-all ws)
 
 -- the work area where it is zeroed only if b
 
-pub unfit-kept : (ws : List ℕ) (b : Bool) → b ≡ false → cond b (zeroed ws 0 (length ws)) ws ≡ ws
-unfit-kept ws b e = ap (λ (b : Bool). cond b (zeroed ws 0 (length ws)) ws) e
+pub unfit-kept : (ws : List ℕ) (size : ℕ) (b : Bool) → b ≡ false → cond b (zeroed ws 0 size) ws ≡ ws
+unfit-kept ws size b e = ap (λ (b : Bool). cond b (zeroed ws 0 size) ws) e
 
-pub fit-zero : (ws : List ℕ) (b : Bool) → b ≡ true → cond b (zeroed ws 0 (length ws)) ws ≡ replicate (length ws) 0
-fit-zero ws b e = ap (λ (b : Bool). cond b (zeroed ws 0 (length ws)) ws) e ∙ zeroed-whole ws (length ws) refl
+pub fit-zero : (ws : List ℕ) (size : ℕ) (b : Bool) → b ≡ true → size ≤ length ws → (x : ℕ) → x < size → getD (cond b (zeroed ws 0 size) ws) x 0 ≡ 0
+fit-zero ws size b e fits x l =
+    ap (λ (b : Bool). getD (cond b (zeroed ws 0 size) ws) x 0) e ∙ sym (ap (λ (y : ℕ). getD (zeroed ws 0 size) y 0) (zero-add x)) ∙ zeroed-word ws 0 size (omega arith) x l

@@ -1,21 +1,19 @@
--- What the solver leaves alone: the calls' summaries, the rows of the RETURNs and of the calls, and the row of entered statements lie outside the words that it writes.
+-- What the solver leaves alone: the calls' summaries and the rows of the RETURNs and of the calls lie outside the words that it writes.
 -- By the layout of the work area.
-use Prim.Native.Nat.{ℕ, _+_, _/_, _<_, _≤_}
+use Prim.Native.Nat.{ℕ, _+_, _<_, _≤_}
 use mathlib.Core.List.{List}
 use mathlib.Core.Path.{_≡_, sym, _∙_}
 use native.Mathlib.Omega.{arith}
 use lib.ListN.{getD}
 use Rattle.words.specs.contracts.Row.{has}
-use Rattle.words.proofs.Row.{has-cong}
 use Rattle.flow.specs.declared.Header.{Header}
 use Rattle.flow.specs.Flow.{Flow}
-use Rattle.statements.specs.contracts.Layout.{callsAt, rowAt, queueAt, enteredRowAt}
+use Rattle.statements.specs.contracts.Layout.{callsAt, rowAt, queueAt}
 use Rattle.statements.specs.contracts.Ready.{Indexed, Keeps}
-use Rattle.statements.proofs.WorkArea.{row-from, row-fits, row-words-le, member-word}
+use Rattle.statements.proofs.WorkArea.{row-from, row-fits, member-word}
 use Rattle.statements.proofs.Keeps.{keeps-has, indexed-keeps}
-use Rattle.calls.specs.contracts.Held.{Linked, EnteredRow, EmptyEntered}
+use Rattle.calls.specs.contracts.Held.{Linked}
 use Rattle.calls.proofs.Gathered.{summaries-kept}
-use Rattle.solve.specs.contracts.Layout.{waitingAt}
 
 -- the words from the queue on are the solver's
 pub queue-above : (n : ℕ) → n + n + n + n + n ≤ queueAt n
@@ -35,15 +33,3 @@ module _ {ws vs : List ℕ} {n hi : ℕ} (k : Keeps (queueAt n) hi ws vs) where
         bodies = λ c j l m e. row c j l m ∙ x .bodies c j l m (sym (call c l) ∙ e);
         returns = λ r j l m e. row r j l m ∙ x .returns r j l m e;
       }
-
--- the row of entered statements goes by its words
-module _ (ws vs : List ℕ) (n : ℕ) (k : (x : ℕ) → enteredRowAt n ≤ x → x < waitingAt n → getD vs x 0 ≡ getD ws x 0) where
-  entered-has : (j : ℕ) → j < n → has vs (enteredRowAt n) j ≡ has ws (enteredRowAt n) j
-  entered-has j l =
-      has-cong vs ws (enteredRowAt n) j (k (enteredRowAt n + j / 64) (omega arith) (let word = member-word l in let few = row-words-le n in omega arith))
-
-  pub entered-stays : {f : Flow} {i : ℕ} → EnteredRow f ws n i → EnteredRow f vs n i
-  entered-stays x = record { row = λ j e o m l. entered-has m l ∙ x .row j e o m l }
-
-  pub empty-stays : EmptyEntered ws n → EmptyEntered vs n
-  empty-stays x j l = entered-has j l ∙ x j l

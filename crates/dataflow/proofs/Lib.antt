@@ -1,15 +1,15 @@
-pub mod Stepping
+pub mod Sets
 pub mod Acted
 pub mod Unions
 pub mod Kept
 pub mod Sending
-pub mod Aside
 pub mod EdgeRows
 pub mod Sends
 pub mod Visiting
 pub mod Few
 pub mod Running
 pub mod NotedRows
+pub mod MaskBytes
 pub mod Phases
 pub mod Promised
 pub mod Told

@@ -1,19 +1,15 @@
 -- Rows noted one after the other: each element of each row is the value given, what stands past the rows is as it was, and the length stays. A row may be noted
 -- in parts, as the bytes of words are. By induction on the number of rows or elements; a later row starts where the rows before it end.
-use Prim.Native.Nat.{ℕ, zero, suc, _+_, _*_, _/_, _%_, _≤_, _<_}
+use Prim.Native.Nat.{ℕ, zero, suc, _+_, _*_, _≤_, _<_}
 use native.Mathlib.Omega.{arith}
 use native.Mathlib.Nat.{eq-or-lt-of-le, le-of-suc-le-suc, add-zero, add-suc, suc-mul, mul-le-mul-right}
 use mathlib.Core.List.{List}
 use mathlib.Core.Logic.{⊎-elim}
 use mathlib.Core.Path.{_≡_, refl, sym, ap, ap₂, _∙_}
-use lib.Bits.{bitOr}
 use lib.ListN.{length, getD, set}
-use Rattle.words.specs.contracts.Byte.{byteOf, byteAt}
-use Rattle.words.proofs.Bytes.{byteOf-or}
 use Rattle.words.specs.contracts.Change.{noted}
 use Rattle.records.proofs.Noting.{length-noted, noted-at, noted-other}
-use Rattle.solve.specs.contracts.Layout.{maskRowAt}
-use Rattle.dataflow.specs.contracts.Bytes.{bothCopies, joinedWord, notedRows}
+use Rattle.dataflow.specs.contracts.Bytes.{notedRows}
 
 -- m elements noted behind k are k + m elements noted
 pub noted-on : (ws : List ℕ) (base k m : ℕ) (f g : ℕ → ℕ) → ((j : ℕ) → j < m → g j ≡ f (k + j))
@@ -25,20 +21,6 @@ noted-on ws base k (suc m) f g same =
     ap (λ (l : List ℕ). set l (base + k + m) (g m)) (noted-on ws base k m f g (λ j l. same j (omega arith)))
     ∙ ap₂ (λ (x v : ℕ). set (noted ws base (k + m) f) x v) place (same m (omega arith))
     ∙ ap (λ (x : ℕ). noted ws base x f) (sym (add-suc k m))
-
-joined-byte : (ws : List ℕ) (n i k j : ℕ) → j < 8 → byteOf (joinedWord ws n i k) j ≡ bothCopies ws n i (8 * k + j)
-unfolding joinedWord bothCopies byteAt
-joined-byte ws n i k j l =
-    let word : (8 * k + j) / 8 ≡ k = omega arith in
-    let place : (8 * k + j) % 8 ≡ j = omega arith in
-    byteOf-or (getD ws (maskRowAt n i + k) 0) (getD ws (maskRowAt n (n + i) + k) 0) j
-    ∙ sym (ap₂ (λ (x y : ℕ). bitOr (byteOf (getD ws (maskRowAt n i + x) 0) y) (byteOf (getD ws (maskRowAt n (n + i) + x) 0) y)) word place)
-
--- behind the masks of k words, those of m arrays of the next word
-pub word-on : (masks ws : List ℕ) (at n i k m : ℕ) → m ≤ 8
-    → noted (noted masks at (8 * k) (bothCopies ws n i)) (at + 8 * k) m (byteOf (joinedWord ws n i k)) ≡ noted masks at (8 * k + m) (bothCopies ws n i)
-word-on masks ws at n i k m l =
-    noted-on masks at (8 * k) m (bothCopies ws n i) (byteOf (joinedWord ws n i k)) (λ j h. joined-byte ws n i k j (omega arith))
 
 module _ (ws : List ℕ) (w : ℕ) (f : ℕ → ℕ → ℕ) where
   pub length-rows : (k : ℕ) → length (notedRows ws w f k) ≡ length ws

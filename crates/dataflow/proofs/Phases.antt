@@ -19,11 +19,13 @@ use Rattle.records.proofs.Noting.{noted-other}
 use Rattle.records.proofs.Statements.{size-is}
 use Rattle.theory.specs.Masks.{maskLeft}
 use Rattle.theory.specs.Live.{liveInWord, liveOutWord}
-use Rattle.statements.specs.contracts.Layout.{callsAt, matrixAt, queueAt, enteredRowAt, solverAt, areaEnd}
+use Rattle.statements.specs.contracts.Layout.{callsAt, matrixAt, queueAt, enteredRowAt, solverAt, setWords}
 use Rattle.statements.specs.contracts.Ready.{Ready, Indexed, Keeps}
 use Rattle.statements.proofs.Noted.{ready-noted}
 use Rattle.statements.proofs.Keeps.{keeps-zeroed, ready-keeps, ready-room, indexed-keeps}
-use Rattle.statements.proofs.WorkArea.{row-from}
+use Rattle.statements.proofs.WorkArea as area
+use Rattle.solve.specs.contracts.Layout.{areaEnd}
+use Rattle.solve.proofs.Room.{row-from}
 use Rattle.statements.proofs.WellFormed.{arrays-is}
 use Rattle.calls.specs.contracts.Held as held
 use Rattle.calls.specs.contracts.Held.{Summarized, Linked}
@@ -37,8 +39,8 @@ use Rattle.dataflow.proofs.NotedRows.{length-rows, rows-past, rows-at}
 module _ {s : List ℕ} {h : Header} where
   module _ {ws : List ℕ} (flow-fit : FitFlow s h ws) where
     -- what is noted stands below the calls
-    past : (x : ℕ) → h .statements ≤ x → getD (noted ws 0 (h .statements) (recordPlace s)) x 0 ≡ 0
-    past x l = noted-other ws 0 (recordPlace s) (h .statements) x 0 (λ i m e. omega (arith, zero-add i)) ∙ flow-fit .zero x
+    past : (x : ℕ) → h .statements ≤ x → x < areaEnd (h .statements) (setWords (h .arrays)) → getD (noted ws 0 (h .statements) (recordPlace s)) x 0 ≡ 0
+    past x l b = noted-other ws 0 (recordPlace s) (h .statements) x 0 (λ i m e. omega (arith, zero-add i)) ∙ flow-fit .zero x b
 
     pub room-fits : 0 + h .statements ≤ length ws
     room-fits = omega (arith, flow-fit .work-room)
@@ -50,14 +52,14 @@ module _ {s : List ℕ} {h : Header} where
     noted-indexed e = record { ready = noted-ready e; header = flow-fit .header }
 
     pub no-summaries : {vs : List ℕ} → vs ≡ noted ws 0 (h .statements) (recordPlace s) → held.NoSummaries vs (h .statements)
-    no-summaries e = record { words = λ x l m. ap (λ v. getD v x 0) e ∙ past x l }
+    no-summaries e = record { words = λ x l m. ap (λ v. getD v x 0) e ∙ past x l (let low = row-from (h .statements) (setWords (h .arrays)) (2 * h .statements) in omega arith) }
 
     pub summed : {vs us : List ℕ} → vs ≡ noted ws 0 (h .statements) (recordPlace s) → Summarized (flowOf s) us (h .statements)
         → Keeps (callsAt (h .statements)) (enteredRowAt (h .statements)) vs us → SummariesMade s h us
     summed e m k = record {
       indexed = indexed-keeps (noted-indexed e) k (omega arith);
       summarized = m;
-      zero = λ x l b. k .above x l ∙ ap (λ v. getD v x 0) e ∙ past x (omega (arith, row-from (h .statements) (h .statements)));
+      zero = λ x l b. k .above x l ∙ ap (λ v. getD v x 0) e ∙ past x (omega (arith, area.row-from (h .statements) (h .statements))) b;
     }
 
 -- with the words of the queue and of the row of entered statements zeroed, the forward solver can begin
@@ -79,7 +81,7 @@ linked {s} {h} {ws} {vs} {us} begun some l k c =
     resets : Keeps (queueAt (h .statements)) (solverAt (h .statements)) vs (zeroed vs (queueAt (h .statements)) (solverAt (h .statements) - queueAt (h .statements)))
     resets = keeps-zeroed vs (queueAt (h .statements)) (solverAt (h .statements) - queueAt (h .statements)) (omega arith) (omega arith)
 
-    zeros : (x : ℕ) → queueAt (h .statements) ≤ x → x < areaEnd (h .statements) → Dec (x < solverAt (h .statements)) → getD (zeroed vs (queueAt (h .statements)) (solverAt (h .statements) - queueAt (h .statements))) x 0 ≡ 0
+    zeros : (x : ℕ) → queueAt (h .statements) ≤ x → x < areaEnd (h .statements) (setWords (h .arrays)) → Dec (x < solverAt (h .statements)) → getD (zeroed vs (queueAt (h .statements)) (solverAt (h .statements) - queueAt (h .statements))) x 0 ≡ 0
     zeros x a b (yes m) =
         subst (λ y. getD (zeroed vs (queueAt (h .statements)) (solverAt (h .statements) - queueAt (h .statements))) y 0 ≡ 0) (omega arith)
         (zeroed-word vs (queueAt (h .statements)) (solverAt (h .statements) - queueAt (h .statements)) (omega (arith, ready-room (indexed′ .ready) some)) (x - queueAt (h .statements)) (omega arith))
@@ -89,20 +91,20 @@ linked {s} {h} {ws} {vs} {us} begun some l k c =
 -- the rows of the two copies are the masks of the statement
 pub masked : {s : List ℕ} {h : Header} {ws vs masks masks′ : List ℕ} {visits : ℕ} → SolverStart s h ws
     → h .statements * h .arrays ≤ length masks
-    → solver.RuleResult (flowOf s) ws vs (h .statements) visits
-    → masks′ ≡ notedRows masks (h .arrays) (bothCopies vs (h .statements)) (h .statements)
+    → solver.RuleResult (flowOf s) ws vs (h .statements) (setWords (h .arrays)) visits
+    → masks′ ≡ notedRows masks (h .arrays) (bothCopies vs (h .statements) (setWords (h .arrays))) (h .statements)
     → Masked s h masks masks′ vs visits
 unfolding bothCopies maskLeft
 masked {s} {h} {ws} {vs} {masks} {masks′} {visits} blank room solved e = record {
-  ready = ready-keeps (blank .indexed .ready) (solved .keeps) (omega (arith, row-from (h .statements) (h .statements)));
+  ready = ready-keeps (blank .indexed .ready) (solved .keeps) (omega (arith, area.row-from (h .statements) (h .statements)));
   left = solved .left;
   over = solved .over;
   bytes = λ i a l m.
       ap (λ v. getD v (i * h .arrays + a) 0) e
-      ∙ rows-at masks (h .arrays) (bothCopies vs (h .statements)) (h .statements) i a l m room
+      ∙ rows-at masks (h .arrays) (bothCopies vs (h .statements) (setWords (h .arrays))) (h .statements) i a l m room
       ∙ joined i a l m;
-  masks-size = ap length e ∙ length-rows masks (h .arrays) (bothCopies vs (h .statements)) (h .statements);
-  masks-kept = λ x l. ap (λ v. getD v x 0) e ∙ rows-past masks (h .arrays) (bothCopies vs (h .statements)) (h .statements) x l;
+  masks-size = ap length e ∙ length-rows masks (h .arrays) (bothCopies vs (h .statements) (setWords (h .arrays))) (h .statements);
+  masks-kept = λ x l. ap (λ v. getD v x 0) e ∙ rows-past masks (h .arrays) (bothCopies vs (h .statements) (setWords (h .arrays))) (h .statements) x l;
 }
   where
     sizes : size (flowOf s) ≡ h .statements
@@ -111,7 +113,7 @@ masked {s} {h} {ws} {vs} {masks} {masks′} {visits} blank room solved e = recor
     arrays′ : h .arrays ≡ flowOf s .arrays
     arrays′ = ap (λ (x : Header). x .arrays) (blank .indexed .header) ∙ sym (arrays-is s)
 
-    joined : (i a : ℕ) → i < h .statements → a < h .arrays → bothCopies vs (h .statements) i a ≡ maskLeft (flowOf s) (solved .left) i a
+    joined : (i a : ℕ) → i < h .statements → a < h .arrays → bothCopies vs (h .statements) (setWords (h .arrays)) i a ≡ maskLeft (flowOf s) (solved .left) i a
     joined i a l m =
         let b : a < flowOf s .arrays = omega (arith, arrays′) in
         ap₂ bitOr

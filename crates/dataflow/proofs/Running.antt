@@ -1,20 +1,18 @@
 -- The solver goes through the states of the queue rule: it starts at the rule's first, each visit leads to the next, and where nothing waits it has come
 -- to what the rule leaves. A number's masks are then what a visit would pull.
-use Prim.Native.Nat.{ℕ, _+_, _*_, _/_, _%_, _^_, _<_, _≤_}
+use Prim.Native.Nat.{ℕ, _+_, _*_, _/_, _<_, _≤_}
 use mathlib.Core.Bool.{Bool, false, cond}
 use mathlib.Core.List.{List, [], _∷_}
 use mathlib.Core.Path.{_≡_, refl, sym, ap, ap₂, subst, _∙_}
 use native.Mathlib.Decide.{decLt, ℕ-discrete}
-use native.Mathlib.Nat.{zero-add, zero-div}
+use native.Mathlib.Nat.{zero-add}
 use native.Mathlib.Omega.{arith}
 use borrow.Author.Tests.{eq-eqb, ne-eqb}
 use lib.Dec.{eqb, ltb}
 use lib.ListN.{length, getD}
-use Rattle.words.specs.contracts.Byte.{byteAt, byteOf}
-use Rattle.words.proofs.Bytes.{byte-cong}
+use Rattle.words.specs.contracts.Row.{has}
 use Rattle.masks.specs.declared.Effect.the-variants.{Reset}
 use Rattle.flow.specs.Flow.{Flow, size}
-use Rattle.flow.specs.Limits.{maxArrays}
 use Rattle.theory.specs.Lists.{elem}
 use Rattle.theory.specs.Doubled.{doubled, boundary}
 use Rattle.theory.specs.Queue.{Graph, begins, next-visit, Over, pulled, initial, visit, visitBound}
@@ -24,27 +22,29 @@ use Rattle.theory.proofs.Terms.{doubled-well-formed}
 use Rattle.theory.proofs.Ends.{course-keeps, course-bound, potential}
 use Rattle.theory.proofs.Exact.{pulled-held}
 use Rattle.theory.proofs.Push.{pulled-first}
-use Rattle.statements.specs.contracts.Layout.{queueAt, enteredRowAt, areaEnd}
+use Rattle.statements.specs.contracts.Layout.{queueAt}
 use Rattle.statements.specs.contracts.Ready.{Keeps}
-use Rattle.statements.proofs.WorkArea.{member-word, row-words-le}
 use Rattle.statements.proofs.Keeps.{keeps-refl, keeps-trans, keeps-widen}
 use Rattle.statements.proofs.Members.{zero-has}
-use Rattle.calls.specs.contracts.Held.{EmptyEntered}
 use Rattle.solve.specs.declared.Queue.{Queue}
-use Rattle.solve.specs.contracts.Layout.{visitedAt, maskRowAt}
-use Rattle.solve.specs.contracts.Rows.{RowIs, stepWhere}
+use Rattle.solve.specs.contracts.Layout.{visitedAt, setRow, outRow, backRow, maskRowAt, areaEnd}
+use Rattle.solve.specs.contracts.Rows.{maskAt, stepWhere}
 use Rattle.solve.specs.contracts.Waiting.{Waits, Enqueued}
 use Rattle.solve.specs.contracts.Pushed.{masksAt}
+use Rattle.solve.proofs.Room.{rows-apart, row-from, row-fits}
+use Rattle.solve.proofs.Masks.{mask-cong}
 use Rattle.solve.proofs.Waiting.{rest-keeps, waits-none}
+use Rattle.solve.proofs.Growing.{masks-kept}
+use Rattle.dataflow.specs.contracts.Transfer.{RowSteps}
 use Rattle.dataflow.specs.contracts.Sent.{masksBelow}
 use Rattle.dataflow.specs.contracts.Solving.{Underway, VisitsFront, Unused, RuleResult}
 use Rattle.dataflow.proofs.Unions.{cond-zero}
 use Rattle.dataflow.proofs.Visiting.{nodes-are, arrays-are, below-at}
 
-pub record Running (f : Flow) (n : ℕ) (ws₀ ws : List ℕ) (queue : Queue) (visits : ℕ) : Type 0 where
-  pub underway : Underway f ws n queue
+pub record Running (f : Flow) (n w : ℕ) (ws₀ ws : List ℕ) (queue : Queue) (visits : ℕ) : Type 0 where
+  pub underway : Underway f ws n w queue
   pub counted : visits ≡ underway .count
-  pub keeps : Keeps (queueAt n) (areaEnd n) ws₀ ws
+  pub keeps : Keeps (queueAt n) (areaEnd n w) ws₀ ws
 
 -- The start
 
@@ -52,27 +52,37 @@ start-is : (f : Flow) (a : ℕ) → doubled f .boundary a ≡ 1
 unfolding doubled boundary
 start-is f a = refl
 
-zero-byte : (ws : List ℕ) (base k : ℕ) → getD ws (base + k / 8) 0 ≡ 0 → byteAt ws base k ≡ 0
-unfolding byteAt byteOf
-zero-byte ws base k e = ap (λ (w : ℕ). w / 2 ^ (8 * (k % 8)) % 256) e ∙ ap (λ (w : ℕ). w % 256) (zero-div (2 ^ (8 * (k % 8))))
+-- a row of zeros
+zero-mask : (ws : List ℕ) (w row a : ℕ) → a < 64 * w → ((x : ℕ) → row ≤ x → x < row + 3 * w → getD ws x 0 ≡ 0) → maskAt ws w row a ≡ 0
+unfolding maskAt
+zero-mask ws w row a l h =
+    omega (
+      arith,
+      zero-has ws row a (h (row + a / 64) (omega arith) (omega arith)),
+      zero-has ws (row + w) a (h (row + w + a / 64) (omega arith) (omega arith)),
+      zero-has ws (row + 2 * w) a (h (row + 2 * w + a / 64) (omega arith) (omega arith)),
+    )
 
 abbrev pub nothing : Queue
 nothing = record { head = 0; len = 0 }
 
-module _ (f : Flow) (n : ℕ) (ws us : List ℕ) (entry count row : ℕ) (sized : size f ≡ n) (some : 0 < n) (unused : Unused ws n) (first : entry ≡ f .entry) (below : entry < n)
-    (all : count ≡ f .arrays) (place : row ≡ maskRowAt n entry) (entered : RowIs ws us row (stepWhere (λ b. ltb b count) Reset (byteAt ws row))) where
+module _ (f : Flow) (n w : ℕ) (ws us : List ℕ) (entry count : ℕ) (sized : size f ≡ n) (some : 0 < n) (unused : Unused ws n w) (first : entry ≡ f .entry) (below : entry < n)
+    (all : count ≡ f .arrays) (entered : RowSteps ws us w (setRow n) (maskRowAt n w entry) (outRow n w) (λ b. ltb b count) Reset) where
   abbrev g : Graph
   g = doubled f
 
-  low : (x : ℕ) → x < maskRowAt n entry → getD us x 0 ≡ getD ws x 0
-  low x l = entered .keeps .below x (omega arith)
+  low : (x : ℕ) → x < setRow n → getD us x 0 ≡ getD ws x 0
+  low x l = entered .elsewhere x (λ a b. omega arith) (λ a b. let least = row-from n w entry in omega arith)
 
   pub first-waits : Waits us n nothing []
-  first-waits = waits-none some (λ x l h. low x (omega arith) ∙ unused x (omega arith) (omega arith))
+  first-waits = let least = row-from n w (2 * n) in waits-none some (λ x l h. low x (omega arith) ∙ unused x (omega arith) (omega arith))
 
   module _ (vs : List ℕ) (r : Queue) (q : Enqueued us vs n nothing entry r) where
-    zero-below : (x : ℕ) → visitedAt n ≤ x → x < maskRowAt n entry → getD vs x 0 ≡ 0
-    zero-below x l h = q .kept .above x l ∙ low x h ∙ unused x (omega arith) (omega arith)
+    not-visited : (d : ℕ) → d < 2 * n → has vs (visitedAt n) d ≡ 0
+    not-visited d l =
+        let least = row-from n w (2 * n) in
+        zero-has vs (visitedAt n) d
+        (q .kept .above (visitedAt n + d / 64) (omega arith) ∙ low (visitedAt n + d / 64) (omega arith) ∙ unused (visitedAt n + d / 64) (omega arith) (omega arith))
 
     entry-is : g .entry ≡ entry
     unfolding doubled
@@ -85,8 +95,8 @@ module _ (f : Flow) (n : ℕ) (ws us : List ℕ) (entry count row : ℕ) (sized 
         (ap (λ (e : ℕ). e ∷ []) (sym entry-is) ∙ sym (ap (λ (b : Bool). cond b [] (g .entry ∷ [])) (ne-eqb (size f + size f) 0 (λ e. omega arith))))
         (q .waits [] first-waits)
 
-    same-masks : (d a : ℕ) → a < maxArrays → masksAt vs n d a ≡ masksAt us n d a
-    same-masks d a l = byte-cong vs us (maskRowAt n d) a (q .kept .above (maskRowAt n d + a / 8) (omega arith))
+    same-masks : (d a : ℕ) → d < 2 * n → a < 64 * w → masksAt vs n w d a ≡ masksAt us n w d a
+    same-masks = masks-kept us vs n w (λ x l h. q .kept .above x (let least = row-from n w 0 in omega arith))
 
     -- at the entry every array below the count is NONE, and elsewhere nothing is
     first-mask : (d a : ℕ) → masksBelow (f .arrays) (pulled g (initial g) d) a ≡ cond (ltb a count) (cond (eqb d entry) 1 0) 0
@@ -95,32 +105,25 @@ module _ (f : Flow) (n : ℕ) (ws us : List ℕ) (entry count row : ℕ) (sized 
         ap₂ (λ (k v : ℕ). cond (ltb a k) v 0) (sym all)
         (pulled-first g d a ∙ ap (λ (e : ℕ). cond (eqb d e) (g .boundary a) 0) entry-is ∙ ap (λ (v : ℕ). cond (eqb d entry) v 0) (start-is f a))
 
-    masks : (d a : ℕ) → d < 2 * n → a < maxArrays → masksAt vs n d a ≡ masksBelow (f .arrays) (pulled g (initial g) d) a
+    masks : (d a : ℕ) → d < 2 * n → a < 64 * w → masksAt vs n w d a ≡ masksBelow (f .arrays) (pulled g (initial g) d) a
     unfolding stepWhere
-    masks d a l m = same-masks d a m ∙ at (ℕ-discrete d entry) ∙ sym (first-mask d a)
+    masks d a l m = same-masks d a l m ∙ at (ℕ-discrete d entry) ∙ sym (first-mask d a)
       where
-        at : Dec (d ≡ entry) → masksAt us n d a ≡ cond (ltb a count) (cond (eqb d entry) 1 0) 0
+        at : Dec (d ≡ entry) → masksAt us n w d a ≡ cond (ltb a count) (cond (eqb d entry) 1 0) 0
         at (yes e) =
-            ap (λ (y : ℕ). byteAt us y a) (ap (maskRowAt n) e ∙ sym place) ∙ entered .bytes a m
-            ∙ ap₂ (λ (v w : ℕ). cond (ltb a count) v w) (sym (ap (λ (b : Bool). cond b 1 0) (eq-eqb d entry e)))
-            (zero-byte ws row a (unused (row + a / 8) (omega arith) (omega arith)))
+            ap (λ (y : ℕ). masksAt us n w y a) e ∙ entered .masks a m
+            ∙ ap₂ (λ (v k : ℕ). cond (ltb a count) v k) (sym (ap (λ (b : Bool). cond b 1 0) (eq-eqb d entry e)))
+            (zero-mask ws w (outRow n w) a m (λ x lo hi. let least = row-from n w (2 * n) in unused x (omega arith) (omega arith)))
         at (no e) =
-            byte-cong us ws (maskRowAt n d) a (elsewhere (decLt d entry))
-            ∙ zero-byte ws (maskRowAt n d) a (unused (maskRowAt n d + a / 8) (omega arith) (omega arith))
+            mask-cong ws us w (maskRowAt n w d) a m (λ x lo hi. entered .elsewhere x (λ c b. let least = row-from n w d in omega arith) (λ c b. apart x lo hi c b (decLt d entry)))
+            ∙ zero-mask ws w (maskRowAt n w d) a m (λ x lo hi. let least = row-from n w d in let fits = row-fits n w l in unused x (omega arith) (omega arith))
             ∙ cond-zero (ltb a count) ∙ ap (λ (v : ℕ). cond (ltb a count) v 0) (sym (ap (λ (b : Bool). cond b 1 0) (ne-eqb d entry e)))
           where
-            elsewhere : Dec (d < entry) → getD us (maskRowAt n d + a / 8) 0 ≡ getD ws (maskRowAt n d + a / 8) 0
-            elsewhere (yes l) = entered .keeps .below (maskRowAt n d + a / 8) (omega arith)
-            elsewhere (no l) = entered .keeps .above (maskRowAt n d + a / 8) (omega (arith, l, e))
+            apart : (x : ℕ) → maskRowAt n w d ≤ x → x < maskRowAt n w d + 3 * w → maskRowAt n w entry ≤ x → x < maskRowAt n w entry + 3 * w → Dec (d < entry) → ⊥
+            apart x lo hi c b (yes h) = let far = rows-apart n w h in omega arith
+            apart x lo hi c b (no h) = let less : entry < d = omega (arith, h, e) in let far = rows-apart n w less in omega arith
 
-    empty : EmptyEntered vs n
-    empty j l =
-        zero-has vs (enteredRowAt n) j
-        (let word = member-word l in
-        let few = row-words-le n in
-        q .kept .between (enteredRowAt n + j / 64) (omega arith) (omega arith) ∙ low (enteredRowAt n + j / 64) (omega arith) ∙ unused (enteredRowAt n + j / 64) (omega arith) (omega arith))
-
-    pub starts : Running f n vs vs r 0
+    pub starts : Running f n w vs vs r 0
     unfolding initial
     starts = record {
       underway = record {
@@ -129,23 +132,31 @@ module _ (f : Flow) (n : ℕ) (ws us : List ℕ) (entry count row : ℕ) (sized 
         course = begins;
         solving = record {
           waits = waits;
-          visited = λ d l. zero-below (visitedAt n + d) (omega arith) (omega arith);
+          visited = not-visited;
           masks = masks;
           grown = λ d l v. clash false v refl;
-          entered-row = empty;
         };
       };
       counted = refl;
       keeps = keeps-refl;
     }
 
-    pub starts-keeps : Keeps (queueAt n) (areaEnd n) ws vs
-    starts-keeps = keeps-trans (keeps-widen (omega arith) (omega arith) (entered .keeps)) (keeps-widen (omega arith) (omega arith) (rest-keeps (q .kept)))
+    pub starts-keeps : Keeps (queueAt n) (areaEnd n w) ws vs
+    starts-keeps =
+        let least = row-from n w entry in
+        let fits = row-fits n w {d = entry} (omega arith) in
+        keeps-trans
+        (record {
+          size = entered .size;
+          below = λ x l. low x (omega arith);
+          above = λ x l. entered .elsewhere x (λ a b. omega arith) (λ a b. omega arith);
+        })
+        (keeps-widen (omega arith) (omega arith) (rest-keeps (q .kept)))
 
 -- The visits
 
-pub running-on : {f : Flow} {n : ℕ} {ws₀ ws vs : List ℕ} {queue r : Queue} (visits : ℕ) (x : Running f n ws₀ ws queue visits) → VisitsFront f ws vs n queue r (x .underway)
-    → Keeps (queueAt n) (areaEnd n) ws vs → Running f n ws₀ vs r (visits + 1)
+pub running-on : {f : Flow} {n w : ℕ} {ws₀ ws vs : List ℕ} {queue r : Queue} (visits : ℕ) (x : Running f n w ws₀ ws queue visits) → VisitsFront f ws vs n w queue r (x .underway)
+    → Keeps (queueAt n) (areaEnd n w) ws vs → Running f n w ws₀ vs r (visits + 1)
 unfolding visit
 running-on visits x y k = record {
   underway = record {
@@ -158,7 +169,7 @@ running-on visits x y k = record {
   keeps = keeps-trans (x .keeps) k;
 }
 
-module _ {f : Flow} (wf : WellFormed f) {n : ℕ} (sized : size f ≡ n) (some : 0 < n) (few : f .arrays ≤ maxArrays) {ws₀ ws : List ℕ} {queue : Queue} (visits : ℕ) (x : Running f n ws₀ ws queue visits) where
+module _ {f : Flow} (wf : WellFormed f) {n w : ℕ} (sized : size f ≡ n) (some : 0 < n) (few : f .arrays ≤ 64 * w) {ws₀ ws : List ℕ} {queue : Queue} (visits : ℕ) (x : Running f n w ws₀ ws queue visits) where
   -- Term 1
   pub running-bound : visits + queue .len ≤ visitBound (doubled f)
   unfolding potential
@@ -168,7 +179,7 @@ module _ {f : Flow} (wf : WellFormed f) {n : ℕ} (sized : size f ≡ n) (some :
       let counted = x .counted in
       omega arith
 
-  pub running-ends : queue .len ≡ 0 → RuleResult f ws₀ ws n visits
+  pub running-ends : queue .len ≡ 0 → RuleResult f ws₀ ws n w visits
   running-ends e = record {
     left = x .underway .state;
     over = subst (λ (k : ℕ). Over (doubled f) k (x .underway .state)) (sym (x .counted)) (record { course = x .underway .course; nothing-waits = still });

@@ -12,9 +12,12 @@ use lib.Bits.{bitOr}
 use lib.Dec.{eqb, ltb}
 use lib.ListN.{length, getD, set, length-set}
 use lib.Seq.{getD-set-same, getD-set-other}
-use Rattle.words.proofs.Bytes.{byte-cong}
+use Rattle.words.specs.contracts.Row.{has, Words}
+use Rattle.words.specs.contracts.Change.{inserted, removed}
+use Rattle.words.proofs.Row.{has-cong}
+use Rattle.words.proofs.Inserted.{length-inserted, words-inserted, inserted-other, insert-same, insert-other, insert-else}
+use Rattle.words.proofs.Removed.{removed-other, remove-same, remove-other, remove-else}
 use Rattle.flow.specs.Flow.{Flow, size}
-use Rattle.flow.specs.Limits.{maxArrays}
 use Rattle.theory.specs.Lists.{differ}
 use Rattle.theory.specs.Doubled.{doubled}
 use Rattle.theory.specs.Queue.{Graph, Solver, pulled, changed, visit, enqueue, brings}
@@ -24,19 +27,18 @@ use Rattle.theory.proofs.Terms.{doubled-well-formed}
 use Rattle.theory.proofs.Invariant.{WellFormedGraph, Invariant, queue, visited-at, visited-other, waiting-next, was-visited}
 use Rattle.theory.proofs.Ends.{course-keeps}
 use Rattle.theory.proofs.Push.{alike, no-differ, pulled-next, pulled-same, changed-front, changed-other}
-use Rattle.statements.specs.contracts.Layout.{areaEnd}
 use Rattle.statements.specs.contracts.Ready.{Keeps}
-use Rattle.statements.proofs.Keeps.{keeps-set, keeps-trans}
-use Rattle.calls.specs.contracts.Held.{EmptyEntered}
+use Rattle.statements.proofs.Keeps.{keeps-inserted, keeps-removed, keeps-trans}
 use Rattle.solve.specs.declared.Queue.{Queue}
-use Rattle.solve.specs.contracts.Layout.{visitedAt, grownAt, maskRowAt}
+use Rattle.solve.specs.contracts.Layout.{visitedAt, grownAt, setRow, maskRowAt, areaEnd}
 use Rattle.solve.specs.contracts.Waiting.{Waits, Taken, restOf}
 use Rattle.solve.specs.contracts.Pushed.{masksAt}
 use Rattle.solve.proofs.Waiting.{waits-kept}
-use Rattle.solve.proofs.Growing.{differ-as}
+use Rattle.solve.proofs.Room.{row-from}
+use Rattle.solve.proofs.Masks.{differ-as}
+use Rattle.solve.proofs.Growing.{masks-kept}
 use Rattle.dataflow.specs.contracts.Sent.{masksBelow, Sends}
 use Rattle.dataflow.specs.contracts.Solving.{Underway, VisitsFront}
-use Rattle.dataflow.proofs.Kept.{empty-stays}
 use Rattle.dataflow.proofs.Unions.{cond-or}
 
 pub nodes-are : (f : Flow) → doubled f .nodes ≡ size f + size f
@@ -70,28 +72,28 @@ below-or count x y a = at (ltb a count)
     at false = refl
 
 -- two rows of masks differ where some array below the count does
-differ-below : (count : ℕ) (x y : ℕ → ℕ) → count ≤ maxArrays → differ maxArrays (masksBelow count x) (masksBelow count y) ≡ differ count x y
-differ-below count x y few = go (differ maxArrays (masksBelow count x) (masksBelow count y)) refl (differ count x y) refl
+differ-below : (most count : ℕ) (x y : ℕ → ℕ) → count ≤ most → differ most (masksBelow count x) (masksBelow count y) ≡ differ count x y
+differ-below most count x y few = go (differ most (masksBelow count x) (masksBelow count y)) refl (differ count x y) refl
   where
-    go : (b : Bool) → differ maxArrays (masksBelow count x) (masksBelow count y) ≡ b → (c : Bool) → differ count x y ≡ c → b ≡ c
+    go : (b : Bool) → differ most (masksBelow count x) (masksBelow count y) ≡ b → (c : Bool) → differ count x y ≡ c → b ≡ c
     go true p true q = refl
     go false p false q = refl
     go true p false q =
-        clash (differ maxArrays (masksBelow count x) (masksBelow count y)) p
-        (no-differ maxArrays (masksBelow count x) (masksBelow count y) (λ a l. below-as count x y a (alike count x y q a)))
+        clash (differ most (masksBelow count x) (masksBelow count y)) p
+        (no-differ most (masksBelow count x) (masksBelow count y) (λ a l. below-as count x y a (alike count x y q a)))
     go false p true q =
         clash (differ count x y) q
-        (no-differ count x y (λ a l. sym (below-at count x l) ∙ alike maxArrays (masksBelow count x) (masksBelow count y) p a (omega arith) ∙ below-at count y l))
+        (no-differ count x y (λ a l. sym (below-at count x l) ∙ alike most (masksBelow count x) (masksBelow count y) p a (omega arith) ∙ below-at count y l))
 
 -- the front of a queue that is not empty
 front-of : (l : List ℕ) → 0 < length l → (d : ℕ) × (w : List ℕ) × (l ≡ d ∷ w)
 front-of [] h = absurd (omega arith)
 front-of (d ∷ w) h = (d, w, refl)
 
-pub underway-front : {f : Flow} {ws : List ℕ} {n : ℕ} {queue : Queue} (u : Underway f ws n queue) → 0 < queue .len → (d : ℕ) × (w : List ℕ) × (u .state .waiting ≡ d ∷ w)
+pub underway-front : {f : Flow} {ws : List ℕ} {n k : ℕ} {queue : Queue} (u : Underway f ws n k queue) → 0 < queue .len → (d : ℕ) × (w : List ℕ) × (u .state .waiting ≡ d ∷ w)
 underway-front {queue = q} u l = front-of (u .state .waiting) (subst (λ (k : ℕ). 0 < k) (u .solving .waits .count) l)
 
-module _ {f : Flow} (wf : WellFormed f) {n : ℕ} (sized : size f ≡ n) (few : f .arrays ≤ maxArrays) {ws : List ℕ} {q : Queue} (u : Underway f ws n q)
+module _ {f : Flow} (wf : WellFormed f) {n k : ℕ} (sized : size f ≡ n) (few : f .arrays ≤ 64 * k) {ws : List ℕ} {q : Queue} (u : Underway f ws n k q)
     (x : ℕ) (w : List ℕ) (front : u .state .waiting ≡ x ∷ w) {d : ℕ} {vs : List ℕ} (taken : Taken ws vs n q d) where
   abbrev g : Graph
   g = doubled f
@@ -126,25 +128,22 @@ module _ {f : Flow} (wf : WellFormed f) {n : ℕ} (sized : size f ≡ n) (few : 
 
   -- the area after the front is taken
 
-  took-visited : (t : ℕ) → t < 2 * n → getD vs (visitedAt n + t) 0 ≡ cond (st .visited t) 1 0
-  took-visited t l = taken .kept .above (visitedAt n + t) (omega arith) ∙ u .solving .visited t l
+  took-visited : (t : ℕ) → t < 2 * n → has vs (visitedAt n) t ≡ cond (st .visited t) 1 0
+  took-visited t l = has-cong vs ws (visitedAt n) t (taken .kept .above (visitedAt n + t / 64) (omega arith)) ∙ u .solving .visited t l
 
-  took-masks : (t a : ℕ) → t < 2 * n → a < maxArrays → masksAt vs n t a ≡ masksBelow (f .arrays) (pulled g st t) a
-  took-masks t a l m = byte-cong vs ws (maskRowAt n t) a (taken .kept .above (maskRowAt n t + a / 8) (omega arith)) ∙ u .solving .masks t a l m
+  took-masks : (t a : ℕ) → t < 2 * n → a < 64 * k → masksAt vs n k t a ≡ masksBelow (f .arrays) (pulled g st t) a
+  took-masks t a l m = masks-kept ws vs n k (λ y lo hi. taken .kept .above y (let low = row-from n k 0 in omega arith)) t a l m ∙ u .solving .masks t a l m
 
-  took-grown : (t : ℕ) → t < 2 * n → st .visited t ≡ true → getD vs (grownAt n + t) 0 ≡ cond (changed g st t) 1 0
-  took-grown t l v = taken .kept .above (grownAt n + t) (omega arith) ∙ u .solving .grown t l v
+  took-grown : (t : ℕ) → t < 2 * n → st .visited t ≡ true → has vs (grownAt n) t ≡ cond (changed g st t) 1 0
+  took-grown t l v = has-cong vs ws (grownAt n) t (taken .kept .above (grownAt n + t / 64) (omega arith)) ∙ u .solving .grown t l v
 
-  pub took-entered : EmptyEntered vs n
-  took-entered = empty-stays ws vs n (taken .kept .between) (u .solving .entered-row)
-
-  -- the test for a unchanged number
-  unchanged-is : (eqb (getD vs (visitedAt n + x) 0) 1 && eqb (getD vs (grownAt n + x) 0) 0) ≡ not news
+  -- the test for an unchanged number
+  unchanged-is : (eqb (has vs (visitedAt n) x) 1 && eqb (has vs (grownAt n) x) 0) ≡ not news
   unfolding news
-  unchanged-is = ap (λ (k : ℕ). eqb k 1 && eqb (getD vs (grownAt n + x) 0) 0) (took-visited x front-in) ∙ at (st .visited x) refl
+  unchanged-is = ap (λ (b : ℕ). eqb b 1 && eqb (has vs (grownAt n) x) 0) (took-visited x front-in) ∙ at (st .visited x) refl
     where
-      at : (v : Bool) → st .visited x ≡ v → (eqb (cond v 1 0) 1 && eqb (getD vs (grownAt n + x) 0) 0) ≡ not (not v || changed g st x)
-      at true e = ap (λ (k : ℕ). eqb k 0) (took-grown x front-in e) ∙ is (changed g st x)
+      at : (v : Bool) → st .visited x ≡ v → (eqb (cond v 1 0) 1 && eqb (has vs (grownAt n) x) 0) ≡ not (not v || changed g st x)
+      at true e = ap (λ (b : ℕ). eqb b 0) (took-grown x front-in e) ∙ is (changed g st x)
         where
           is : (c : Bool) → eqb (cond c 1 0) 0 ≡ not c
           is true = refl
@@ -152,8 +151,8 @@ module _ {f : Flow} (wf : WellFormed f) {n : ℕ} (sized : size f ≡ n) (few : 
       at false e = refl
 
   -- the test at the number taken
-  pub unchanged-at : {r : Bool} → r ≡ (eqb (getD vs (visitedAt n + d) 0) 1 && eqb (getD vs (grownAt n + d) 0) 0) → r ≡ not news
-  unchanged-at e = e ∙ ap (λ (y : ℕ). eqb (getD vs (visitedAt n + y) 0) 1 && eqb (getD vs (grownAt n + y) 0) 0) is-front ∙ unchanged-is
+  pub unchanged-at : {r : Bool} → r ≡ (eqb (has vs (visitedAt n) d) 1 && eqb (has vs (grownAt n) d) 0) → r ≡ not news
+  unchanged-at e = e ∙ ap (λ (y : ℕ). eqb (has vs (visitedAt n) y) 1 && eqb (has vs (grownAt n) y) 0) is-front ∙ unchanged-is
 
   -- the numbers visited
   visited-is : (t : ℕ) → next .visited t ≡ cond (eqb t x) true (st .visited t)
@@ -196,7 +195,7 @@ module _ {f : Flow} (wf : WellFormed f) {n : ℕ} (sized : size f ≡ n) (few : 
         at (no e) =
             changed-other g gwf st inv x w front t e ∙ ap (λ (b : Bool). changed g st t || b) (same-differ t) ∙ or-false (changed g st t)
 
-    pub visits-unchanged : VisitsFront f ws vs n q (restOf n q) u
+    pub visits-unchanged : VisitsFront f ws vs n k q (restOf n q) u
     unfolding queue news
     visits-unchanged = record {
       front = x;
@@ -207,77 +206,87 @@ module _ {f : Flow} (wf : WellFormed f) {n : ℕ} (sized : size f ≡ n) (few : 
         visited = λ t l. took-visited t l ∙ ap (λ (b : Bool). cond b 1 0) (sym (same-visited t));
         masks = λ t a l m. took-masks t a l m ∙ below-as (f .arrays) (pulled g st t) (pulled g next t) a (λ b. sym (same-pulled t a b));
         grown = λ t l v. took-grown t l (sym (same-visited t) ∙ v) ∙ ap (λ (b : Bool). cond b 1 0) (sym (same-changed t));
-        entered-row = took-entered;
       };
     }
 
   -- the visit is noted, and the masks of the number go on
-  module _ (new : news ≡ true) {us os : List ℕ} {r : Queue} (room : areaEnd n ≤ length vs) (noted : us ≡ set (set vs (visitedAt n + d) 1) (grownAt n + d) 0)
-      (sent : Sends f us os n (restOf n q) d r) where
+  module _ (new : news ≡ true) {us os : List ℕ} {r : Queue} (room : setRow n ≤ length vs) (ww : Words vs) (noted : us ≡ removed (inserted vs (visitedAt n) d) (grownAt n) d)
+      (sent : Sends f us os n k (restOf n q) d r) where
+    in-area : d < 2 * n
+    in-area = subst (λ (y : ℕ). y < 2 * n) (sym is-front) front-in
+
     -- the area once the visit is noted
-    noted-other : (y : ℕ) → y ≢ visitedAt n + x → y ≢ grownAt n + x → getD us y 0 ≡ getD vs y 0
-    noted-other y a b =
+    noted-word : (y : ℕ) → setRow n ≤ y → getD us y 0 ≡ getD vs y 0
+    noted-word y l =
+        let b = in-area in
         ap (λ (l : List ℕ). getD l y 0) noted
-        ∙ getD-set-other (set vs (visitedAt n + d) 1) (grownAt n + d) y 0 0 (λ e. b (e ∙ ap (λ (k : ℕ). grownAt n + k) is-front))
-        ∙ getD-set-other vs (visitedAt n + d) y 1 0 (λ e. a (e ∙ ap (λ (k : ℕ). visitedAt n + k) is-front))
+        ∙ removed-other (inserted vs (visitedAt n) d) (grownAt n) d y (λ e. omega arith)
+        ∙ inserted-other vs (visitedAt n) d y (λ e. omega arith)
 
-    noted-masks : (t a : ℕ) → t < 2 * n → a < maxArrays → masksAt us n t a ≡ masksBelow (f .arrays) (pulled g st t) a
-    noted-masks t a l m =
-        let in′ = front-in in
-        byte-cong us vs (maskRowAt n t) a (noted-other (maskRowAt n t + a / 8) (λ e. omega arith) (λ e. omega arith)) ∙ took-masks t a l m
+    noted-masks : (t a : ℕ) → t < 2 * n → a < 64 * k → masksAt us n k t a ≡ masksBelow (f .arrays) (pulled g st t) a
+    noted-masks t a l m = masks-kept vs us n k (λ y lo hi. noted-word y (let low = row-from n k 0 in omega arith)) t a l m ∙ took-masks t a l m
 
-    noted-visited : (t : ℕ) → t < 2 * n → getD us (visitedAt n + t) 0 ≡ cond (next .visited t) 1 0
-    noted-visited t l = at (ℕ-discrete t x)
+    noted-visited : (t : ℕ) → t < 2 * n → has us (visitedAt n) t ≡ cond (next .visited t) 1 0
+    noted-visited t l =
+        let b = in-area in
+        ap (λ (l : List ℕ). has l (visitedAt n) t) noted
+        ∙ remove-else (inserted vs (visitedAt n) d) (grownAt n) d (visitedAt n) t (λ e. omega arith)
+        ∙ at (ℕ-discrete t x)
       where
-        at : Dec (t ≡ x) → getD us (visitedAt n + t) 0 ≡ cond (next .visited t) 1 0
+        at : Dec (t ≡ x) → has (inserted vs (visitedAt n) d) (visitedAt n) t ≡ cond (next .visited t) 1 0
         at (yes e) =
-            let in′ = front-in in
-            let same = is-front in
-            ap (λ (l : List ℕ). getD l (visitedAt n + t) 0) noted
-            ∙ getD-set-other (set vs (visitedAt n + d) 1) (grownAt n + d) (visitedAt n + t) 0 0 (λ q. omega arith)
-            ∙ ap (λ (k : ℕ). getD (set vs (visitedAt n + d) 1) (visitedAt n + k) 0) (e ∙ sym same)
-            ∙ getD-set-same vs (visitedAt n + d) 1 0 (omega arith)
+            let b = in-area in
+            ap (has (inserted vs (visitedAt n) d) (visitedAt n)) (e ∙ sym is-front)
+            ∙ insert-same vs (visitedAt n) d (omega arith)
             ∙ sym (ap (λ (b : Bool). cond b 1 0) (visited-at g gwf st inv x w front e))
         at (no e) =
-            let in′ = front-in in
-            noted-other (visitedAt n + t) (λ q. e (omega arith)) (λ q. omega arith) ∙ took-visited t l
+            let b = in-area in
+            insert-other vs (visitedAt n) d t (omega arith) (λ q. e (q ∙ is-front)) ∙ took-visited t l
             ∙ ap (λ (b : Bool). cond b 1 0) (sym (visited-other g gwf st inv x w front e))
 
-    next-masks : (t a : ℕ) → t < 2 * n → a < maxArrays → masksAt os n t a ≡ masksBelow (f .arrays) (pulled g next t) a
+    -- the number has not grown since
+    noted-front : (t : ℕ) → t ≡ x → has us (grownAt n) t ≡ 0
+    noted-front t e =
+        let b = in-area in
+        ap₂ (λ (l : List ℕ) (y : ℕ). has l (grownAt n) y) noted (e ∙ sym is-front)
+        ∙ remove-same (inserted vs (visitedAt n) d) (grownAt n) d (words-inserted vs (visitedAt n) d ww) (omega (arith, length-inserted vs (visitedAt n) d))
+
+    noted-grown : (t : ℕ) → t < 2 * n → t ≢ x → has us (grownAt n) t ≡ has vs (grownAt n) t
+    noted-grown t l e =
+        let b = in-area in
+        ap (λ (l : List ℕ). has l (grownAt n) t) noted
+        ∙ remove-other (inserted vs (visitedAt n) d) (grownAt n) d (words-inserted vs (visitedAt n) d ww) (omega (arith, length-inserted vs (visitedAt n) d)) t (λ q. e (q ∙ is-front))
+        ∙ insert-else vs (visitedAt n) d (grownAt n) t (λ e. omega arith)
+
+    next-masks : (t a : ℕ) → t < 2 * n → a < 64 * k → masksAt os n k t a ≡ masksBelow (f .arrays) (pulled g next t) a
     next-masks t a l m =
-        sent .masks (pulled g st x) (λ b k. ap (λ (y : ℕ). masksAt us n y b) is-front ∙ noted-masks x b front-in k) t a l m
+        sent .masks (pulled g st x) (λ b h. ap (λ (y : ℕ). masksAt us n k y b) is-front ∙ noted-masks x b front-in h) t a l m
         ∙ ap₂ bitOr (noted-masks t a l m) (ap (λ (y : ℕ). masksBelow (f .arrays) (λ b. brings t b (pulled g st x b) (g .arcs y)) a) is-front)
         ∙ below-or (f .arrays) (pulled g st t) (λ b. brings t b (pulled g st x b) (g .arcs x)) a
-        ∙ below-as (f .arrays) (λ b. bitOr (pulled g st t b) (brings t b (pulled g st x b) (g .arcs x))) (pulled g next t) a (λ k. sym (pulled-next g gwf st inv x w front t a))
+        ∙ below-as (f .arrays) (λ b. bitOr (pulled g st t b) (brings t b (pulled g st x b) (g .arcs x))) (pulled g next t) a (λ h. sym (pulled-next g gwf st inv x w front t a))
 
     -- what grew is what the visit added
-    added : (t : ℕ) → t < 2 * n → differ maxArrays (masksAt os n t) (masksAt us n t) ≡ differ (g .arrays) (pulled g next t) (pulled g st t)
+    added : (t : ℕ) → t < 2 * n → differ (64 * k) (masksAt os n k t) (masksAt us n k t) ≡ differ (g .arrays) (pulled g next t) (pulled g st t)
     unfolding doubled
     added t l =
-        differ-as maxArrays (masksAt os n t) (masksBelow (f .arrays) (pulled g next t)) (masksAt us n t) (masksBelow (f .arrays) (pulled g st t)) (λ a m. next-masks t a l m) (λ a m. noted-masks t a l m)
-        ∙ differ-below (f .arrays) (pulled g next t) (pulled g st t) few
+        differ-as (64 * k) (masksAt os n k t) (masksBelow (f .arrays) (pulled g next t)) (masksAt us n k t) (masksBelow (f .arrays) (pulled g st t)) (λ a m. next-masks t a l m) (λ a m. noted-masks t a l m)
+        ∙ differ-below (64 * k) (f .arrays) (pulled g next t) (pulled g st t) few
 
-    next-grown : (t : ℕ) → t < 2 * n → next .visited t ≡ true → getD os (grownAt n + t) 0 ≡ cond (changed g next t) 1 0
+    next-grown : (t : ℕ) → t < 2 * n → next .visited t ≡ true → has os (grownAt n) t ≡ cond (changed g next t) 1 0
     next-grown t l v = at (ℕ-discrete t x)
       where
-        at : Dec (t ≡ x) → getD os (grownAt n + t) 0 ≡ cond (changed g next t) 1 0
+        at : Dec (t ≡ x) → has os (grownAt n) t ≡ cond (changed g next t) 1 0
         at (yes e) =
-            let same = is-front in
-            let in′ = front-in in
             sent .grown t l
-            ∙ ap₂ (λ (b : Bool) (y : ℕ). cond b 1 y) (added t l)
-            (ap (λ (l : List ℕ). getD l (grownAt n + t) 0) noted ∙ ap (λ (k : ℕ). getD (set (set vs (visitedAt n + d) 1) (grownAt n + d) 0) (grownAt n + k) 0) (e ∙ sym same)
-            ∙ getD-set-same (set vs (visitedAt n + d) 1) (grownAt n + d) 0 0 (omega (arith, length-set vs (visitedAt n + d) 1)))
+            ∙ ap₂ (λ (b : Bool) (y : ℕ). cond b 1 y) (added t l) (noted-front t e)
             ∙ ap (λ (b : Bool). cond b 1 0) (ap (λ (y : ℕ). differ (g .arrays) (pulled g next y) (pulled g st y)) e ∙ sym (ap (changed g next) e ∙ changed-front g gwf st inv x w front))
         at (no e) =
-            let in′ = front-in in
             sent .grown t l
-            ∙ ap₂ (λ (b : Bool) (y : ℕ). cond b 1 y) (added t l)
-            (noted-other (grownAt n + t) (λ q. omega arith) (λ q. e (omega arith)) ∙ took-grown t l (sym (visited-other g gwf st inv x w front e) ∙ v))
+            ∙ ap₂ (λ (b : Bool) (y : ℕ). cond b 1 y) (added t l) (noted-grown t l e ∙ took-grown t l (sym (visited-other g gwf st inv x w front e) ∙ v))
             ∙ cond-or (changed g st t) (differ (g .arrays) (pulled g next t) (pulled g st t)) 1 0
             ∙ ap (λ (b : Bool). cond b 1 0) (sym (changed-other g gwf st inv x w front t e))
 
-    pub visits-sent : Waits us n (restOf n q) w → VisitsFront f ws os n q r u
+    pub visits-sent : Waits us n (restOf n q) w → VisitsFront f ws os n k q r u
     unfolding queue news
     visits-sent waiting = record {
       front = x;
@@ -285,22 +294,18 @@ module _ {f : Flow} (wf : WellFormed f) {n : ℕ} (sized : size f ≡ n) (few : 
       waiting = front;
       solving = record {
         waits = subst (λ (l : List ℕ). Waits os n r l) (ap (λ (y : ℕ). enqueue (g .arcs y) w) is-front ∙ sym (waiting-next g gwf st inv x w front ∙ ap (queue g gwf st inv x w front) new)) (sent .waits w waiting);
-        visited = λ t l. sent .visited (visitedAt n + t) (omega arith) (omega arith) ∙ noted-visited t l;
+        visited = λ t l. has-cong os us (visitedAt n) t (sent .visited (visitedAt n + t / 64) (omega arith) (omega arith)) ∙ noted-visited t l;
         masks = next-masks;
         grown = next-grown;
-        entered-row = sent .entered-row;
       };
     }
 
--- the words of the visit lie apart from the queue and the row of entered statements
-module _ (vs us : List ℕ) (n d : ℕ) (below : d < 2 * n) (noted : us ≡ set (set vs (visitedAt n + d) 1) (grownAt n + d) 0) where
-  pub note-keeps : Keeps (visitedAt n) (areaEnd n) vs us
+-- the sets that note a visit lie apart from the queue
+module _ (vs us : List ℕ) (n d : ℕ) (below : d < 2 * n) (noted : us ≡ removed (inserted vs (visitedAt n) d) (grownAt n) d) where
+  pub note-keeps : Keeps (visitedAt n) (setRow n) vs us
   note-keeps =
-      subst (Keeps (visitedAt n) (areaEnd n) vs) (sym noted)
-      (keeps-trans (keeps-set vs (visitedAt n + d) 1 (omega arith) (omega arith)) (keeps-set (set vs (visitedAt n + d) 1) (grownAt n + d) 0 (omega arith) (omega arith)))
+      subst (Keeps (visitedAt n) (setRow n) vs) (sym noted)
+      (keeps-trans (keeps-inserted vs (visitedAt n) d (omega arith) (omega arith)) (keeps-removed (inserted vs (visitedAt n) d) (grownAt n) d (omega arith) (omega arith)))
 
   pub noted-waits : {q : Queue} {w : List ℕ} → Waits vs n q w → Waits us n q w
   noted-waits h = waits-kept h (λ x l m. note-keeps .below x (omega arith)) (λ x l m. note-keeps .below x m)
-
-  pub noted-entered : EmptyEntered vs n → EmptyEntered us n
-  noted-entered = empty-stays vs us n (λ x l m. note-keeps .below x (omega arith))

@@ -9,7 +9,6 @@ use Rattle.masks.specs.State.{State, holds}
 use Rattle.flow.specs.declared.Refusal.{Refusal}
 use Rattle.flow.specs.Flow.{Flow, size}
 use Rattle.flow.specs.Format.{Verdict, fit, unfit, verdict, fileChecks, areaChecks, flowOf}
-use Rattle.flow.specs.Refusals.{numberOf, placeOf}
 use Rattle.theory.specs.Doubled.{doubled}
 use Rattle.theory.specs.Queue.{Solver, Over, visitBound}
 use Rattle.theory.specs.Masks.{BringsTo, maskLeft}
@@ -17,19 +16,6 @@ use Rattle.theory.specs.Live.{LiveIn, LiveOut, member, liveInWord, liveOutWord}
 use Rattle.theory.specs.Runs.{Config, Run, Listed}
 use Rattle.dataflow.specs.declared.Answer.{Answer}
 use Rattle.dataflow.specs.declared.Answer.the-variants.{Accepted, Refused}
-
--- the paper's number, place and visits for each answer
-abbrev pub numberOfAnswer : Answer → ℕ
-numberOfAnswer (Accepted v) = 0
-numberOfAnswer (Refused r) = numberOf r
-
-abbrev pub placeOfAnswer : Answer → ℕ
-placeOfAnswer (Accepted v) = 0
-placeOfAnswer (Refused r) = placeOf r
-
-abbrev pub visitsOfAnswer : Answer → ℕ
-visitsOfAnswer (Accepted v) = v
-visitsOfAnswer (Refused r) = 0
 
 -- the fields of the file in file order, then the areas by their lengths
 abbrev pub judged : List ℕ → ℕ → ℕ → ℕ → ℕ → Verdict
@@ -79,11 +65,3 @@ pub record Promise (s masks masks′ liveIn liveIn′ liveOut liveOut′ work wo
       → (r ≡ Refused x) × Untouched masks masks′ liveIn liveIn′ liveOut liveOut′ work work′
   pub accepted : judged s (length masks) (length liveIn) (length liveOut) (length work) ≡ fit
       → (v : ℕ) × (r ≡ Accepted v) × Answered (flowOf s) masks masks′ liveIn liveIn′ liveOut liveOut′ work work′ v
-
--- the door: an answer that keeps the promise, as this paper's numbers
-pub record Door (s masks masks′ liveIn liveIn′ liveOut liveOut′ work work′ : List ℕ) (place visits r : ℕ) : Type 0 where
-  pub answer : Answer
-  pub number : r ≡ numberOfAnswer answer
-  pub place-is : place ≡ placeOfAnswer answer
-  pub visits-is : visits ≡ visitsOfAnswer answer
-  pub promise : Promise s masks masks′ liveIn liveIn′ liveOut liveOut′ work work′ answer

@@ -1,13 +1,16 @@
 // The call that answers a flow file: the file is judged, then the areas; only then is anything written.
-ghost use Prim.Native.Nat.{_*_, _<_, _≤_};
+ghost use Prim.Native.Nat.{_*_, _<_, _≤_, min};
 ghost use mathlib.Core.Bool.{cond};
 ghost use mathlib.Core.Path.{_≡_};
 ghost use lib.ListN.{length};
 ghost use Rattle.words.specs.contracts.Change.{zeroed};
 ghost use Rattle.flow.specs.Format.{flowOf};
 ghost use Rattle.theory.specs.Live.{liveInWord, liveOutWord};
+ghost use Rattle.flow.specs.Limits.{maxStatements, maxArrays};
+ghost use Rattle.statements.specs.contracts.Layout.{setWords};
 ghost use Rattle.statements.specs.contracts.Ready.{Ready};
-ghost use Rattle.dataflow.specs.Promise.{Promise, Door, Written};
+ghost use Rattle.solve.specs.contracts.Layout.{areaEnd};
+ghost use Rattle.dataflow.specs.Promise.{Promise, Written};
 ghost use Rattle.dataflow.specs.contracts.Phases.{FitFlow, SummariesMade, SolverStart, Masked, FitAreas, Findings};
 use crate::Answer;
 use crate::arrays;
@@ -46,13 +49,10 @@ fn solve_arrays(file: &[u8], h: flow::Header, masks: &mut [u8], work: &mut [u64]
     visits
 }
 
-// The matrix, the queue and the waiting words are free again.
 fn solve_names(file: &[u8], n: usize, live_in: &mut [u64], live_out: &mut [u64], work: &mut [u64])
     requires { ⌜ Ready (now file) (now work) n × (0 < n) × (n ≤ length (now «live_in»)) × (n ≤ length (now «live_out»)) ⌝ }
     ensures { λ _. ⌜ Written n (liveInWord (flowOf (now (file .entry)))) (now («live_in» .entry)) (now («live_in» .exit)) × Written n (liveOutWord (flowOf (now (file .entry)))) (now («live_out» .entry)) (now («live_out» .exit)) ⌝ }
 {
-    let matrix = layout::matrix(n);
-    words::zero_row(work, matrix, solve::layout::visited(n) - matrix);
     live::live_names(file, work, live_in, live_out, n);
 }
 
@@ -76,6 +76,15 @@ fn solve_flow(
     visits
 }
 
+// How many words of a work area of this size the phases use.
+fn used_words(n: usize, arrays: usize, size: usize) -> usize
+    requires { ⌜ (n ≤ maxStatements) × (arrays ≤ maxArrays) ⌝ }
+    ensures { λ r. ⌜ r ≡ min (areaEnd n (setWords arrays)) size ⌝ }
+{
+    let end = solve::layout::end(n, layout::set_words(arrays));
+    if end < size { end } else { size }
+}
+
 // The first `size` words are zeroed where the areas are fit; else nothing is written.
 fn zero_if(work: &mut [u64], size: usize, fit: bool)
     requires { ⌜ size ≤ length (now work) ⌝ }
@@ -87,7 +96,7 @@ fn zero_if(work: &mut [u64], size: usize, fit: bool)
 }
 
 // The answer to every file and all lent areas. Nothing is written before both are judged, so that a refusal changes nothing; the work area
-// is zeroed before the phases, which count on it, and after them, for the caller.
+// is zeroed before the phases as far as they use it, since they count on it, and whole after them, for the caller.
 pub fn states(
     file: &[u8],
     masks: &mut [u8],
@@ -116,42 +125,16 @@ pub fn states(
     let size = work.len();
     // Before the refusal is returned: this is the one write that short areas could meet, and `zero_if` is told not to make it. A wrong program that
     // makes it is thus a single change of this line, and is tried.
-    zero_if(work, size, fit);
+    zero_if(work, used_words(n, arrays, size), fit);
     if !fit {
         return Answer::Refused(flow::Refusal::Areas);
     }
     // With no statements there is no entry, and nothing to visit.
     if n == 0 {
+        words::zero_row(work, 0, size);
         return Answer::Accepted(0);
     }
     let visits = solve_flow(file, h, masks, live_in, live_out, work);
     words::zero_row(work, 0, size);
     Answer::Accepted(visits)
-}
-
-// The door for other languages: 0, place 0 and the count of visits where the flow is accepted; else the refusal's number, its place and 0.
-#[no_mangle]
-pub extern "C" fn yarnuskel_states(
-    file: &[u8],
-    masks: &mut [u8],
-    live_in: &mut [u64],
-    live_out: &mut [u64],
-    work: &mut [u64],
-    place: &mut u64,
-    visits: &mut u64,
-) -> u64
-    ensures { λ r. ⌜ Door (now (file .entry)) (now (masks .entry)) (now (masks .exit)) (now («live_in» .entry)) (now («live_in» .exit)) (now («live_out» .entry)) (now («live_out» .exit)) (now (work .entry)) (now (work .exit)) (now (place .exit)) (now (visits .exit)) r ⌝ }
-{
-    match states(file, masks, live_in, live_out, work) {
-        Answer::Accepted(count) => {
-            *place = 0;
-            *visits = count;
-            0
-        }
-        Answer::Refused(r) => {
-            *place = flow::check::place(r);
-            *visits = 0;
-            flow::check::number(r)
-        }
-    }
 }

@@ -1,4 +1,4 @@
-// `array_states` and live names: the answer to a flow file, and its door for other languages.
+// `array_states` and live names: the answer to a flow file.
 pub mod arrays;
 pub mod door;
 pub mod transfer;

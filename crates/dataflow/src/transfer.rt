@@ -1,21 +1,30 @@
-// What a statement does to the masks of a doubled number, on the way to its edges.
-ghost use mathlib.Core.Bool.{_&&_};
-ghost use Prim.Native.Nat.{_+_, _*_, _<_, _≤_};
-ghost use lib.Dec.{eqb};
+// What a statement does to the masks of a doubled number, on the way to its edges: which arrays take an effect is noted as a set, and the row of masks steps.
+ghost use mathlib.Core.Path.{_≡_};
+ghost use mathlib.Core.Bool.{_&&_, cond};
+ghost use mathlib.Core.Logic.{_⊎_};
+ghost use Prim.Native.Nat.{ℕ, _+_, _*_, _<_, _≤_};
+ghost use lib.Dec.{eqb, ltb};
 ghost use lib.ListN.{length};
-ghost use Rattle.words.specs.contracts.Byte.{byteAt};
-ghost use Rattle.masks.specs.declared.Effect.the-variants.{Reference, Dim, Touched};
+ghost use Rattle.words.specs.contracts.Row.{bit};
+ghost use Rattle.masks.specs.declared.Effect.the-variants.{Reference, Dim, Reset, Touched};
 ghost use Rattle.flow.specs.Flow.{items};
 ghost use Rattle.flow.specs.Format.{flowOf};
 ghost use Rattle.flow.specs.Limits.{maxStatements, maxArrays};
+ghost use Rattle.flow.specs.contracts.Answers.{FitFile};
 ghost use Rattle.theory.specs.Lists as lists;
 ghost use Rattle.theory.specs.Body.{kind, references};
-ghost use Rattle.theory.specs.Doubled.{dims, statementEffects};
-ghost use Rattle.statements.specs.contracts.Layout.{callTouchedAt, areaEnd};
-ghost use Rattle.statements.specs.contracts.Ready.{Ready, Indexed};
-ghost use Rattle.solve.specs.contracts.Layout.{maskWords, maskRowAt, outRow, backRow};
-ghost use Rattle.solve.specs.contracts.Rows.{RowIs, stepWhere, memberBelow};
-ghost use Rattle.dataflow.specs.contracts.Transfer.{acted};
+ghost use Rattle.theory.specs.Doubled as doubled;
+ghost use Rattle.theory.specs.Doubled.{dims, at};
+ghost use Rattle.statements.specs.contracts.Layout.{callTouchedAt, setWords, maxWidth};
+ghost use Rattle.statements.specs.contracts.Ready.{Indexed, RecordOf};
+ghost use Rattle.calls.specs.contracts.Held.{Linked};
+ghost use Rattle.calls.specs.contracts.Class.{EdgesOf};
+ghost use Rattle.solve.specs.contracts.Layout.{outRow, backRow, areaEnd};
+ghost use Rattle.solve.specs.contracts.Rows.{RowIs, maskAt, stepWhere, member};
+ghost use Rattle.dataflow.specs.contracts.Transfer.{isCall, SetIs, SetGains, RowSteps, RowsApart, Acted};
+ghost use Rattle.dataflow.specs.contracts.Sent.{Prepared};
+use calls::edges::EdgeClass;
+use calls::edges::Edges;
 use flow::NodeId;
 use flow::StmtId;
 use masks::Effect;
@@ -23,70 +32,184 @@ use solve::layout;
 use solve::rows;
 use statements::fields;
 
-fn step_references(file: &[u8], work: &mut [u64], n: usize, i: StmtId, row: usize)
-    requires { ⌜ Ready (now file) (now work) n × (i .0 < n) × (n ≤ row) × (row + maskWords ≤ length (now work)) ⌝ }
-    ensures { λ _. ⌜ RowIs (now (work .entry)) (now (work .exit)) row (stepWhere (λ a. lists.elem a (references (flowOf (now (file .entry))) (i .0))) Reference (byteAt (now (work .entry)) row)) ⌝ }
+// The references of statement i, whose record is at p, as a set.
+fn note_references(file: &[u8], work: &mut [u64], i: StmtId, p: usize, set: usize, width: usize)
+    requires { ⌜ RecordOf (now file) (i .0) p × (width ≤ maxWidth) × (set + width ≤ length (now work)) ⌝ }
+    ensures { λ _. ⌜ SetIs (now (work .entry)) (now (work .exit)) set width (λ a. lists.elem a (references (flowOf (now (file .entry))) (i .0))) ⌝ }
 {
-    let count = fields::reference_count(file, work, n, i);
+    // Up to 64 arrays take one word, and no loop.
+    if width == 1 {
+        work[set] = records::references_word(file, p, 0);
+        return;
+    }
     let mut k = 0;
-    while k < count {
-        let a = fields::reference(file, work, n, i, k);
-        rows::step_at(work, row, a, Effect::Reference);
+    while k < width {
+        work[set + k] = records::references_word(file, p, k);
         k += 1;
     }
 }
 
-// A DIM's item without dimensions does nothing to its array's mask.
-fn step_item(work: &mut [u64], row: usize, x: flow::Item)
-    requires { ⌜ (row + maskWords ≤ length (now work)) × (x .array < maxArrays) ⌝ }
-    ensures { λ _. ⌜ RowIs (now (work .entry)) (now (work .exit)) row (stepWhere (λ a. eqb (x .array) a && eqb (x .flag) 1) Dim (byteAt (now (work .entry)) row)) ⌝ }
+// The array of an item with dimensions joins the set; an item without does nothing to its array's mask.
+fn note_item(work: &mut [u64], set: usize, width: usize, x: flow::Item)
+    requires { ⌜ (width ≤ maxWidth) × (set + width ≤ length (now work)) × (x .array < 64 * width) ⌝ }
+    ensures { λ _. ⌜ SetGains (now (work .entry)) (now (work .exit)) set width (λ a. eqb (x .array) a && eqb (x .flag) 1) ⌝ }
 {
     if x.flag == 1 {
-        rows::step_at(work, row, x.array, Effect::Dim);
+        words::insert(work, set, x.array);
     }
 }
 
-fn step_items(file: &[u8], work: &mut [u64], n: usize, i: StmtId, row: usize)
-    requires { ⌜ Ready (now file) (now work) n × (i .0 < n) × (n ≤ row) × (row + maskWords ≤ length (now work)) ⌝ }
-    ensures { λ _. ⌜ RowIs (now (work .entry)) (now (work .exit)) row (stepWhere (λ a. lists.any (dims a) (items (kind (flowOf (now (file .entry))) (i .0)))) Dim (byteAt (now (work .entry)) row)) ⌝ }
+// The arrays of the items of statement i, whose record is at p, that have dimensions, as a set.
+fn note_items(file: &[u8], work: &mut [u64], i: StmtId, p: usize, set: usize, width: usize)
+    requires { ⌜ FitFile (now file) × RecordOf (now file) (i .0) p × (width ≡ setWords (flowOf (now file) .arrays)) × (set + width ≤ length (now work)) ⌝ }
+    ensures { λ _. ⌜ SetIs (now (work .entry)) (now (work .exit)) set width (λ a. lists.any (dims a) (items (kind (flowOf (now (file .entry))) (i .0)))) ⌝ }
 {
-    let count = fields::item_count(file, work, n, i);
+    words::zero_row(work, set, width);
+    let count = records::item_count(file, p);
     let mut k = 0;
     while k < count {
-        let x = fields::item(file, work, n, i, k);
-        step_item(work, row, x);
+        let x = records::item(file, p, k);
+        note_item(work, set, width, x);
         k += 1;
     }
 }
 
-// The act of statement i on the masks of d, into the row for its edges.
-pub fn transfer(file: &[u8], h: flow::Header, work: &mut [u64], d: NodeId, i: StmtId)
-    requires { ⌜ Indexed (now file) h (now work) × (d .0 < 2 * h .statements) × (i .0 < h .statements) ⌝ }
-    ensures { λ _. ⌜ RowIs (now (work .entry)) (now (work .exit)) (outRow (h .statements)) (acted (h .arrays) (statementEffects (flowOf (now (file .entry))) (i .0)) (byteAt (now (work .entry)) (maskRowAt (h .statements) (d .0)))) ⌝ }
+// Word k of the set of the arrays below the count.
+fn below_word(count: usize, k: usize) -> u64
+    requires { ⌜ (count ≤ maxArrays) × (k < maxWidth) ⌝ }
+    ensures { λ r. ⌜ ((j : ℕ) → j < 64 → bit r j ≡ cond (ltb (64 * k + j) count) 1 0) ⌝ }
+{
+    if count <= 64 * k {
+        return 0;
+    }
+    let rest = count - 64 * k;
+    if rest < 64 { (1u64 << rest) - 1 } else { !0u64 }
+}
+
+// All arrays, as a set.
+fn note_all(work: &mut [u64], count: usize, set: usize, width: usize)
+    requires { ⌜ (count ≤ maxArrays) × (width ≤ maxWidth) × (set + width ≤ length (now work)) ⌝ }
+    ensures { λ _. ⌜ SetIs (now (work .entry)) (now (work .exit)) set width (λ a. ltb a count) ⌝ }
+{
+    let mut k = 0;
+    while k < width {
+        work[set + k] = below_word(count, k);
+        k += 1;
+    }
+}
+
+// The row at `to` becomes the row at `from` once all arrays are reset.
+pub fn reset_row(work: &mut [u64], count: usize, width: usize, set: usize, to: usize, from: usize)
+    requires { ⌜ (count ≤ maxArrays) × (width ≤ maxWidth) × RowsApart (now work) width set to from ⌝ }
+    ensures { λ _. ⌜ RowSteps (now (work .entry)) (now (work .exit)) width set to from (λ a. ltb a count) Reset ⌝ }
+{
+    note_all(work, count, set, width);
+    rows::step_members(work, width, to, from, set, Effect::Reset);
+}
+
+// The same for the references of statement i.
+fn refer_row(
+    file: &[u8],
+    work: &mut [u64],
+    i: StmtId,
+    p: usize,
+    width: usize,
+    set: usize,
+    to: usize,
+    from: usize,
+)
+    requires { ⌜ RecordOf (now file) (i .0) p × (width ≤ maxWidth) × RowsApart (now work) width set to from ⌝ }
+    ensures { λ _. ⌜ RowSteps (now (work .entry)) (now (work .exit)) width set to from (λ a. lists.elem a (references (flowOf (now (file .entry))) (i .0))) Reference ⌝ }
+{
+    note_references(file, work, i, p, set, width);
+    rows::step_members(work, width, to, from, set, Effect::Reference);
+}
+
+// And for its items with dimensions.
+fn dim_row(
+    file: &[u8],
+    work: &mut [u64],
+    i: StmtId,
+    p: usize,
+    width: usize,
+    set: usize,
+    to: usize,
+    from: usize,
+)
+    requires { ⌜ FitFile (now file) × RecordOf (now file) (i .0) p × (width ≡ setWords (flowOf (now file) .arrays)) × RowsApart (now work) width set to from ⌝ }
+    ensures { λ _. ⌜ RowSteps (now (work .entry)) (now (work .exit)) width set to from (λ a. lists.any (dims a) (items (kind (flowOf (now (file .entry))) (i .0)))) Dim ⌝ }
+{
+    note_items(file, work, i, p, set, width);
+    rows::step_members(work, width, to, from, set, Effect::Dim);
+}
+
+// The act of statement i on the masks of d, into the row for its edges. The row of the other edge serves between the two steps of a DIM.
+fn transfer(
+    file: &[u8],
+    h: flow::Header,
+    work: &mut [u64],
+    width: usize,
+    d: NodeId,
+    i: StmtId,
+    p: usize,
+)
+    requires { ⌜ (width ≡ setWords (h .arrays)) × Indexed (now file) h (now work) × (d .0 < 2 * h .statements) × RecordOf (now file) (i .0) p ⌝ }
+    ensures { λ _. ⌜ Acted (flowOf (now (file .entry))) (now (work .entry)) (now (work .exit)) (h .statements) width (d .0) (i .0) ⌝ }
 {
     let n = h.statements;
-    let row = layout::out_row(n);
-    rows::copy_row(work, row, layout::mask_row(n, d));
-    step_references(file, work, n, i, row);
-    step_items(file, work, n, i, row);
-    if fields::resets(file, work, n, i) {
-        rows::step_all(work, row, h.arrays, Effect::Reset);
+    let set = layout::set_row(n);
+    let out = layout::out_row(n, width);
+    let from = layout::mask_row(n, width, d);
+    if fields::resets(file, i, p) {
+        reset_row(work, h.arrays, width, set, out, from);
+        return;
     }
+    if records::item_count(file, p) == 0 {
+        refer_row(file, work, i, p, width, set, out, from);
+        return;
+    }
+    let back = layout::back_row(n, width);
+    refer_row(file, work, i, p, width, set, back, from);
+    dim_row(file, work, i, p, width, set, out, back);
 }
 
 // The masks on the edge to the continuation of the call i, which is not opaque: those of its other edges, with the touched step.
-pub fn transfer_back(work: &mut [u64], h: flow::Header, i: StmtId)
-    requires { ⌜ (h .statements ≤ maxStatements) × (areaEnd (h .statements) ≤ length (now work)) × (h .arrays ≤ maxArrays) × (i .0 < h .statements) ⌝ }
-    ensures { λ _. ⌜ RowIs (now (work .entry)) (now (work .exit)) (backRow (h .statements)) (stepWhere (memberBelow (now (work .entry)) (callTouchedAt (h .statements) + i .0) (h .arrays)) Touched (byteAt (now (work .entry)) (outRow (h .statements)))) ⌝ }
+fn transfer_back(work: &mut [u64], n: usize, width: usize, i: StmtId)
+    requires { ⌜ (n ≤ maxStatements) × (width ≤ maxWidth) × (areaEnd n width ≤ length (now work)) × (i .0 < n) ⌝ }
+    ensures { λ _. ⌜ RowIs (now (work .entry)) (now (work .exit)) width (backRow n width) (stepWhere (member (now (work .entry)) (callTouchedAt n + i .0)) Touched (maskAt (now (work .entry)) width (outRow n width))) ⌝ }
 {
-    let n = h.statements;
-    let row = layout::back_row(n);
-    rows::copy_row(work, row, layout::out_row(n));
     rows::step_members(
         work,
-        row,
+        width,
+        layout::back_row(n, width),
+        layout::out_row(n, width),
         statements::layout::call_touched(n) + i.0,
-        h.arrays,
         Effect::Touched,
     );
+}
+
+// The edges are those of a call that is not opaque, of which one carries the touched step.
+fn is_call(class: EdgeClass) -> bool
+    ensures { λ r. ⌜ r ≡ isCall class ⌝ }
+{
+    match class {
+        EdgeClass::Listed(_) => false,
+        EdgeClass::Return(_) => false,
+        EdgeClass::Nowhere => false,
+        EdgeClass::Call(_) => true,
+    }
+}
+
+// The rows that go along the edges of d.
+pub fn edge_rows(file: &[u8], h: flow::Header, work: &mut [u64], width: usize, d: NodeId, es: Edges)
+    requires { ⌜ (width ≡ setWords (h .arrays)) × Indexed (now file) h (now work) × Linked (flowOf (now file)) (now work) (h .statements) × (d .0 < 2 * h .statements) × EdgesOf (now file) es × (at (es .base) (es .stmt .0) ≡ doubled.node (flowOf (now file)) (d .0)) ⌝ }
+    ensures { λ _. ⌜ Prepared (flowOf (now (file .entry))) (now (work .entry)) (now (work .exit)) (h .statements) width (d .0) ⌝ }
+{
+    let n = h.statements;
+    let i = es.stmt;
+    transfer(file, h, work, width, d, i, es.place);
+    let class = es.class;
+    if is_call(class) {
+        transfer_back(work, n, width, i);
+    }
 }

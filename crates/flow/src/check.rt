@@ -7,7 +7,6 @@ ghost use lib.Dec.{ltb};
 ghost use Rattle.flow.specs.Format as format;
 ghost use Rattle.flow.specs.Format.{verdict, each, headerChecks, startChecks, referenceCountChecks, referenceChecks, nameChecks, dimChecks, gosubChecks, onGosubChecks, continuationChecks, dataChecks, restChecks, statementChecks, lineRecordChecks, endChecks, fileChecks, successorsPlace, referencesPlace, referenceCount, namesPlace, dataPlace, elementsEnd, recordEnd, linesPlace, lineCount, endPlace};
 ghost use Rattle.flow.specs.contracts.Answers.{Reached, passedOf, checkedOf, headerOf};
-ghost use Rattle.flow.specs.Format.{verdictNumber, verdictPlace};
 ghost use Rattle.flow.specs.contracts.Parts.{Due, Judged, Ended, partAnswer, answerThrough, placeAfter};
 ghost use Rattle.flow.specs.Refusals.{numberOf, placeOf};
 use crate::Checked;
@@ -472,23 +471,5 @@ pub fn place(refusal: Refusal) -> u64
         Refusal::Order(p) => p as u64,
         Refusal::Trailing(p) => p as u64,
         Refusal::Areas => 0,
-    }
-}
-
-// The door for other languages: the refusal's number and place, or 0 and 0 where the file is fit.
-#[no_mangle]
-pub extern "C" fn yarnuskel_check(file: &[u8], place: &mut u64) -> u64
-    ensures { λ r. ⌜ r ≡ verdictNumber (verdict (fileChecks (now (file .entry)))) ⌝ }
-    ensures { λ _. ⌜ now (place .exit) ≡ verdictPlace (verdict (fileChecks (now (file .entry)))) ⌝ }
-{
-    match check_file(file) {
-        Checked::Fit(_) => {
-            *place = 0;
-            0
-        }
-        Checked::Unfit(refusal) => {
-            *place = crate::check::place(refusal);
-            number(refusal)
-        }
     }
 }

@@ -1,9 +1,9 @@
 -- Sets of names bit by bit: a union has what either has, live-in has the names read and those live after and not written, and a word whose bits end at k is below 2 ^ k.
 -- By the laws of bits. Assumes nothing.
-use Prim.Native.Nat.{ℕ, _-_, _/_, _%_, _^_, _<_, min}
+use Prim.Native.Nat.{ℕ, zero, suc, _-_, _/_, _%_, _^_, _<_, min}
 use mathlib.Core.Bool.{true, false}
-use mathlib.Core.Logic.{_⊎_, inl, inr}
-use mathlib.Core.Path.{_≡_, sym, _∙_, subst}
+use mathlib.Core.Logic.{_⊎_, inl, inr, ⊎-elim}
+use mathlib.Core.Path.{_≡_, refl, sym, _∙_, ap₂, subst}
 use native.Mathlib.Decide.{decLt, ℕ-discrete}
 use native.Mathlib.Nat.{mod-lt}
 use native.Mathlib.Omega.{arith}
@@ -12,8 +12,9 @@ use lib.Bits.{bitOr}
 use lib.Pow.{pow-pos}
 use Rattle.words.specs.contracts.Row.{bit}
 use Rattle.words.specs.contracts.Change.{without}
-use Rattle.words.proofs.Bit.{bit-lt, bit-or, bit-without, bit-mod, bit-high, bits-ext}
+use Rattle.words.proofs.Bit.{bit-lt, bit-of-zero, bit-or, bit-without, bit-mod, bit-high, bits-ext}
 use Rattle.flow.specs.Flow.{Flow, statement}
+use Rattle.theory.specs.Queue.{unionBelow}
 use Rattle.theory.specs.Live.{member, reads, writes}
 use Rattle.live.specs.contracts.Solving.{transfer}
 
@@ -48,6 +49,27 @@ or-either a b x e = go (ℕ-discrete (bit a x) 1)
     go : Dec (bit a x ≡ 1) → (bit a x ≡ 1) ⊎ (bit b x ≡ 1)
     go (yes d) = inl d
     go (no d) = inr (omega (arith, bit-or a b x, bit-lt a x, bit-lt b x, d))
+
+-- unions of g 0, g 1, .. of k sets
+
+pub union-has : (k : ℕ) (g : ℕ → ℕ) (x m : ℕ) → m < k → bit (g m) x ≡ 1 → bit (unionBelow k g) x ≡ 1
+unfolding unionBelow
+union-has zero g x m l e = absurd (omega arith)
+union-has (suc k) g x m l e = go (union-has k g x m) (ℕ-discrete m k)
+  where
+    go : (m < k → bit (g m) x ≡ 1 → bit (unionBelow k g) x ≡ 1) → Dec (m ≡ k) → bit (bitOr (unionBelow k g) (g k)) x ≡ 1
+    go rest (yes d) = or-second (unionBelow k g) (g k) x (subst (λ z. bit (g z) x ≡ 1) d e)
+    go rest (no d) = or-first (unionBelow k g) (g k) x (rest (omega (arith, d)) e)
+
+pub has-union : (k : ℕ) (g : ℕ → ℕ) (x : ℕ) → bit (unionBelow k g) x ≡ 1 → (m : ℕ) × (m < k) × (bit (g m) x ≡ 1)
+unfolding unionBelow
+has-union zero g x e = absurd (omega (arith, bit-of-zero x))
+has-union (suc k) g x e = ⊎-elim (λ d. let r = has-union k g x d in (r .0, omega (arith, r .1), r .2)) (λ d. (k, omega arith, d)) (or-either (unionBelow k g) (g k) x e)
+
+pub union-cong : (k : ℕ) (g h : ℕ → ℕ) → ((m : ℕ) → m < k → g m ≡ h m) → unionBelow k g ≡ unionBelow k h
+unfolding unionBelow
+union-cong zero g h e = refl
+union-cong (suc k) g h e = ap₂ bitOr (union-cong k g h (λ m l. e m (omega arith))) (e k (omega arith))
 
 -- live-in from live-out
 

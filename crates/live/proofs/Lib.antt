@@ -5,7 +5,8 @@ pub mod Pushing
 pub mod Bits
 pub mod Solving
 pub mod Solution
+pub mod Sweeping
+pub mod Sweeps
 pub mod Visits
 pub mod Beginning
 pub mod Finishing
-pub mod Start

@@ -1,6 +1,6 @@
 -- One statement handled keeps the solver's invariant: its live-in is sound by its live-out, its predecessors' live-out by its live-in, and whatever does not wait
 -- afterwards satisfies its equation and has handed its live-in on. Assumes nothing.
-use Prim.Native.Nat.{ℕ, _^_, _<_, _≤_}
+use Prim.Native.Nat.{ℕ, _^_, _<_, _≤_, zero-le}
 use mathlib.Core.Bool.{Bool, true, false}
 use mathlib.Core.List.{List, _∷_, List·Memᴰ·tail, List·Memᴰ·cases-cons}
 use mathlib.Core.Logic.{_⊎_, inl, inr, ⊎-elim, _≢_}
@@ -21,7 +21,7 @@ use Rattle.statements.specs.contracts.Layout.{rowAt}
 use Rattle.solve.specs.declared.Queue.{Queue}
 use Rattle.live.specs.contracts.Predecessors.{Predecessors}
 use Rattle.live.specs.contracts.Spread.{pushed, Follows, PushedLive}
-use Rattle.live.specs.contracts.Solving.{transfer, HandedOn, Solving}
+use Rattle.live.specs.contracts.Solving.{transfer, Sound, HandedOn, Solving}
 use Rattle.live.proofs.Bits.{or-first, or-second, or-either, transfer-cases}
 use Rattle.live.proofs.Pushing.{pushed-member, pushed-other}
 
@@ -29,19 +29,31 @@ bit-one : (b : Bool) → bitOf b ≡ 1 → b ≡ true
 bit-one true e = refl
 bit-one false e = absurd (omega arith)
 
+-- a name of a live-in that follows from a live-out is live
+pub transfer-sound : (f : Flow) (j a x : ℕ) → a < 2 ^ 64 → statement f j .written < 2 ^ 64 → (bit a x ≡ 1 → LiveOut f x j) → bit (transfer f j a) x ≡ 1 → LiveIn f x j
+transfer-sound f j a x word written sound e = go (transfer-cases f j a x word written e)
+  where
+    on : writes f j x ≡ false → LiveOut f x j → LiveIn f x j
+    on d (LiveOut.at-successor m h) = LiveIn.later d m h
+
+    go : (reads f j x ≡ true) ⊎ ((writes f j x ≡ false) × (bit a x ≡ 1)) → LiveIn f x j
+    go (inl d) = LiveIn.now d
+    go (inr d) = on (d .0) (sound (d .1))
+
+-- a word whose names are live takes a place
+pub sound-set : {f : Flow} {n j : ℕ} (ins : List ℕ) (live : ℕ) → j < length ins → Sound f n ins → ((x : ℕ) → bit live x ≡ 1 → LiveIn f x j) → Sound f n (set ins j live)
+sound-set {f} {n} {j} ins live room s sound i x l e = go (ℕ-discrete i j)
+  where
+    go : Dec (i ≡ j) → LiveIn f x i
+    go (yes d) = subst (λ z. LiveIn f x z) (sym d) (sound x (subst (λ z. bit z x ≡ 1) (ap (λ z. getD (set ins j live) z 0) d ∙ getD-set-same ins j live 0 room) e))
+    go (no d) = s i x l (subst (λ z. bit z x ≡ 1) (getD-set-other ins j i live 0 d) e)
+
 module _ {f : Flow} {ws vs ins outs outs′ w v : List ℕ} {n j live : ℕ} {q r : Queue}
-    (small : j < n) (room : n ≤ length ins) (rows : Predecessors f ws n) (s : Solving f n ins outs (j ∷ w))
+    (small : j < n) (room : n ≤ length ins) (rows : Predecessors f ws n) (s : Solving f 0 n ins outs (j ∷ w))
     (value : live ≡ transfer f j (getD outs j 0)) (word : getD outs j 0 < 2 ^ 64) (written : statement f j .written < 2 ^ 64)
     (p : PushedLive ws vs outs outs′ n q r j live) (follows : Follows n outs outs′ w v) where
   live-sound : (x : ℕ) → bit live x ≡ 1 → LiveIn f x j
-  live-sound x e = go (transfer-cases f j (getD outs j 0) x word written (subst (λ z. bit z x ≡ 1) value e))
-    where
-      on : writes f j x ≡ false → LiveOut f x j → LiveIn f x j
-      on d (LiveOut.at-successor m h) = LiveIn.later d m h
-
-      go : (reads f j x ≡ true) ⊎ ((writes f j x ≡ false) × (bit (getD outs j 0) x ≡ 1)) → LiveIn f x j
-      go (inl d) = LiveIn.now d
-      go (inr d) = on (d .0) (s .sound-out j x small (d .1))
+  live-sound x e = transfer-sound f j (getD outs j 0) x word written (s .sound-out j x zero-le small) (subst (λ z. bit z x ≡ 1) value e)
 
   -- a predecessor's word has what it had and the live-in; every other word is as it was
 
@@ -67,10 +79,10 @@ module _ {f : Flow} {ws vs ins outs outs′ w v : List ℕ} {n j live : ℕ} {q 
     where
       go : Dec (has ws (rowAt n j) k ≡ 1) → LiveOut f x k
       go (yes d) =
-          ⊎-elim (s .sound-out k x l) (λ c. LiveOut.at-successor (row-in k l d) (live-sound x c))
+          ⊎-elim (s .sound-out k x zero-le l) (λ c. LiveOut.at-successor (row-in k l d) (live-sound x c))
           (or-either (getD outs k 0) live x (subst (λ z. bit z x ≡ 1) (p .words k l ∙ pushed-member ws (rowAt n j) live outs k d) e))
       go (no d) =
-          s .sound-out k x l
+          s .sound-out k x zero-le l
           (subst (λ z. bit z x ≡ 1) (p .words k l ∙ pushed-other ws (rowAt n j) live outs k (omega (arith, d, has-lt ws (rowAt n j) k))) e)
 
   -- the live-in words
@@ -78,40 +90,35 @@ module _ {f : Flow} {ws vs ins outs outs′ w v : List ℕ} {n j live : ℕ} {q 
   here : getD (set ins j live) j 0 ≡ live
   here = getD-set-same ins j live 0 (omega arith)
 
-  in-sound : (i x : ℕ) → i < n → bit (getD (set ins j live) i 0) x ≡ 1 → Dec (i ≡ j) → LiveIn f x i
-  in-sound i x l e (yes d) =
-      subst (λ z. LiveIn f x z) (sym d) (live-sound x (subst (λ z. bit z x ≡ 1) (ap (λ z. getD (set ins j live) z 0) d ∙ here) e))
-  in-sound i x l e (no d) = s .sound-in i x l (subst (λ z. bit z x ≡ 1) (getD-set-other ins j i live 0 d) e)
-
   -- a statement whose live-out did not grow
 
-  handed-on-here : getD outs′ j 0 ≡ getD outs j 0 → HandedOn f n (set ins j live) outs′ j
+  handed-on-here : getD outs′ j 0 ≡ getD outs j 0 → HandedOn f 0 n (set ins j live) outs′ j
   handed-on-here same = record {
-    equation = here ∙ value ∙ ap (transfer f j) (sym same);
-    carried = λ i x l m e. out-gets i x l m (subst (λ z. bit z x ≡ 1) here e);
+    equation = λ o. here ∙ value ∙ ap (transfer f j) (sym same);
+    carried = λ i x o l m e. out-gets i x l m (subst (λ z. bit z x ≡ 1) here e);
   }
 
-  handed-on-other : (k : ℕ) → k ≢ j → getD outs′ k 0 ≡ getD outs k 0 → HandedOn f n ins outs k → HandedOn f n (set ins j live) outs′ k
+  handed-on-other : (k : ℕ) → k ≢ j → getD outs′ k 0 ≡ getD outs k 0 → HandedOn f 0 n ins outs k → HandedOn f 0 n (set ins j live) outs′ k
   handed-on-other k d same t =
       let kept = getD-set-other ins j k live 0 d in
       record {
-        equation = kept ∙ t .equation ∙ ap (transfer f k) (sym same);
-        carried = λ i x l m e. out-more i x l (t .carried i x l m (subst (λ z. bit z x ≡ 1) kept e));
+        equation = λ o. kept ∙ t .equation o ∙ ap (transfer f k) (sym same);
+        carried = λ i x o l m e. out-more i x l (t .carried i x o l m (subst (λ z. bit z x ≡ 1) kept e));
       }
 
-  handed-on : (k : ℕ) → k < n → In k v ⊎ (getD outs′ k 0 ≡ getD outs k 0) → Dec (k ≡ j) → In k v ⊎ HandedOn f n (set ins j live) outs′ k
+  handed-on : (k : ℕ) → k < n → In k v ⊎ (getD outs′ k 0 ≡ getD outs k 0) → Dec (k ≡ j) → In k v ⊎ HandedOn f 0 n (set ins j live) outs′ k
   handed-on k l (inl m) d = inl m
   handed-on k l (inr same) (yes d) =
-      inr (subst (λ z. HandedOn f n (set ins j live) outs′ z) (sym d) (handed-on-here (ap (λ z. getD outs′ z 0) (sym d) ∙ same ∙ ap (λ z. getD outs z 0) d)))
+      inr (subst (λ z. HandedOn f 0 n (set ins j live) outs′ z) (sym d) (handed-on-here (ap (λ z. getD outs′ z 0) (sym d) ∙ same ∙ ap (λ z. getD outs z 0) d)))
   handed-on k l (inr same) (no d) = ⊎-elim waiting (λ t. inr (handed-on-other k d same t)) (s .handed-on k l)
     where
-      waiting : In k (j ∷ w) → In k v ⊎ HandedOn f n (set ins j live) outs′ k
+      waiting : In k (j ∷ w) → In k v ⊎ HandedOn f 0 n (set ins j live) outs′ k
       waiting m = ⊎-elim (λ e. absurd (d e)) (λ r. inl (follows .stays k r)) (List·Memᴰ·cases-cons m)
 
-  pub handled : Solving f n (set ins j live) outs′ v
+  pub handled : Solving f 0 n (set ins j live) outs′ v
   handled = record {
     small = λ k m. ⊎-elim (λ r. s .small k (List·Memᴰ·tail r)) (λ l. l) (follows .comes k m);
-    sound-in = λ i x l e. in-sound i x l e (ℕ-discrete i j);
-    sound-out = out-sound;
+    sound-in = sound-set ins live (omega arith) (s .sound-in) live-sound;
+    sound-out = λ k x o. out-sound k x;
     handed-on = λ k l. handed-on k l (follows .grows k l) (ℕ-discrete k j);
   }

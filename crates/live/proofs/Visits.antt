@@ -34,16 +34,16 @@ record Front (f : Flow) (n : ℕ) (ws ins outs : List ℕ) (q : Queue) : Type 0 
   first : ℕ
   rest : List ℕ
   waits : Waits ws n q (first ∷ rest)
-  solving : Solving f n ins outs (first ∷ rest)
+  solving : Solving f 0 n ins outs (first ∷ rest)
 
-front : {f : Flow} {n : ℕ} {ws ins outs : List ℕ} {q : Queue} → Held f n ws ins outs q → 0 < q .len → Front f n ws ins outs q
+front : {f : Flow} {n : ℕ} {ws ins outs : List ℕ} {q : Queue} → Held f 0 n ws ins outs q → 0 < q .len → Front f n ws ins outs q
 front {f} {n} {ws} {ins} {outs} {q} h l = go (h .0) (h .1) (h .2)
   where
-    go : (w : List ℕ) → Waits ws n q w → Solving f n ins outs w → Front f n ws ins outs q
+    go : (w : List ℕ) → Waits ws n q w → Solving f 0 n ins outs w → Front f n ws ins outs q
     go [] a b = absurd (omega (arith, a .count))
     go (x ∷ w) a b = record { first = x; rest = w; waits = a; solving = b }
 
-module _ {f : Flow} {n j : ℕ} {ws vs ins outs : List ℕ} {q : Queue} (h : Held f n ws ins outs q) (l : 0 < q .len) (t : Taken ws vs n q j) where
+module _ {f : Flow} {n j : ℕ} {ws vs ins outs : List ℕ} {q : Queue} (h : Held f 0 n ws ins outs q) (l : 0 < q .len) (t : Taken ws vs n q j) where
   pub taken-small : j < n
   taken-small = let c = front h l in let e = t .front (c .first) (c .rest) (c .waits) in let b = c .solving .small (c .first) (List·Memᴰ·head refl) in omega arith
 
@@ -51,12 +51,12 @@ module _ {f : Flow} {n j : ℕ} {ws vs ins outs : List ℕ} {q : Queue} (h : Hel
   taken-held p e = let c = front h l in (c .rest, subst (λ z. Waits vs n z (c .rest)) (sym e) (t .waits (c .first) (c .rest) (c .waits)))
 
 module _ {s ws vs us ins outs outs′ : List ℕ} {n j live : ℕ} {q p o : Queue} (r : Ready s ws n) (room : n ≤ length ins) (rows : Predecessors (flowOf s) ws n)
-    (h : Held (flowOf s) n ws ins outs q) (l : 0 < q .len) (t : Taken ws vs n q j) (e : p ≡ restOf n q) (value : live ≡ transfer (flowOf s) j (getD outs j 0))
+    (h : Held (flowOf s) 0 n ws ins outs q) (l : 0 < q .len) (t : Taken ws vs n q j) (e : p ≡ restOf n q) (value : live ≡ transfer (flowOf s) j (getD outs j 0))
     (u : PushedLive vs us outs outs′ n p o j live) where
-  taken : Solving (flowOf s) n ins outs (j ∷ (front h l .rest))
+  taken : Solving (flowOf s) 0 n ins outs (j ∷ (front h l .rest))
   taken =
       let c = front h l in
-      subst (λ x. Solving (flowOf s) n ins outs (x ∷ (c .rest))) (sym (t .front (c .first) (c .rest) (c .waits))) (c .solving)
+      subst (λ x. Solving (flowOf s) 0 n ins outs (x ∷ (c .rest))) (sym (t .front (c .first) (c .rest) (c .waits))) (c .solving)
 
   pub visited : Visited (flowOf s) n ws us ins (set ins j live) outs outs′ q o
   visited =

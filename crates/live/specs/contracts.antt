@@ -2,4 +2,5 @@
 pub mod Predecessors
 pub mod Spread
 pub mod Solving
+pub mod Sweeping
 pub mod LiveNames

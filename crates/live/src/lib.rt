@@ -1,21 +1,28 @@
-// Live names, backward over the listed graph: what is live at a statement's start is pushed to its predecessors.
+// Live names, backward over the listed graph: by sweeps, and where these do not settle, by a worklist that pushes what is live at a statement's start
+// to its predecessors.
 ghost use mathlib.Core.List.{List, []};
-ghost use Prim.Native.Nat.{ℕ, _<_, _≤_};
+ghost use mathlib.Core.Path.{_≡_};
+ghost use Prim.Native.Nat.{ℕ, _-_, _<_, _≤_};
 ghost use lib.ListN.{length};
 ghost use Rattle.flow.specs.Limits.{maxStatements};
 ghost use Rattle.flow.specs.Format.{flowOf};
+ghost use Rattle.words.specs.contracts.Change.{zeroed};
+ghost use Rattle.statements.specs.contracts.Layout.{matrixAt};
 ghost use Rattle.statements.specs.contracts.Ready.{Ready};
 ghost use Rattle.solve.specs.contracts.Layout.{visitedAt};
 ghost use Rattle.solve.specs.contracts.Waiting.{Waits};
 ghost use Rattle.live.specs.contracts.Predecessors.{Column, Noted, Predecessors};
 ghost use Rattle.live.specs.contracts.Spread.{PushedTo, PushedLive};
-ghost use Rattle.live.specs.contracts.Solving.{Held, Visited};
-ghost use Rattle.live.specs.contracts.LiveNames.{LiveStart, AllWaiting, LiveNames};
+ghost use Rattle.live.specs.contracts.Solving.{Sound, Held, Visited};
+ghost use Rattle.live.specs.contracts.Sweeping.{SettledOrWaits};
+ghost use Rattle.live.specs.contracts.LiveNames.{LiveStart, Begun, LiveNames};
 use flow::StmtId;
 use solve::Queue;
 use solve::stmts;
 use statements::fields;
 use statements::layout;
+
+mod sweep;
 
 // Row j of the matrix gets i as a predecessor, for each successor j of i.
 fn note_predecessors(file: &[u8], work: &mut [u64], n: usize, i: StmtId)
@@ -80,7 +87,7 @@ fn visit(
     n: usize,
     r: Queue,
 ) -> Queue
-    requires { ⌜ Ready (now file) (now work) n × (n ≤ length (now «live_in»)) × (n ≤ length (now «live_out»)) × Predecessors (flowOf (now file)) (now work) n × Held (flowOf (now file)) n (now work) (now «live_in») (now «live_out») r × (0 < r .len) ⌝ }
+    requires { ⌜ Ready (now file) (now work) n × (n ≤ length (now «live_in»)) × (n ≤ length (now «live_out»)) × Predecessors (flowOf (now file)) (now work) n × Held (flowOf (now file)) 0 n (now work) (now «live_in») (now «live_out») r × (0 < r .len) ⌝ }
     ensures { λ q. ⌜ Visited (flowOf (now (file .entry))) n (now (work .entry)) (now (work .exit)) (now («live_in» .entry)) (now («live_in» .exit)) (now («live_out» .entry)) (now («live_out» .exit)) r q ⌝ }
 {
     let j = stmts::take(work, n, r);
@@ -93,7 +100,35 @@ fn visit(
     push_live(work, live_out, n, queue, j, live)
 }
 
-// The last statement waits first: most walks go forward, so their sets are complete before they are asked for.
+// The words that the worklist counts on: the matrix, the queue and those that say what waits.
+fn clear(work: &mut [u64], n: usize)
+    requires { ⌜ (n ≤ maxStatements) × (visitedAt n ≤ length (now work)) ⌝ }
+    ensures { λ _. ⌜ now (work .exit) ≡ zeroed (now (work .entry)) (matrixAt n) (visitedAt n - matrixAt n) ⌝ }
+{
+    let matrix = layout::matrix(n);
+    words::zero_row(work, matrix, solve::layout::visited(n) - matrix);
+}
+
+// Statement i is settled; if its live-in changed, it waits.
+fn settle_or_wait(
+    file: &[u8],
+    work: &mut [u64],
+    live_in: &mut [u64],
+    live_out: &mut [u64],
+    n: usize,
+    waiting: Queue,
+    i: StmtId,
+) -> Queue
+    requires { ⌜ LiveStart (now file) (now work) (now «live_in») (now «live_out») n × (i .0 < n) × ((w : List ℕ) × Waits (now work) n waiting w) ⌝ }
+    ensures { λ q. ⌜ SettledOrWaits (flowOf (now (file .entry))) n (now (work .entry)) (now (work .exit)) (now («live_in» .entry)) (now («live_in» .exit)) (now («live_out» .entry)) (now («live_out» .exit)) waiting q (i .0) ⌝ }
+{
+    if sweep::settle(file, work, live_in, live_out, n, i) {
+        return stmts::enqueue(work, n, waiting, i);
+    }
+    waiting
+}
+
+// One more sweep, which notes the predecessors: the statements whose live-in changes wait, since the others have handed theirs on.
 fn begin(
     file: &[u8],
     work: &mut [u64],
@@ -101,17 +136,16 @@ fn begin(
     live_out: &mut [u64],
     n: usize,
 ) -> Queue
-    requires { ⌜ LiveStart (now file) (now work) (now «live_in») (now «live_out») n ⌝ }
-    ensures { λ q. ⌜ AllWaiting (flowOf (now (file .entry))) n (now (work .entry)) (now (work .exit)) (now («live_in» .entry)) (now («live_in» .exit)) (now («live_out» .entry)) (now («live_out» .exit)) q ⌝ }
+    requires { ⌜ LiveStart (now file) (now work) (now «live_in») (now «live_out») n × Sound (flowOf (now file)) n (now «live_in») ⌝ }
+    ensures { λ q. ⌜ Begun (flowOf (now (file .entry))) n (now (work .entry)) (now (work .exit)) (now («live_in» .entry)) (now («live_in» .exit)) (now («live_out» .entry)) (now («live_out» .exit)) q ⌝ }
 {
+    clear(work, n);
     let mut queue = Queue { head: 0, len: 0 };
     let mut i = n;
     while 0 < i {
         i -= 1;
-        live_in[i] = 0;
-        live_out[i] = 0;
         note_predecessors(file, work, n, StmtId(i));
-        queue = stmts::enqueue(work, n, queue, StmtId(i));
+        queue = settle_or_wait(file, work, live_in, live_out, n, queue, StmtId(i));
     }
     queue
 }
@@ -127,6 +161,9 @@ pub fn live_names(
     requires { ⌜ LiveStart (now file) (now work) (now «live_in») (now «live_out») n ⌝ }
     ensures { λ _. ⌜ LiveNames (flowOf (now (file .entry))) n (now (work .entry)) (now (work .exit)) (now («live_in» .entry)) (now («live_in» .exit)) (now («live_out» .entry)) (now («live_out» .exit)) ⌝ }
 {
+    if !sweep::sweeps(file, work, live_in, live_out, n) {
+        return;
+    }
     let mut queue = begin(file, work, live_in, live_out, n);
     while 0 < queue.len {
         queue = visit(file, work, live_in, live_out, n, queue);

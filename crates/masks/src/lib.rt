@@ -1,6 +1,9 @@
 // The states of an array, masks of them, and the one place where a mask is stepped.
 ghost use mathlib.Core.Path.{_≡_};
+ghost use Prim.Native.Nat.{_<_};
+ghost use Rattle.words.specs.contracts.Row.{bit};
 ghost use Rattle.masks.specs.Step.{stepOf};
+ghost use Rattle.masks.specs.contracts.Sets.{Holders, Alike};
 
 // A mask is a union of states.
 pub const NONE: u8 = 1;
@@ -36,4 +39,25 @@ pub fn step(effect: Effect, mask: u8) -> u8
         Effect::Reset => NONE,
         Effect::Touched => { if mask % 2 == NONE { mask | AUTO } else { mask } }
     }
+}
+
+// A word of ones if the mask has bit s, else 0.
+fn spread(mask: u8, s: u8) -> u64
+    requires { ⌜ s < 8 ⌝ }
+    ensures { λ r. ⌜ Alike r (bit mask s) ⌝ }
+{
+    if (mask >> s) % 2 == 1 { !0u64 } else { 0 }
+}
+
+// 64 arrays take the effect together; their masks stand as the sets of the arrays that hold NONE, AUTO and DIMMED. Those that then hold state s, a bit of
+// a mask: all of them if the effect makes it of the empty mask, and those with a state that it turns into s. So each bit comes from `step`.
+pub fn holders(effect: Effect, s: u8, none: u64, auto: u64, dimmed: u64) -> u64
+    requires { ⌜ s < 3 ⌝ }
+    ensures { λ r. ⌜ Holders effect s none auto dimmed r ⌝ }
+{
+    let always = spread(step(effect, 0), s);
+    let from_none = none & spread(step(effect, NONE), s);
+    let from_auto = auto & spread(step(effect, AUTO), s);
+    let from_dimmed = dimmed & spread(step(effect, DIMMED), s);
+    (always | from_none) | (from_auto | from_dimmed)
 }

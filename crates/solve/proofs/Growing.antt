@@ -1,159 +1,132 @@
--- A row of masks joined to another: each byte is united, the row differs where some byte does, and the word of the number says so.
--- A word is what its bytes are.
-use Prim.Native.Nat.{ℕ, zero, suc, _+_, _*_, _/_, _%_, _≤_, _<_}
-use mathlib.Core.Bool.{Bool, true, false, cond, not, _&&_}
+-- A row of masks joined to another: each mask is united, the number is noted where some mask is another, and every other row stays.
+-- By the union of rows of masks, which lie apart.
+use Prim.Native.Nat.{ℕ, _+_, _*_, _/_, _≤_, _<_}
+use mathlib.Core.Bool.{Bool, true, false, cond}
 use mathlib.Core.List.{List}
 use mathlib.Core.Logic.{_≢_}
-use mathlib.Core.Path.{_≡_, refl, sym, ap, ap₂, subst, _∙_}
+use mathlib.Core.Path.{_≡_, refl, sym, ap, subst, _∙_}
+use native.Mathlib.Decide.{decLt}
 use native.Mathlib.Omega.{arith}
-use borrow.Author.Tests.{eq-eqb, eqb-true, not-false}
 use lib.Bits.{bitOr}
-use lib.Dec.{eqb}
-use lib.ListN.{length, getD, set}
-use lib.Seq.{getD-set-same, getD-set-other}
-use Rattle.words.specs.contracts.Row.{bit, has, Words}
-use Rattle.words.specs.contracts.Byte.{byteAt}
-use Rattle.words.specs.contracts.Change.{unioned, Unioned, ReadFirst, differs}
-use Rattle.words.proofs.Bit.{bits-below}
-use Rattle.words.proofs.Row.{has-word}
-use Rattle.words.proofs.Bytes.{byte-cong, byte-has, unioned-byte}
-use Rattle.words.proofs.Rewritten.{differs-cong, differs-self, differs-false}
-use Rattle.words.proofs.Unioned.{words-unioned, unioned-other, union-same}
-use Rattle.flow.specs.Limits.{maxArrays}
-use Rattle.theory.specs.Lists.{allBelow, differ}
-use Rattle.theory.proofs.Lists.{clash}
-use Rattle.theory.proofs.Below.{allBelow-at, allBelow-all}
-use Rattle.statements.specs.contracts.Layout.{areaEnd}
+use lib.ListN.{length, getD}
+use Rattle.words.specs.contracts.Row.{has, Words}
+use Rattle.words.specs.contracts.Change.{inserted, unioned, Unioned, ReadFirst}
+use Rattle.words.proofs.Row.{has-cong}
+use Rattle.words.proofs.Inserted.{inserted-other, insert-same, insert-other}
+use Rattle.words.proofs.Unioned.{words-unioned, length-unioned, unioned-other, union-same}
+use Rattle.theory.specs.Lists.{differ}
 use Rattle.statements.specs.contracts.Ready.{Keeps}
-use Rattle.statements.proofs.Keeps.{keeps-set, keeps-unioned, keeps-trans, keeps-refl, keeps-widen}
+use Rattle.statements.proofs.Keeps.{keeps-inserted, keeps-unioned, keeps-trans, keeps-refl, keeps-widen}
 use Rattle.solve.specs.declared.Queue.{Queue}
-use Rattle.solve.specs.contracts.Layout.{maskWords, grownAt, maskRowAt, outRow}
+use Rattle.solve.specs.contracts.Layout.{visitedAt, grownAt, setRow, outRow, maskRowAt, areaEnd}
+use Rattle.solve.specs.contracts.Rows.{maskAt}
 use Rattle.solve.specs.contracts.Waiting.{Waits, Enqueued}
 use Rattle.solve.specs.contracts.Pushed.{masksAt, Grown, Pushed}
+use Rattle.solve.proofs.Room.{rows-apart, row-from, row-fits}
+use Rattle.solve.proofs.Masks.{mask-cong, unioned-mask, differs-masks, differ-as}
 use Rattle.solve.proofs.Waiting.{rest-keeps, waits-kept}
 
--- words whose bytes are alike are alike
-bytes-word : (ws vs : List ℕ) (base : ℕ) → Words ws → Words vs → ((a : ℕ) → a < maxArrays → byteAt vs base a ≡ byteAt ws base a)
-    → (k : ℕ) → k < maskWords → getD vs (base + k) 0 ≡ getD ws (base + k) 0
-bytes-word ws vs base ww wv h k l =
-    bits-below 64 (getD vs (base + k) 0) (getD ws (base + k) 0) (wv (base + k)) (ww (base + k))
-    (λ j m. sym (has-word vs base k j m) ∙ member (8 * k + j / 8) (j % 8) (64 * k + j) (omega arith) (omega arith) (omega arith) ∙ has-word ws base k j m)
-  where
-    member : (a s i : ℕ) → a < maxArrays → s < 8 → i ≡ 8 * a + s → has vs base i ≡ has ws base i
-    member a s i la ls e =
-        ap (has vs base) e ∙ byte-has vs base a s ls ∙ ap (λ (b : ℕ). bit b s) (h a la) ∙ sym (byte-has ws base a s ls) ∙ ap (has ws base) (sym e)
+-- the masks of a number stay where the words from the first row on do
+pub masks-kept : (ws vs : List ℕ) (n w : ℕ) → ((x : ℕ) → maskRowAt n w 0 ≤ x → x < areaEnd n w → getD vs x 0 ≡ getD ws x 0)
+    → (t a : ℕ) → t < 2 * n → a < 64 * w → masksAt vs n w t a ≡ masksAt ws n w t a
+masks-kept ws vs n w h t a l m =
+    mask-cong ws vs w (maskRowAt n w t) a m (λ x lo hi. h x (let low = row-from n w t in omega arith) (let fits = row-fits n w l in omega arith))
 
--- a row of masks differs where some mask does
-differs-masks : (ws vs : List ℕ) (base : ℕ) → Words ws → Words vs → differs ws vs base maskWords ≡ differ maxArrays (byteAt vs base) (byteAt ws base)
-differs-masks ws vs base ww wv = at (differs ws vs base maskWords) refl (differ maxArrays (byteAt vs base) (byteAt ws base)) refl
-  where
-    at : (d : Bool) → differs ws vs base maskWords ≡ d → (b : Bool) → differ maxArrays (byteAt vs base) (byteAt ws base) ≡ b → d ≡ b
-    at true p true q = refl
-    at false p false q = refl
-    at true p false q =
-        let same : (a : ℕ) → a < maxArrays → byteAt vs base a ≡ byteAt ws base a =
-        λ a l. eqb-true _ _ (allBelow-at maxArrays (λ a. eqb (byteAt vs base a) (byteAt ws base a)) (not-false _ q) a l) in
-        clash (differs ws vs base maskWords) p (differs-cong ws vs ws base maskWords (bytes-word ws vs base ww wv same) ∙ differs-self ws base maskWords)
-    at false p true q =
-        clash (differ maxArrays (byteAt vs base) (byteAt ws base)) q
-        (ap not (allBelow-all maxArrays (λ a. eqb (byteAt vs base a) (byteAt ws base a))
-        (λ a l. eq-eqb (byteAt vs base a) (byteAt ws base a) (byte-cong vs ws base a (differs-false ws vs base maskWords p (a / 8) (omega arith))))))
-
--- what differs goes by the masks below the count
-pub differ-as : (n : ℕ) (x x′ y y′ : ℕ → ℕ) → ((a : ℕ) → a < n → x a ≡ x′ a) → ((a : ℕ) → a < n → y a ≡ y′ a) → differ n x y ≡ differ n x′ y′
-unfolding allBelow
-differ-as n x x′ y y′ h k = ap not (every n (λ a l. ap₂ eqb (h a l) (k a l)))
-  where
-    every : (k : ℕ) → ((a : ℕ) → a < k → eqb (x a) (y a) ≡ eqb (x′ a) (y′ a)) → allBelow k (λ a. eqb (x a) (y a)) ≡ allBelow k (λ a. eqb (x′ a) (y′ a))
-    every zero g = refl
-    every (suc k) g = ap₂ _&&_ (every k (λ a l. g a (omega arith))) (g k (omega arith))
-
-module _ (ws : List ℕ) (n from d : ℕ) (room : areaEnd n ≤ length ws) (below : d < 2 * n) (source : outRow n ≤ from) (last : from + maskWords ≤ areaEnd n) (ww : Words ws) where
+module _ (ws : List ℕ) (n w from d : ℕ) (room : areaEnd n w ≤ length ws) (below : d < 2 * n) (source : outRow n w ≤ from) (last : from + 3 * w ≤ maskRowAt n w 0) (ww : Words ws) where
   abbrev to : ℕ
-  to = maskRowAt n d
+  to = maskRowAt n w d
 
-  apart : ReadFirst to from maskWords
-  apart j k lt l e = omega arith
+  apart : ReadFirst to from (3 * w)
+  apart j k lt l e = let low = row-from n w d in omega arith
+
+  inside : to + 3 * w ≤ length ws
+  inside = let fits = row-fits n w below in omega arith
 
   -- the masks of another number lie elsewhere
-  elsewhere : (us : List ℕ) → us ≡ unioned ws to from maskWords → (e a : ℕ) → e ≢ d → a < maxArrays → masksAt us n e a ≡ masksAt ws n e a
+  elsewhere : (us : List ℕ) → us ≡ unioned ws to from (3 * w) → (e a : ℕ) → e ≢ d → a < 64 * w → masksAt us n w e a ≡ masksAt ws n w e a
   elsewhere us is e a ne l =
-      byte-cong us ws (maskRowAt n e) a
-      (ap (λ (l : List ℕ). getD l (maskRowAt n e + a / 8) 0) is ∙ unioned-other ws to from maskWords (maskRowAt n e + a / 8) (λ k lt q. omega (arith, ne)))
+      mask-cong ws us w (maskRowAt n w e) a l (λ x lo hi. ap (λ (l : List ℕ). getD l x 0) is ∙ unioned-other ws to from (3 * w) x (λ k lt q. out x k lo hi lt q (decLt e d)))
+    where
+      out : (x k : ℕ) → maskRowAt n w e ≤ x → x < maskRowAt n w e + 3 * w → k < 3 * w → x ≡ to + k → Dec (e < d) → ⊥
+      out x k lo hi lt q (yes b) = let far = rows-apart n w b in omega arith
+      out x k lo hi lt q (no b) = let less : d < e = omega (arith, b, ne) in let far = rows-apart n w less in omega arith
 
-  united : (us : List ℕ) → us ≡ unioned ws to from maskWords → (a : ℕ) → a < maxArrays → masksAt us n d a ≡ bitOr (masksAt ws n d a) (byteAt ws from a)
-  united us is a l =
-      ap (λ (l : List ℕ). byteAt l to a) is ∙ unioned-byte ws to from maskWords (omega arith) apart a (omega arith)
+  united : (us : List ℕ) → us ≡ unioned ws to from (3 * w) → (a : ℕ) → a < 64 * w → masksAt us n w d a ≡ bitOr (masksAt ws n w d a) (maskAt ws w from a)
+  united us is a l = ap (λ (l : List ℕ). maskAt l w to a) is ∙ unioned-mask ws w to from inside apart a l
 
-  differ-is : {us : List ℕ} {r : Bool} → Unioned ws us to from maskWords r → r ≡ differ maxArrays (masksAt us n d) (masksAt ws n d)
+  differ-is : {us : List ℕ} {r : Bool} → Unioned ws us to from (3 * w) r → r ≡ differ (64 * w) (masksAt us n w d) (masksAt ws n w d)
   differ-is {us} u =
-      u .grew ∙ differs-masks ws us to ww (subst Words (sym (u .slice)) (words-unioned ws to from maskWords ww))
+      u .grew ∙ differs-masks ws us w to ww (subst Words (sym (u .slice)) (words-unioned ws to from (3 * w) ww))
 
-  pub grown-not : {us : List ℕ} → Unioned ws us to from maskWords false → Grown ws us n from d × Keeps (grownAt n) (areaEnd n) ws us
+  pub grown-not : {us : List ℕ} → Unioned ws us to from (3 * w) false → Grown ws us n w from d × Keeps (grownAt n) (areaEnd n w) ws us
   grown-not {us} u =
       let same : us ≡ ws = union-same u refl in (
         record {
           masks = united us (u .slice);
-          others = elsewhere us (u .slice);
-          edge-rows = λ x l. ap (λ (l : List ℕ). getD l x 0) same;
-          grew = ap (λ (l : List ℕ). getD l (grownAt n + d) 0) same ∙ ap (λ (b : Bool). cond b 1 (getD ws (grownAt n + d) 0)) (differ-is u);
-          not-grew = λ e l ne. ap (λ (l : List ℕ). getD l (grownAt n + e) 0) same;
+          others = λ e a l ne m. elsewhere us (u .slice) e a ne m;
+          edge-rows = λ x l h. ap (λ (l : List ℕ). getD l x 0) same;
+          grew = ap (λ (l : List ℕ). has l (grownAt n) d) same ∙ ap (λ (b : Bool). cond b 1 (has ws (grownAt n) d)) (differ-is u);
+          not-grew = λ e l ne. ap (λ (l : List ℕ). has l (grownAt n) e) same;
         },
-        subst (Keeps (grownAt n) (areaEnd n) ws) (sym same) keeps-refl,
+        subst (Keeps (grownAt n) (areaEnd n w) ws) (sym same) keeps-refl,
       )
 
-  pub grown-more : {us : List ℕ} → Unioned ws us to from maskWords true
-      → Grown ws (set us (grownAt n + d) 1) n from d × Keeps (grownAt n) (areaEnd n) ws (set us (grownAt n + d) 1)
+  -- a word below the rows of masks
+  lower : {us : List ℕ} → us ≡ unioned ws to from (3 * w) → (x : ℕ) → x < maskRowAt n w 0 → getD us x 0 ≡ getD ws x 0
+  lower is x l = ap (λ (l : List ℕ). getD l x 0) is ∙ unioned-other ws to from (3 * w) x (λ k lt q. let low = row-from n w d in omega arith)
+
+  pub grown-more : {us : List ℕ} → Unioned ws us to from (3 * w) true
+      → Grown ws (inserted us (grownAt n) d) n w from d × Keeps (grownAt n) (areaEnd n w) ws (inserted us (grownAt n) d)
   grown-more {us} u =
-      let keeps : Keeps (grownAt n) (areaEnd n) ws us = subst (Keeps (grownAt n) (areaEnd n) ws) (sym (u .slice)) (keeps-unioned ws to from maskWords (omega arith) (omega arith)) in
-      let size = keeps .size in
-      let row : (e a : ℕ) → a < maxArrays → masksAt (set us (grownAt n + d) 1) n e a ≡ masksAt us n e a =
-      λ e a l. byte-cong (set us (grownAt n + d) 1) us (maskRowAt n e) a (getD-set-other us (grownAt n + d) (maskRowAt n e + a / 8) 1 0 (λ q. omega arith)) in (
+      let low = row-from n w d in
+      let fits = row-fits n w below in
+      let long : length us ≡ length ws = ap length (u .slice) ∙ length-unioned ws to from (3 * w) in
+      let keeps : Keeps (grownAt n) (areaEnd n w) ws us =
+      subst (Keeps (grownAt n) (areaEnd n w) ws) (sym (u .slice)) (keeps-unioned ws to from (3 * w) (omega arith) (omega arith)) in
+      let row : (e a : ℕ) → a < 64 * w → masksAt (inserted us (grownAt n) d) n w e a ≡ masksAt us n w e a =
+      λ e a l. mask-cong us (inserted us (grownAt n) d) w (maskRowAt n w e) a l (λ x lo hi. inserted-other us (grownAt n) d x (λ q. let least = row-from n w e in omega arith)) in (
         record {
           masks = λ a l. row d a l ∙ united us (u .slice) a l;
-          others = λ e a ne l. row e a l ∙ elsewhere us (u .slice) e a ne l;
-          edge-rows = λ x l. getD-set-other us (grownAt n + d) x 1 0 (λ q. omega arith)
-              ∙ ap (λ (l : List ℕ). getD l x 0) (u .slice)
-              ∙ unioned-other ws to from maskWords x (λ k lt q. omega arith);
-          grew = getD-set-same us (grownAt n + d) 1 0 (omega arith)
-              ∙ ap (λ (b : Bool). cond b 1 (getD ws (grownAt n + d) 0)) (differ-is u ∙ differ-row row);
-          not-grew = λ e l ne. getD-set-other us (grownAt n + d) (grownAt n + e) 1 0 (λ q. omega (arith, ne))
-              ∙ ap (λ (l : List ℕ). getD l (grownAt n + e) 0) (u .slice)
-              ∙ unioned-other ws to from maskWords (grownAt n + e) (λ k lt q. omega arith);
+          others = λ e a b ne l. row e a l ∙ elsewhere us (u .slice) e a ne l;
+          edge-rows = λ x l h. inserted-other us (grownAt n) d x (λ q. omega arith) ∙ lower (u .slice) x h;
+          grew = insert-same us (grownAt n) d (omega arith)
+              ∙ ap (λ (b : Bool). cond b 1 (has ws (grownAt n) d)) (differ-is u ∙ differ-row row);
+          not-grew = λ e l ne. insert-other us (grownAt n) d e (omega arith) ne
+              ∙ has-cong us ws (grownAt n) e (lower (u .slice) (grownAt n + e / 64) (omega arith));
         },
-        keeps-trans keeps (keeps-set us (grownAt n + d) 1 (omega arith) (omega arith)),
+        keeps-trans keeps (keeps-inserted us (grownAt n) d (omega arith) (omega arith)),
       )
     where
-      differ-row : ((e a : ℕ) → a < maxArrays → masksAt (set us (grownAt n + d) 1) n e a ≡ masksAt us n e a)
-          → differ maxArrays (masksAt us n d) (masksAt ws n d) ≡ differ maxArrays (masksAt (set us (grownAt n + d) 1) n d) (masksAt ws n d)
-      differ-row row = differ-as maxArrays (masksAt us n d) (masksAt (set us (grownAt n + d) 1) n d) (masksAt ws n d) (masksAt ws n d) (λ a l. sym (row d a l)) (λ a l. refl)
+      differ-row : ((e a : ℕ) → a < 64 * w → masksAt (inserted us (grownAt n) d) n w e a ≡ masksAt us n w e a)
+          → differ (64 * w) (masksAt us n w d) (masksAt ws n w d) ≡ differ (64 * w) (masksAt (inserted us (grownAt n) d) n w d) (masksAt ws n w d)
+      differ-row row = differ-as (64 * w) (masksAt us n w d) (masksAt (inserted us (grownAt n) d) n w d) (masksAt ws n w d) (masksAt ws n w d) (λ a l. sym (row d a l)) (λ a l. refl)
 
--- a union by the places that were found
-pub union-at : {ws us : List ℕ} {to from to′ from′ width : ℕ} {r r′ : Bool} → to′ ≡ to → from′ ≡ from → r′ ≡ r → Unioned ws us to′ from′ width r′ → Unioned ws us to from width r
-union-at {ws} {us} {to} {from} {to′} {from′} {width} {r} p q t u =
-    subst (λ (x : ℕ). Unioned ws us x from width r) p
-    (subst (λ (x : ℕ). Unioned ws us to′ x width r) q (subst (λ (b : Bool). Unioned ws us to′ from′ width b) t u))
+-- a union by the place that was found
+pub union-at : {ws us : List ℕ} {to from to′ width : ℕ} {r r′ : Bool} → to′ ≡ to → r′ ≡ r → Unioned ws us to′ from width r′ → Unioned ws us to from width r
+union-at {ws} {us} {to} {from} {to′} {width} {r} p t u =
+    subst (λ (x : ℕ). Unioned ws us x from width r) p (subst (λ (b : Bool). Unioned ws us to′ from width b) t u)
 
 -- what waits goes by words below those that say what grew
-pub waits-grown : {ws vs : List ℕ} {n : ℕ} {queue : Queue} {w : List ℕ} → Keeps (grownAt n) (areaEnd n) ws vs → Waits ws n queue w → Waits vs n queue w
+pub waits-grown : {ws vs : List ℕ} {n hi : ℕ} {queue : Queue} {l : List ℕ} → Keeps (grownAt n) hi ws vs → Waits ws n queue l → Waits vs n queue l
 waits-grown k x = waits-kept x (λ i l h. k .below i (omega arith)) (λ i l h. k .below i (omega arith))
 
 -- a row is joined, and then the number waits
-pub pushed : {ws us vs : List ℕ} {n from d : ℕ} {queue r : Queue} → d < 2 * n → Grown ws us n from d × Keeps (grownAt n) (areaEnd n) ws us → Enqueued us vs n queue d r
-    → Pushed ws vs n queue from d r
-pushed {ws} {us} {vs} {n} {from} {d} {queue} {r} below x y =
-    let masks : (e a : ℕ) → a < maxArrays → masksAt vs n e a ≡ masksAt us n e a = λ e a l. byte-cong vs us (maskRowAt n e) a (y .kept .above (maskRowAt n e + a / 8) (omega arith)) in
+pub pushed : {ws us vs : List ℕ} {n w from d : ℕ} {queue r : Queue} → d < 2 * n → Grown ws us n w from d × Keeps (grownAt n) (areaEnd n w) ws us → Enqueued us vs n queue d r
+    → Pushed ws vs n w queue from d r
+pushed {ws} {us} {vs} {n} {w} {from} {d} {queue} {r} below x y =
+    let masks : (e a : ℕ) → a < 64 * w → masksAt vs n w e a ≡ masksAt us n w e a =
+    λ e a l. mask-cong us vs w (maskRowAt n w e) a l (λ i lo hi. y .kept .above i (let low = row-from n w e in omega arith)) in
+    let grown : (e : ℕ) → e < 2 * n → has vs (grownAt n) e ≡ has us (grownAt n) e = λ e l. has-cong vs us (grownAt n) e (y .kept .above (grownAt n + e / 64) (omega arith)) in
     record {
       grown = record {
         masks = λ a l. masks d a l ∙ x .0 .masks a l;
-        others = λ e a ne l. masks e a l ∙ x .0 .others e a ne l;
-        edge-rows = λ i l. y .kept .above i (omega arith) ∙ x .0 .edge-rows i l;
-        grew = y .kept .above (grownAt n + d) (omega arith) ∙ x .0 .grew
-            ∙ ap (λ (b : Bool). cond b 1 (getD ws (grownAt n + d) 0)) (differ-as maxArrays (masksAt us n d) (masksAt vs n d) (masksAt ws n d) (masksAt ws n d) (λ a l. sym (masks d a l)) (λ a l. refl));
-        not-grew = λ e l ne. y .kept .above (grownAt n + e) (omega arith) ∙ x .0 .not-grew e l ne;
+        others = λ e a b ne l. masks e a l ∙ x .0 .others e a b ne l;
+        edge-rows = λ i l h. y .kept .above i (omega arith) ∙ x .0 .edge-rows i l h;
+        grew = grown d below ∙ x .0 .grew
+            ∙ ap (λ (b : Bool). cond b 1 (has ws (grownAt n) d)) (differ-as (64 * w) (masksAt us n w d) (masksAt vs n w d) (masksAt ws n w d) (masksAt ws n w d) (λ a l. sym (masks d a l)) (λ a l. refl));
+        not-grew = λ e l ne. grown e l ∙ x .0 .not-grew e l ne;
       };
-      waits = λ w h. y .waits w (waits-grown (x .1) h);
-      entered-row = λ i l h. y .kept .between i l h ∙ x .1 .below i (omega arith);
+      waits = λ l h. y .waits l (waits-grown (x .1) h);
       visited = λ i l h. y .kept .above i l ∙ x .1 .below i h;
-      keeps = keeps-trans (keeps-widen (omega arith) (omega arith) (x .1)) (keeps-widen (omega arith) (omega arith) (rest-keeps (y .kept)));
+      keeps = keeps-trans (keeps-widen (omega arith) (omega arith) (x .1)) (keeps-widen (omega arith) (let low = row-from n w (2 * n) in omega arith) (rest-keeps (y .kept)));
     }

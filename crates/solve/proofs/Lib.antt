@@ -1,4 +1,6 @@
-pub mod RowChanges
+pub mod Room
+pub mod Masks
+pub mod Stepping
 pub mod Wrapped
 pub mod Waiting
 pub mod Growing

@@ -1,25 +1,30 @@
-// Where the solver's words stand, for a flow of n statements: behind those of the calls, a word for each doubled number in three parts, then the rows
-// of masks, then two rows for the edges of the statement at hand.
+// Where the solver's words stand, for a flow of n statements whose sets of arrays have `width` words: behind those of the calls the sets of the doubled numbers that wait,
+// that were visited and whose masks have grown; a set and two rows of masks for the statement at hand; then a row of masks for each doubled number.
 ghost use mathlib.Core.Path.{_≡_};
 ghost use Prim.Native.Nat.{_+_, _*_, _<_, _≤_};
 ghost use Rattle.flow.specs.Limits.{maxStatements};
-ghost use Rattle.statements.specs.contracts.Layout.{solverAt};
+ghost use Rattle.statements.specs.contracts.Layout.{solverAt, maxWidth};
 ghost use Rattle.solve.specs.contracts.Layout as at;
 use flow::NodeId;
 use statements::layout;
 
-// Words of a row of mask bytes.
-pub const MASK_WORDS: usize = 8;
-
-// What stands k parts of n words behind the place where the solver's words begin.
-fn part(n: usize, k: usize) -> usize
-    requires { ⌜ (n ≤ maxStatements) × (k ≤ 6) ⌝ }
-    ensures { λ r. ⌜ r ≡ solverAt n + k * n ⌝ }
+// Words of a set of doubled numbers. The sets stand close together: at a distance of whole pages a read of one would wait for a write of another.
+fn node_words(n: usize) -> usize
+    requires { ⌜ n ≤ maxStatements ⌝ }
+    ensures { λ r. ⌜ r ≡ at.nodeWords n ⌝ }
 {
-    layout::solver(n) + k * n
+    (2 * n + 63) / 64
 }
 
-// Whether each doubled number waits.
+// What stands k such sets behind the place where the solver's words begin.
+fn part(n: usize, k: usize) -> usize
+    requires { ⌜ (n ≤ maxStatements) × (k ≤ 3) ⌝ }
+    ensures { λ r. ⌜ r ≡ solverAt n + k * at.nodeWords n ⌝ }
+{
+    layout::solver(n) + k * node_words(n)
+}
+
+// The doubled numbers that wait.
 pub fn waiting(n: usize) -> usize
     requires { ⌜ n ≤ maxStatements ⌝ }
     ensures { λ r. ⌜ r ≡ at.waitingAt n ⌝ }
@@ -27,50 +32,74 @@ pub fn waiting(n: usize) -> usize
     part(n, 0)
 }
 
-// Whether each was visited.
+// Those that were visited.
 pub fn visited(n: usize) -> usize
     requires { ⌜ n ≤ maxStatements ⌝ }
     ensures { λ r. ⌜ r ≡ at.visitedAt n ⌝ }
 {
-    part(n, 2)
+    part(n, 1)
 }
 
-// Whether the masks of each grew since it was visited.
+// Those whose masks have grown since.
 pub fn grown(n: usize) -> usize
     requires { ⌜ n ≤ maxStatements ⌝ }
     ensures { λ r. ⌜ r ≡ at.grownAt n ⌝ }
 {
-    part(n, 4)
+    part(n, 2)
 }
 
-// Where the first k rows of masks end.
-fn mask_rows_end(n: usize, k: usize) -> usize
-    requires { ⌜ (n ≤ maxStatements) × (k ≤ 2 * n) ⌝ }
-    ensures { λ r. ⌜ r ≡ at.maskRowsEnd n k ⌝ }
+// The arrays that take an effect at the statement at hand.
+pub fn set_row(n: usize) -> usize
+    requires { ⌜ n ≤ maxStatements ⌝ }
+    ensures { λ r. ⌜ r ≡ at.setRow n ⌝ }
 {
-    part(n, 6) + MASK_WORDS * k
+    part(n, 3)
 }
 
-// The row of masks of a doubled number.
-pub fn mask_row(n: usize, d: NodeId) -> usize
-    requires { ⌜ (n ≤ maxStatements) × (d .0 < 2 * n) ⌝ }
-    ensures { λ r. ⌜ r ≡ at.maskRowAt n (d .0) ⌝ }
+// What stands k sets of arrays behind that set.
+fn sets_on(n: usize, width: usize, k: usize) -> usize
+    requires { ⌜ (n ≤ maxStatements) × (width ≤ maxWidth) × (k ≤ 7) ⌝ }
+    ensures { λ r. ⌜ r ≡ at.setRow n + k * width ⌝ }
 {
-    mask_rows_end(n, d.0)
+    set_row(n) + k * width
 }
 
 // The masks that the statement at hand sends along its edges.
-pub fn out_row(n: usize) -> usize
-    requires { ⌜ n ≤ maxStatements ⌝ }
-    ensures { λ r. ⌜ r ≡ at.outRow n ⌝ }
+pub fn out_row(n: usize, width: usize) -> usize
+    requires { ⌜ (n ≤ maxStatements) × (width ≤ maxWidth) ⌝ }
+    ensures { λ r. ⌜ r ≡ at.outRow n width ⌝ }
 {
-    mask_rows_end(n, 2 * n)
+    sets_on(n, width, 1)
 }
 
 // Those that it sends along the edge to base + continuation.
-pub fn back_row(n: usize) -> usize
-    requires { ⌜ n ≤ maxStatements ⌝ }
-    ensures { λ r. ⌜ r ≡ at.backRow n ⌝ }
+pub fn back_row(n: usize, width: usize) -> usize
+    requires { ⌜ (n ≤ maxStatements) × (width ≤ maxWidth) ⌝ }
+    ensures { λ r. ⌜ r ≡ at.backRow n width ⌝ }
 {
-    out_row(n) + MASK_WORDS
+    sets_on(n, width, 4)
+}
+
+// Where the first k rows of the doubled numbers end.
+fn mask_rows_end(n: usize, width: usize, k: usize) -> usize
+    requires { ⌜ (n ≤ maxStatements) × (width ≤ maxWidth) × (k ≤ 2 * n) ⌝ }
+    ensures { λ r. ⌜ r ≡ at.maskRowsEnd n width k ⌝ }
+{
+    sets_on(n, width, 7) + 3 * (width * k)
+}
+
+// The row of masks of a doubled number.
+pub fn mask_row(n: usize, width: usize, d: NodeId) -> usize
+    requires { ⌜ (n ≤ maxStatements) × (width ≤ maxWidth) × (d .0 < 2 * n) ⌝ }
+    ensures { λ r. ⌜ r ≡ at.maskRowAt n width (d .0) ⌝ }
+{
+    mask_rows_end(n, width, d.0)
+}
+
+// Where the words end that are used.
+pub fn end(n: usize, width: usize) -> usize
+    requires { ⌜ (n ≤ maxStatements) × (width ≤ maxWidth) ⌝ }
+    ensures { λ r. ⌜ r ≡ at.areaEnd n width ⌝ }
+{
+    mask_rows_end(n, width, 2 * n)
 }

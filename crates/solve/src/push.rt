@@ -3,9 +3,9 @@ ghost use Prim.Native.Nat.{ℕ, _+_, _*_, _<_, _≤_};
 ghost use mathlib.Core.List.{List};
 ghost use lib.ListN.{length};
 ghost use Rattle.flow.specs.Limits.{maxStatements};
-ghost use Rattle.statements.specs.contracts.Layout.{areaEnd};
+ghost use Rattle.statements.specs.contracts.Layout.{maxWidth};
 ghost use Rattle.statements.specs.contracts.Ready.{Keeps};
-ghost use Rattle.solve.specs.contracts.Layout.{maskWords, grownAt, outRow};
+ghost use Rattle.solve.specs.contracts.Layout.{grownAt, outRow, maskRowAt, areaEnd};
 ghost use Rattle.solve.specs.contracts.Waiting.{Waits};
 ghost use Rattle.solve.specs.contracts.Pushed.{Grown, Pushed};
 use crate::Queue;
@@ -14,20 +14,20 @@ use crate::nodes;
 use flow::NodeId;
 
 // The row at `from` is joined to the masks of d; if they grew, that is noted.
-fn grow(work: &mut [u64], n: usize, from: usize, d: NodeId)
-    requires { ⌜ (n ≤ maxStatements) × (areaEnd n ≤ length (now work)) × (d .0 < 2 * n) × (outRow n ≤ from) × (from + maskWords ≤ areaEnd n) ⌝ }
-    ensures { λ _. ⌜ Grown (now (work .entry)) (now (work .exit)) n from (d .0) × Keeps (grownAt n) (areaEnd n) (now (work .entry)) (now (work .exit)) ⌝ }
+fn grow(work: &mut [u64], n: usize, width: usize, from: usize, d: NodeId)
+    requires { ⌜ (n ≤ maxStatements) × (width ≤ maxWidth) × (areaEnd n width ≤ length (now work)) × (d .0 < 2 * n) × (outRow n width ≤ from) × (from + 3 * width ≤ maskRowAt n width 0) ⌝ }
+    ensures { λ _. ⌜ Grown (now (work .entry)) (now (work .exit)) n width from (d .0) × Keeps (grownAt n) (areaEnd n width) (now (work .entry)) (now (work .exit)) ⌝ }
 {
-    if words::union(work, layout::mask_row(n, d), from, layout::MASK_WORDS) {
-        work[layout::grown(n) + d.0] = 1;
+    if words::union(work, layout::mask_row(n, width, d), from, 3 * width) {
+        words::insert(work, layout::grown(n), d.0);
     }
 }
 
 // The row at `from` is joined to the masks of d, and d waits afterwards.
-pub fn push(work: &mut [u64], n: usize, queue: Queue, from: usize, d: NodeId) -> Queue
-    requires { ⌜ (n ≤ maxStatements) × (areaEnd n ≤ length (now work)) × (d .0 < 2 * n) × (outRow n ≤ from) × (from + maskWords ≤ areaEnd n) × ((w : List ℕ) × Waits (now work) n queue w) ⌝ }
-    ensures { λ r. ⌜ Pushed (now (work .entry)) (now (work .exit)) n queue from (d .0) r ⌝ }
+pub fn push(work: &mut [u64], n: usize, width: usize, queue: Queue, from: usize, d: NodeId) -> Queue
+    requires { ⌜ (n ≤ maxStatements) × (width ≤ maxWidth) × (areaEnd n width ≤ length (now work)) × (d .0 < 2 * n) × (outRow n width ≤ from) × (from + 3 * width ≤ maskRowAt n width 0) × ((w : List ℕ) × Waits (now work) n queue w) ⌝ }
+    ensures { λ r. ⌜ Pushed (now (work .entry)) (now (work .exit)) n width queue from (d .0) r ⌝ }
 {
-    grow(work, n, from, d);
+    grow(work, n, width, from, d);
     nodes::enqueue(work, n, queue, d)
 }

@@ -1,39 +1,28 @@
-// The queue of waiting numbers, a ring in the work area, with a word for each number that says whether it waits. It serves both solvers, so its numbers
+// The queue of waiting numbers, a ring in the work area, with the set of those that wait. It serves both solvers, so its numbers
 // are bare: `nodes` and `stmts` say what they stand for.
-ghost use mathlib.Core.Path.{_≡_};
 ghost use mathlib.Core.List.{List};
-ghost use Prim.Native.Nat.{ℕ, _+_, _*_, _^_, _<_, _≤_};
+ghost use Prim.Native.Nat.{ℕ, _*_, _<_, _≤_};
 ghost use lib.ListN.{length};
 ghost use Rattle.flow.specs.Limits.{maxStatements};
-ghost use Rattle.solve.specs.contracts.Layout.{waitingAt, visitedAt};
+ghost use Rattle.solve.specs.contracts.Layout.{visitedAt};
 ghost use Rattle.solve.specs.contracts.Waiting.{Waits, Enqueued, Taken};
 use crate::Queue;
 use crate::layout::waiting;
 use crate::wrap;
 use statements::layout;
 
-// Where the word stands that says whether d waits: each copy of a statement has its own. The last bound says that the place is a usize.
-fn flag(n: usize, d: usize) -> usize
-    requires { ⌜ (n ≤ maxStatements) × (d < 2 * n) × (visitedAt n < 2 ^ 64) ⌝ }
-    ensures { λ r. ⌜ r ≡ waitingAt n + d ⌝ }
-{
-    waiting(n) + d
-}
-
 // d joins the back unless it waits.
 pub fn enqueue(work: &mut [u64], n: usize, queue: Queue, d: usize) -> Queue
     requires { ⌜ (n ≤ maxStatements) × (visitedAt n ≤ length (now work)) × (d < 2 * n) × ((w : List ℕ) × Waits (now work) n queue w) ⌝ }
     ensures { λ r. ⌜ Enqueued (now (work .entry)) (now (work .exit)) n queue d r ⌝ }
 {
-    let at = flag(n, d);
-    if work[at] == 1 {
-        return queue;
+    if words::insert(work, waiting(n), d) {
+        let head = queue.head;
+        let len = queue.len;
+        work[layout::queue(n) + wrap(head + len, 2 * n)] = d as u64;
+        return Queue { head, len: len + 1 };
     }
-    let head = queue.head;
-    let len = queue.len;
-    work[at] = 1;
-    work[layout::queue(n) + wrap(head + len, 2 * n)] = d as u64;
-    Queue { head, len: len + 1 }
+    queue
 }
 
 // The front, which waits no more.
@@ -43,6 +32,6 @@ pub fn take(work: &mut [u64], n: usize, queue: Queue) -> usize
 {
     let head = queue.head;
     let d = work[layout::queue(n) + head] as usize;
-    work[flag(n, d)] = 0;
+    words::remove(work, waiting(n), d);
     d
 }

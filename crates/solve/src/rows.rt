@@ -1,54 +1,61 @@
-// Rows of masks, a byte an array: one array or all of them take an effect, or a row is copied.
+// Rows of masks, each three sets of arrays: the arrays of a set take an effect, a word of them at a time.
 ghost use mathlib.Core.Logic.{_⊎_};
-ghost use Prim.Native.Nat.{_+_, _<_, _≤_};
-ghost use lib.Dec.{eqb, ltb};
+ghost use Prim.Native.Nat.{_+_, _*_, _<_, _≤_};
 ghost use lib.ListN.{length};
-ghost use Rattle.words.specs.contracts.Byte.{byteAt};
-ghost use Rattle.flow.specs.Limits.{maxArrays};
-ghost use Rattle.solve.specs.contracts.Layout.{maskWords};
-ghost use Rattle.solve.specs.contracts.Rows.{RowIs, stepWhere, memberBelow};
-use crate::layout;
+ghost use Rattle.statements.specs.contracts.Layout.{maxWidth};
+ghost use Rattle.solve.specs.contracts.Rows.{maskAt, RowIs, WordStepped, stepWhere, member};
 
-pub fn step_at(work: &mut [u64], row: usize, a: usize, effect: masks::Effect)
-    requires { ⌜ (row + maskWords ≤ length (now work)) × (a < maxArrays) ⌝ }
-    ensures { λ _. ⌜ RowIs (now (work .entry)) (now (work .exit)) row (stepWhere (λ b. eqb b a) effect (byteAt (now (work .entry)) row)) ⌝ }
+// Word k of the row at `to` becomes that of the row at `from`, of which the arrays in the word `chosen` take the effect.
+fn step_word(
+    work: &mut [u64],
+    width: usize,
+    to: usize,
+    from: usize,
+    k: usize,
+    chosen: u64,
+    effect: masks::Effect,
+)
+    requires { ⌜ (k < width) × (to + 3 * width ≤ length (now work)) × (from + 3 * width ≤ length (now work)) ⌝ }
+    ensures { λ _. ⌜ WordStepped (now (work .entry)) (now (work .exit)) width to from k chosen effect ⌝ }
 {
-    let m = words::byte(work, row, a);
-    words::set_byte(work, row, a, masks::step(effect, m));
+    let none = work[from + k];
+    let auto = work[from + width + k];
+    let dimmed = work[from + 2 * width + k];
+    work[to + k] = words::choose(chosen, masks::holders(effect, 0, none, auto, dimmed), none);
+    work[to + width + k] = words::choose(
+        chosen,
+        masks::holders(effect, 1, none, auto, dimmed),
+        auto,
+    );
+    work[to + 2 * width + k] = words::choose(
+        chosen,
+        masks::holders(effect, 2, none, auto, dimmed),
+        dimmed,
+    );
 }
 
-// Every array below the count takes the effect.
-pub fn step_all(work: &mut [u64], row: usize, arrays: usize, effect: masks::Effect)
-    requires { ⌜ (row + maskWords ≤ length (now work)) × (arrays ≤ maxArrays) ⌝ }
-    ensures { λ _. ⌜ RowIs (now (work .entry)) (now (work .exit)) row (stepWhere (λ b. ltb b arrays) effect (byteAt (now (work .entry)) row)) ⌝ }
+// The row at `to` becomes the row at `from`, of which the arrays in the set at word `set` take the effect.
+pub fn step_members(
+    work: &mut [u64],
+    width: usize,
+    to: usize,
+    from: usize,
+    set: usize,
+    effect: masks::Effect,
+)
+    requires { ⌜ (width ≤ maxWidth) × (set + width ≤ to) × (to + 3 * width ≤ length (now work)) × (from + 3 * width ≤ length (now work)) × ((to + 3 * width ≤ from) ⊎ (from + 3 * width ≤ to)) ⌝ }
+    ensures { λ _. ⌜ RowIs (now (work .entry)) (now (work .exit)) width to (stepWhere (member (now (work .entry)) set) effect (maskAt (now (work .entry)) width from)) ⌝ }
 {
-    let mut a = 0;
-    while a < arrays {
-        step_at(work, row, a, effect);
-        a += 1;
+    // Up to 64 arrays take one word, and no loop.
+    if width == 1 {
+        let chosen = work[set];
+        step_word(work, 1, to, from, 0, chosen, effect);
+        return;
     }
-}
-
-// Every array below the count that is a member of the set at word `set` takes the effect.
-pub fn step_members(work: &mut [u64], row: usize, set: usize, count: usize, effect: masks::Effect)
-    requires { ⌜ (set < row) × (row + maskWords ≤ length (now work)) × (count ≤ maxArrays) ⌝ }
-    ensures { λ _. ⌜ RowIs (now (work .entry)) (now (work .exit)) row (stepWhere (memberBelow (now (work .entry)) set count) effect (byteAt (now (work .entry)) row)) ⌝ }
-{
-    let mut a = words::next(work, set, 0, count);
-    while a < count {
-        step_at(work, row, a, effect);
-        a = words::next(work, set, a + 1, count);
-    }
-}
-
-pub fn copy_row(work: &mut [u64], to: usize, from: usize)
-    requires { ⌜ (to + maskWords ≤ length (now work)) × (from + maskWords ≤ length (now work)) × ((to + maskWords ≤ from) ⊎ (from + maskWords ≤ to)) ⌝ }
-    ensures { λ _. ⌜ RowIs (now (work .entry)) (now (work .exit)) to (byteAt (now (work .entry)) from) ⌝ }
-{
     let mut k = 0;
-    while k < layout::MASK_WORDS {
-        let w = work[from + k];
-        work[to + k] = w;
+    while k < width {
+        let chosen = work[set + k];
+        step_word(work, width, to, from, k, chosen, effect);
         k += 1;
     }
 }

@@ -8,8 +8,7 @@ use mathlib.Core.Path.{_≡_, refl, sym, _∙_, subst}
 use lib.ListN.{length, getD, set, length-set}
 use lib.Seq.{getD-set-other}
 use Rattle.words.specs.contracts.Row.{has}
-use Rattle.words.specs.contracts.Change.{joined, inserted, rewritten, unioned, zeroed}
-use Rattle.words.specs.contracts.Byte.{byteSet}
+use Rattle.words.specs.contracts.Change.{joined, inserted, removed, rewritten, unioned, zeroed}
 use Rattle.words.proofs.Row.{has-cong}
 use Rattle.words.proofs.Rewritten.{length-rewritten, rewritten-other}
 use Rattle.flow.specs.declared.Header.{Header}
@@ -19,7 +18,7 @@ use Rattle.flow.specs.Format.{flowOf}
 use Rattle.records.proofs.Files.{limited}
 use Rattle.records.proofs.Statements.{size-is}
 use Rattle.theory.specs.contracts.WellFormed.{WellFormed}
-use Rattle.statements.specs.contracts.Layout.{areaEnd}
+use Rattle.statements.specs.contracts.Layout.{solverAt}
 use Rattle.statements.specs.contracts.Ready.{Ready, Indexed, Keeps}
 use Rattle.statements.proofs.WorkArea.{area-fits}
 use Rattle.statements.proofs.WellFormed.{well-formed}
@@ -72,9 +71,9 @@ module _ (ws : List ℕ) {lo hi : ℕ} where
   unfolding inserted
   keeps-inserted base i l h = keeps-joined (base + i / 64) _ (omega arith) h
 
-  pub keeps-byte : (base k v : ℕ) → lo ≤ base → base + k / 8 < hi → Keeps lo hi ws (byteSet ws base k v)
-  unfolding byteSet
-  keeps-byte base k v l h = keeps-set (base + k / 8) _ (omega arith) h
+  pub keeps-removed : (base i : ℕ) → lo ≤ base → base + i / 64 < hi → Keeps lo hi ws (removed ws base i)
+  unfolding removed
+  keeps-removed base i l h = keeps-set (base + i / 64) _ (omega arith) h
 
   pub keeps-rewritten : (f : List ℕ → ℕ → ℕ) (base width : ℕ) → lo ≤ base → base + width ≤ hi → Keeps lo hi ws (rewritten f ws base width)
   keeps-rewritten f base width l h = record {
@@ -103,12 +102,12 @@ ready-keeps r k l = record {
 pub indexed-keeps : {s ws vs : List ℕ} {h : Header} {lo hi : ℕ} → Indexed s h ws → Keeps lo hi ws vs → h .statements ≤ lo → Indexed s h vs
 indexed-keeps r k l = record { ready = ready-keeps (r .ready) k l; header = r .header }
 
--- a fit file has few enough statements for the layout, and their parts lie within the area
+-- a fit file has few enough statements for the layout, and the parts below the solver's lie within the area, with a set of doubled numbers
 
 pub ready-most : {s ws : List ℕ} {n : ℕ} → Ready s ws n → n ≤ maxStatements
 ready-most {s} r = let most = limited (r .fit) .statements in let count = r .count in omega arith
 
-pub ready-room : {s ws : List ℕ} {n : ℕ} → Ready s ws n → 0 < n → areaEnd n ≤ length ws
+pub ready-room : {s ws : List ℕ} {n : ℕ} → Ready s ws n → 0 < n → solverAt n + n ≤ length ws
 ready-room r p = let room = r .room in omega (arith, area-fits p (ready-most r))
 
 -- and the flow that it stands for is well formed and has n of them

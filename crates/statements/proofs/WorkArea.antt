@@ -1,4 +1,4 @@
--- The parts of the work area: rows of the matrix lie apart and within it, a row has a word for each of its numbers, and all fits into 64 × n words.
+-- The parts of the work area: rows of the matrix lie apart and within it, a row has a word for each of its numbers, and all of them take at most 32 × n words.
 -- By the bound on n, which makes a row at most 32 words.
 use Prim.Native.Nat.{ℕ, _+_, _*_, _/_, _≤_, _<_}
 use native.Mathlib.Omega.{arith}
@@ -13,7 +13,7 @@ use Rattle.words.specs.contracts.Row.{has}
 use Rattle.words.specs.contracts.Change.{inserted}
 use Rattle.words.proofs.Row.{has-cong}
 use Rattle.words.proofs.Inserted.{insert-else}
-use Rattle.statements.specs.contracts.Layout.{rowWords, rowsEnd, rowAt, matrixAt, queueAt, areaEnd}
+use Rattle.statements.specs.contracts.Layout.{rowWords, rowsEnd, rowAt, matrixAt, queueAt, solverAt}
 
 -- Words of a row
 
@@ -53,17 +53,13 @@ unfolding rowsEnd
 row-below {n} {i} h l =
     omega (arith, mul-le-mul-right i (row-words-most h), mul-le-mul-left 32 l)
 
-one-word : {n : ℕ} → n < 8 → rowAt n n ≤ 6 * n
+pub one-word : {n : ℕ} → n < 8 → rowAt n n ≤ 6 * n
 unfolding rowsEnd rowWords
 one-word {n} l = let one : (n + 63) / 64 ≤ 1 = omega arith in omega (arith, mul-le-mul-right n one)
 
--- of a flow with statements, the parts fit into the work area that refusal 10 asks for
-pub area-fits : {n : ℕ} → 0 < n → n ≤ maxStatements → areaEnd n ≤ workWords n
-area-fits {n} p h = go (decLt n 8)
-  where
-    go : Dec (n < 8) → areaEnd n ≤ workWords n
-    go (yes l) = omega (arith, one-word l)
-    go (no l) = omega (arith, l, row-below h (le-refl n))
+-- of a flow with statements, the parts below the solver's and a set of doubled numbers fit into the work area that refusal 10 asks for
+pub area-fits : {n : ℕ} → 0 < n → n ≤ maxStatements → solverAt n + n ≤ workWords n
+area-fits {n} p h = omega (arith, row-below h (le-refl n))
 
 -- Members of rows
 

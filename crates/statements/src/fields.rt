@@ -31,12 +31,12 @@ pub fn is_return(file: &[u8], work: &[u64], n: usize, i: StmtId) -> bool
     records::kind(file, offset(file, work, n, i)) == KIND_RETURN
 }
 
-// CLR and RUN: every array becomes NONE.
-pub fn resets(file: &[u8], work: &[u64], n: usize, i: StmtId) -> bool
-    requires { ⌜ Ready (now file) (now work) n × (i .0 < n) ⌝ }
+// CLR and RUN: every array becomes NONE. The record of statement i is at p.
+pub fn resets(file: &[u8], i: StmtId, p: usize) -> bool
+    requires { ⌜ RecordOf (now file) (i .0) p ⌝ }
     ensures { λ r. ⌜ r ≡ doubled.resets (kind (flowOf (now (file .entry))) (i .0)) ⌝ }
 {
-    let kind = records::kind(file, offset(file, work, n, i));
+    let kind = records::kind(file, p);
     kind == KIND_CLR || kind == KIND_RUN
 }
 
@@ -45,10 +45,11 @@ pub fn wipes(file: &[u8], work: &[u64], n: usize, i: StmtId) -> bool
     requires { ⌜ Ready (now file) (now work) n × (i .0 < n) ⌝ }
     ensures { λ r. ⌜ r ≡ body.wipes (kind (flowOf (now (file .entry))) (i .0)) ⌝ }
 {
-    if resets(file, work, n, i) {
+    let p = offset(file, work, n, i);
+    if resets(file, i, p) {
         return true;
     }
-    0 < records::item_count(file, offset(file, work, n, i))
+    0 < records::item_count(file, p)
 }
 
 pub fn continuation(file: &[u8], work: &[u64], n: usize, i: StmtId) -> flow::Continuation

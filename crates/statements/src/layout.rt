@@ -2,7 +2,7 @@
 // words of the solver begin. Each phase writes one run of words.
 ghost use mathlib.Core.Path.{_≡_};
 ghost use Prim.Native.Nat.{_+_, _*_, _<_, _≤_};
-ghost use Rattle.flow.specs.Limits.{maxStatements};
+ghost use Rattle.flow.specs.Limits.{maxStatements, maxArrays};
 ghost use Rattle.statements.specs.contracts.Layout as at;
 use flow::StmtId;
 
@@ -99,4 +99,12 @@ pub fn solver(n: usize) -> usize
     ensures { λ r. ⌜ r ≡ at.solverAt n ⌝ }
 {
     part(n, 3)
+}
+
+// Words of a set of arrays: as many as the flow's arrays need.
+pub fn set_words(arrays: usize) -> usize
+    requires { ⌜ arrays ≤ maxArrays ⌝ }
+    ensures { λ r. ⌜ r ≡ at.setWords arrays ⌝ }
+{
+    (arrays + 63) / 64
 }

@@ -50,7 +50,7 @@ unfolding bit
 bit-and a b k = ap (λ (x : ℕ). x % 2) (and-shr a b k) ∙ omega (arith, and-step (a / 2 ^ k) (b / 2 ^ k))
 
 -- the bits of `!b`, for a b of w digits
-bit-not : (w b k : ℕ) → b < 2 ^ w → k < w → bit (2 ^ w - 1 - b) k ≡ 1 - bit b k
+pub bit-not : (w b k : ℕ) → b < 2 ^ w → k < w → bit (2 ^ w - 1 - b) k ≡ 1 - bit b k
 bit-not zero b k h l = absurd (not-suc-le-zero l)
 bit-not (suc w) b zero h l = rw (bit-first (2 ^ suc w - 1 - b), bit-first b) (omega (arith, pow-suc 2 w, pow-pos w))
 bit-not (suc w) b (suc k) h l =

@@ -7,12 +7,12 @@ use Prim.Native.Nat.{ℕ, _+_, _*_, _/_, _%_, _^_, _≤_, _<_, max}
 use native.Mathlib.Decide.{ℕ-discrete}
 use native.Mathlib.Omega.{arith}
 use lib.Bits.{bitOr, or-lt}
-use lib.ListN.{length, getD, length-set}
+use lib.ListN.{length, getD, set, length-set}
 use lib.Pow.{pow-lt}
-use lib.Seq.{getD-set-same, getD-set-other}
+use lib.Seq.{getD-set-same, getD-set-other, set-getD}
 use Rattle.words.specs.contracts.Row.{bit, has, Words, members}
 use Rattle.words.specs.contracts.Change.{joined, inserted}
-use Rattle.words.proofs.Bit.{bit-or, bit-pow-same, bit-pow-other}
+use Rattle.words.proofs.Bit.{bit-or, bit-pow-same, bit-pow-other, or-member}
 use Rattle.words.proofs.Tally.{tally-suc}
 use Rattle.words.proofs.Row.{has-lt, has-cong, words-set}
 
@@ -66,6 +66,11 @@ insert-other ws base i j l d = at (ℕ-discrete (j / 64) (i / 64))
 -- a row that does not hold i's word has what it had
 pub insert-else : (ws : List ℕ) (base i base′ j : ℕ) → base′ + j / 64 ≢ base + i / 64 → has (inserted ws base i) base′ j ≡ has ws base′ j
 insert-else ws base i base′ j d = has-cong (inserted ws base i) ws base′ j (inserted-other ws base i (base′ + j / 64) d)
+
+-- a member inserted again changes nothing
+pub insert-again : (ws : List ℕ) (base i : ℕ) → has ws base i ≡ 1 → inserted ws base i ≡ ws
+unfolding has inserted joined
+insert-again ws base i e = ap (set ws (base + i / 64)) (or-member (getD ws (base + i / 64) 0) (i % 64) e) ∙ set-getD ws (base + i / 64) 0
 
 -- a new member is one more
 pub insert-members : (ws : List ℕ) (base i width : ℕ) → base + width ≤ length ws → i < 64 * width → has ws base i ≡ 0

@@ -6,4 +6,5 @@ pub mod Rewritten
 pub mod Unioned
 pub mod Zeroed
 pub mod NextMember
+pub mod Removed
 pub mod Bytes

@@ -1,12 +1,11 @@
 // Bit sets kept in rows of 64-bit words of a lent slice. A row starts at word `base`; number i is
-// bit i % 64 of word base + i / 64. Rows of bytes, eight to a word, are read and written here too.
+// bit i % 64 of word base + i / 64.
 ghost use mathlib.Core.Path.{_≡_};
 ghost use Prim.Native.Nat.{_+_, _-_, _*_, _/_, _^_, _≤_, _<_, min};
 ghost use lib.Dec.{eqb};
 ghost use lib.ListN.{length};
 ghost use Rattle.words.specs.contracts.Row.{has, members, nextMember};
-ghost use Rattle.words.specs.contracts.Change.{Joined, Inserted, Unioned, zeroed, without};
-ghost use Rattle.words.specs.contracts.Byte.{byteAt, byteSet};
+ghost use Rattle.words.specs.contracts.Change.{Joined, Inserted, removed, Unioned, zeroed, without, Chosen};
 
 pub fn contains(ws: &[u64], base: usize, i: usize) -> bool
     requires { ⌜ base + i / 64 < length (now ws) ⌝ }
@@ -34,11 +33,36 @@ pub fn insert(ws: &mut [u64], base: usize, i: usize) -> bool
     union_word(ws, base + i / 64, 1u64 << (i % 64))
 }
 
+pub fn remove(ws: &mut [u64], base: usize, i: usize)
+    requires { ⌜ base + i / 64 < length (now ws) ⌝ }
+    ensures { λ _. ⌜ now (ws .exit) ≡ removed (now (ws .entry)) base i ⌝ }
+{
+    let at = base + i / 64;
+    ws[at] = difference(ws[at], 1u64 << (i % 64));
+}
+
+// Three words without a loop: as many as the masks of up to 64 arrays take.
+fn union_three(ws: &mut [u64], to: usize, from: usize) -> bool
+    requires { ⌜ (to + 3 ≤ length (now ws)) × (from + 3 ≤ length (now ws)) ⌝ }
+    ensures { λ r. ⌜ Unioned (now (ws .entry)) (now (ws .exit)) to from 3 r ⌝ }
+{
+    let low = ws[from];
+    let first = union_word(ws, to, low);
+    let middle = ws[from + 1];
+    let second = union_word(ws, to + 1, middle);
+    let high = ws[from + 2];
+    let third = union_word(ws, to + 2, high);
+    first | second | third
+}
+
 // Joins the row at `from` to the row at `to`, lowest word first, and says whether that row grew.
 pub fn union(ws: &mut [u64], to: usize, from: usize, width: usize) -> bool
     requires { ⌜ (to + width ≤ length (now ws)) × (from + width ≤ length (now ws)) ⌝ }
     ensures { λ r. ⌜ Unioned (now (ws .entry)) (now (ws .exit)) to from width r ⌝ }
 {
+    if width == 3 {
+        return union_three(ws, to, from);
+    }
     let mut grew = false;
     let mut k = 0;
     while k < width {
@@ -55,6 +79,13 @@ pub fn difference(a: u64, b: u64) -> u64
     ensures { λ r. ⌜ r ≡ without a b ⌝ }
 {
     a & !b
+}
+
+// The bits of `b` where the set has them, and those of `a` elsewhere.
+pub fn choose(set: u64, b: u64, a: u64) -> u64
+    ensures { λ r. ⌜ Chosen set b a r ⌝ }
+{
+    (b & set) | difference(a, set)
 }
 
 pub fn zero_row(ws: &mut [u64], base: usize, width: usize)
@@ -124,23 +155,4 @@ pub fn next(ws: &[u64], base: usize, from: usize, bound: usize) -> usize
         return forward(from, u64::trailing_zeros(rest) as usize, bound);
     }
     next_by_word(ws, base, from / 64 + 1, bound)
-}
-
-// Byte k of a row of bytes: eight bytes to a word, the lowest first.
-pub fn byte(ws: &[u64], base: usize, k: usize) -> u8
-    requires { ⌜ base + k / 8 < length (now ws) ⌝ }
-    ensures { λ r. ⌜ r ≡ byteAt (now (ws .entry)) base k ⌝ }
-{
-    ((ws[base + k / 8] >> (8 * (k % 8))) % 256) as u8
-}
-
-pub fn set_byte(ws: &mut [u64], base: usize, k: usize, v: u8)
-    requires { ⌜ base + k / 8 < length (now ws) ⌝ }
-    ensures { λ _. ⌜ now (ws .exit) ≡ byteSet (now (ws .entry)) base k v ⌝ }
-{
-    let at = base + k / 8;
-    let place = 8 * (k % 8);
-    let word = ws[at];
-    let old = (word >> place) % 256;
-    ws[at] = word - (old << place) + ((v as u64) << place);
 }

@@ -34,9 +34,13 @@ transparent = 2
 abbrev pub opaque : ℕ
 opaque = 3
 
--- a row of statements that holds none
+-- a row of n statements that holds none
+
+abbrev pub Empty : List ℕ → ℕ → ℕ → Type 0
+Empty ws n base = (i : ℕ) → i < n → has ws base i ≡ 0
+
 abbrev pub EmptyRow : List ℕ → ℕ → ℕ → Type 0
-EmptyRow ws n e = (i : ℕ) → i < n → has ws (rowAt n e) i ≡ 0
+EmptyRow ws n e = Empty ws n (rowAt n e)
 
 -- row e holds exactly the statements that the body walk from e meets
 pub record WalkRow (f : Flow) (ws : List ℕ) (n e : ℕ) : Type 0 where
@@ -76,14 +80,3 @@ pub record Linked (f : Flow) (ws : List ℕ) (n : ℕ) : Type 0 where
   pub calls : CallSummaries f ws n
   pub bodies : (c j : ℕ) → c < n → j < n → getD ws (callsAt n + c) 0 ≡ transparent → has ws (rowAt n c) j ≡ cond (lists.elem j (entered f c)) 1 0
   pub returns : (r k : ℕ) → r < n → k < n → isReturn (kind f r) ≡ true → has ws (rowAt n r) k ≡ cond (any (returnsTo f r k) (upTo (size f))) 1 0
-
--- the row of entered statements is empty; it holds those of the call i
-abbrev pub EmptyEntered : List ℕ → ℕ → Type 0
-EmptyEntered ws n = (j : ℕ) → j < n → has ws (enteredRowAt n) j ≡ 0
-
-abbrev pub EnteredIs : Flow → List ℕ → ℕ → ℕ → Type 0
-EnteredIs f ws n i = (j : ℕ) → j < n → has ws (enteredRowAt n) j ≡ cond (lists.elem j (entered f i)) 1 0
-
--- where statement i is a call that is not opaque, the row of entered statements is that of i
-pub record EnteredRow (f : Flow) (ws : List ℕ) (n i : ℕ) : Type 0 where
-  pub row : (k : ℕ) → continuationOf (kind f i) ≡ some k → opaqueCall f i ≡ false → EnteredIs f ws n i

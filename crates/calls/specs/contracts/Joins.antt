@@ -1,19 +1,19 @@
 -- What noting changes. Where RETURNs go: the rows of some RETURNs gain a continuation, and every other row and every word below the matrix stays.
--- Which statements a call enters, or the bodies that it enters walk: the row of entered statements gains them, and every other word stays.
+-- Which statements a call enters, or the bodies that it enters walk: a row gains them, and every other word stays.
 -- And the rows of the calls that are transparent: each becomes the row of the statements that the call enters.
 use Prim.Native.Nat.{ℕ, _+_, _≤_, _<_, max}
 use mathlib.Core.Bool.{Bool, true, false, cond, _&&_}
-use mathlib.Core.List.{List}
+use mathlib.Core.List.{List, [], _∷_}
 use mathlib.Core.Option.{some}
 use mathlib.Core.Path.{_≡_}
 use lib.Dec.{eqb}
-use lib.ListN.{getD}
+use lib.ListN.{length, getD}
 use Rattle.words.specs.contracts.Row.{has}
 use Rattle.flow.specs.Flow.{Flow}
 use Rattle.theory.specs.Lists as lists
 use Rattle.theory.specs.Lists.{In, any, concatMap}
 use Rattle.theory.specs.Body.{kind, continuationOf, isReturn, entered, walked, opaqueCall}
-use Rattle.statements.specs.contracts.Layout.{callsAt, matrixAt, rowAt, enteredRowAt, solverAt}
+use Rattle.statements.specs.contracts.Layout.{callsAt, matrixAt, rowAt, rowWords, queueAt, enteredRowAt, solverAt}
 use Rattle.statements.specs.contracts.Ready.{Keeps}
 use Rattle.calls.specs.contracts.Held.{WalkRow, transparent, opaque}
 
@@ -34,9 +34,14 @@ fromEntered ws n k s j = eqb (has ws (enteredRowAt n) s) 1 && eqb j k
 abbrev pub fromBodies : Flow → List ℕ → ℕ → ℕ → ℕ → Bool
 fromBodies f bs k s j = any (λ e. lists.elem s (walked f e)) bs && eqb j k
 
--- what the bodies bs walk, one after the other
-abbrev pub walks : Flow → List ℕ → List ℕ
-walks f bs = concatMap (walked f) bs
+-- body e by itself, or whole, with the statements that it walks; and so of the bodies bs, one after the other
+
+abbrev pub bodyOf : Flow → Bool → ℕ → List ℕ
+bodyOf f false e = e ∷ []
+bodyOf f true e = walked f e
+
+abbrev pub bodiesOf : Flow → Bool → List ℕ → List ℕ
+bodiesOf f whole bs = concatMap (bodyOf f whole) bs
 
 -- the row of e holds its walk, unless e is a RETURN, whose walk is itself
 abbrev pub BodyRow : Flow → List ℕ → ℕ → ℕ → Type 0
@@ -50,10 +55,16 @@ pub record Summary (f : Flow) (ws : List ℕ) (n c : ℕ) : Type 0 where
   pub call : (k : ℕ) → continuationOf (kind f c) ≡ some k → getD ws (callsAt n + c) 0 ≡ cond (opaqueCall f c) opaque transparent
   pub bodies : (k : ℕ) → continuationOf (kind f c) ≡ some k → BodyRows f ws n c
 
--- vs is ws with bs joined to the row of entered statements
-pub record Adds (ws vs : List ℕ) (n : ℕ) (bs : List ℕ) : Type 0 where
-  pub kept : Keeps (enteredRowAt n) (solverAt n) ws vs
-  pub joined : (j : ℕ) → j < n → has vs (enteredRowAt n) j ≡ max (has ws (enteredRowAt n) j) (cond (lists.elem j bs) 1 0)
+-- a row that bodies may be joined to lies above the noted places, and above the matrix if walks are read from there
+pub record Target (ws : List ℕ) (n to : ℕ) (whole : Bool) : Type 0 where
+  pub low : n ≤ to
+  pub high : to + rowWords n ≤ length ws
+  pub apart : whole ≡ true → queueAt n ≤ to
+
+-- vs is ws with bs joined to the row at `to`
+pub record Adds (to : ℕ) (ws vs : List ℕ) (n : ℕ) (bs : List ℕ) : Type 0 where
+  pub kept : Keeps to (to + rowWords n) ws vs
+  pub joined : (j : ℕ) → j < n → has vs to j ≡ max (has ws to j) (cond (lists.elem j bs) 1 0)
 
 -- vs is ws with the statements that it enters in the row of each transparent call from lo to below hi; every other row stays
 pub record Notes (f : Flow) (ws vs : List ℕ) (n lo hi : ℕ) : Type 0 where

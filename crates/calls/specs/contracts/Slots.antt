@@ -38,9 +38,14 @@ returnSlots f N r = []
 unfoldable pub listedSlots : Flow → Base → ℕ → List (Option Edge)
 listedSlots f b i = map (λ j. some (plain (at b j))) (successors f i)
 
+-- by the kind of statement i and what its call is: what a RETURN has, what a statement that goes to its successors has, and what a call with a
+-- continuation that is not opaque has
+abbrev pub byKind : {A : Type 0} → Flow → ℕ → A → A → (ℕ → A) → Option ℕ → A
+byKind f i r l c none = cond (isReturn (kind f i)) r l
+byKind f i r l c (some k) = cond (opaqueCall f i) l (c k)
+
 unfoldable pub slotsOf : Flow → Base → ℕ → Option ℕ → List (Option Edge)
-slotsOf f b i none = cond (isReturn (kind f i)) (returnSlots f b i) (listedSlots f b i)
-slotsOf f b i (some k) = cond (opaqueCall f i) (listedSlots f b i) (callSlots f b i k)
+slotsOf f b i o = byKind f i (returnSlots f b i) (listedSlots f b i) (callSlots f b i) o
 
 unfoldable pub slots : Flow → Node → List (Option Edge)
 slots f v = slotsOf f (v .base) (v .stmt) (continuationOf (kind f (v .stmt)))

@@ -1,22 +1,24 @@
 -- Summaries while they are made: what the state of each body and of each call says, and that from one moment to a later one summaries are only added.
 -- An open body is on the way: calls lead from it to the body at hand. What is noted as touched is touched; where a summary is transparent, it is all that is touched.
 use Prim.Native.Nat.{ℕ, _+_, _<_}
-use mathlib.Core.Bool.{Bool, true, false, cond, not}
+use mathlib.Core.Bool.{Bool, true, false, cond, not, _||_}
 use mathlib.Core.List.{List}
 use mathlib.Core.Logic.{_≢_}
 use mathlib.Core.Option.{some}
 use mathlib.Core.Path.{_≡_}
+use lib.Bits.{bitOr}
 use lib.Dec.{eqb}
 use lib.ListN.{getD}
 use Rattle.words.specs.contracts.Row.{bit}
 use Rattle.words.specs.contracts.Change.{joined}
 use Rattle.flow.specs.Flow.{Flow}
+use Rattle.flow.specs.Format.{statementsOf, linesPlace, lineCount}
 use Rattle.theory.specs.Lists as lists
 use Rattle.theory.specs.Lists.{In}
 use Rattle.theory.specs.Body as theory
 use Rattle.theory.specs.Body.{kind, references, continuationOf, isReturn, callees, touches, opaqueCall, callTouches, Calls⁺}
 use Rattle.statements.specs.contracts.Layout.{callsAt, callTouchedAt, bodiesAt, touchedAt, enteredRowAt}
-use Rattle.statements.specs.contracts.Ready.{Keeps, MembersWord}
+use Rattle.statements.specs.contracts.Ready.{Ready, Keeps, MembersWord}
 use Rattle.calls.specs.contracts.Held.{unentered, opened, transparent, opaque, EmptyRow, WalkRow}
 
 -- the states of body b and of call c, and the arrays noted as touched
@@ -89,16 +91,17 @@ Onward ws vs n = OnwardBut n ws vs n
 abbrev pub Leads : Flow → List ℕ → ℕ → ℕ → Type 0
 Leads f ws n b = (o : ℕ) → o < n → body ws n o ≡ opened → Calls⁺ f o b
 
--- the references of statement i were joined to the touched arrays of body e
-pub record Referred (f : Flow) (ws vs : List ℕ) (n e i : ℕ) : Type 0 where
-  pub word : ℕ
-  pub set : MembersWord word (λ a. lists.elem a (references f i))
-  pub slice : vs ≡ joined ws (touchedAt n + e) word
+-- the places of the records are noted, and the file's lines stand at `place`, so many
+pub record Located (s ws : List ℕ) (place count : ℕ) : Type 0 where
+  pub ready : Ready s ws (statementsOf s)
+  pub lines : (place ≡ linesPlace s) × (count ≡ lineCount s)
 
--- what call c touches was joined to what body e touches; whether the call is opaque
-pub record CallJoined (ws vs : List ℕ) (n e c : ℕ) (found-opaque : Bool) : Type 0 where
-  pub slice : vs ≡ joined ws (touchedAt n + e) (callTouchedBy ws n c)
-  pub state : found-opaque ≡ eqb (call ws n c) opaque
+-- statement i was passed by on the walk of body e: its references, and what it touches as a call, were joined to what the body touches; whether it makes the body opaque
+pub record WalkPassed (f : Flow) (ws vs : List ℕ) (n e i : ℕ) (found-opaque : Bool) : Type 0 where
+  pub own : ℕ
+  pub set : MembersWord own (λ a. lists.elem a (references f i))
+  pub slice : vs ≡ joined ws (touchedAt n + e) (bitOr own (callTouchedBy ws n i))
+  pub state : found-opaque ≡ (eqb (call ws n i) opaque || theory.wipes (kind f i))
 
 -- what body b touches was joined to what call c touches; whether the body is not transparent
 pub record BodyJoined (ws vs : List ℕ) (n c b : ℕ) (found-opaque : Bool) : Type 0 where
@@ -110,6 +113,23 @@ pub record BodySummed (f : Flow) (ws vs : List ℕ) (n e : ℕ) : Type 0 where
   pub summing : Summing f vs n
   pub onward : Onward ws vs n
   pub done : body vs n e ≢ unentered
+
+-- body e was opened, and its walk is in its row
+pub record Opened (f : Flow) (ws vs : List ℕ) (n e : ℕ) : Type 0 where
+  pub summing : Summing f vs n
+  pub onward : OnwardBut e ws vs n
+  pub was : body ws n e ≡ unentered
+  pub is : body vs n e ≡ opened
+
+-- body e was opened, if the answer says so, and else there is nothing left to do
+abbrev pub Entered : Flow → List ℕ → List ℕ → ℕ → ℕ → Bool → Type 0
+Entered f ws vs n e true = Opened f ws vs n e
+Entered f ws vs n e false = BodySummed f ws vs n e
+
+-- call c has a continuation and no summary, if the answer says so
+abbrev pub Awaits : Flow → List ℕ → ℕ → ℕ → Bool → Type 0
+Awaits f ws n c true = (k : ℕ) × (continuationOf (kind f c) ≡ some k)
+Awaits f ws n c false = (k : ℕ) → continuationOf (kind f c) ≡ some k → call ws n c ≢ unentered
 
 -- call c has a summary, if it has a continuation
 pub record CallSummed (f : Flow) (ws vs : List ℕ) (n c : ℕ) : Type 0 where

@@ -1,4 +1,4 @@
--- What the phases start from, and what they leave together: the file is fit, its header is known, the areas have room and the work area is zero; after them the masks, the
+-- What the phases start from, and what they leave together: the file is fit, its header is known, the areas have room and the work area is zero as far as it is used; after them the masks, the
 -- live words are those of the definitions, and the count is that of the queue rule's course.
 use Prim.Native.Nat.{ℕ, _*_, _+_, _<_, _≤_}
 use mathlib.Core.List.{List}
@@ -13,19 +13,20 @@ use Rattle.theory.specs.Doubled.{doubled}
 use Rattle.theory.specs.Queue.{Solver, Over}
 use Rattle.theory.specs.Masks.{maskLeft}
 use Rattle.theory.specs.Live.{liveInWord, liveOutWord}
-use Rattle.statements.specs.contracts.Layout.{queueAt, enteredRowAt, areaEnd}
+use Rattle.statements.specs.contracts.Layout.{queueAt, enteredRowAt, setWords}
 use Rattle.statements.specs.contracts.Ready.{Ready, Indexed}
+use Rattle.solve.specs.contracts.Layout.{areaEnd}
 use Rattle.flow.specs.Format.{flowOf}
 use Rattle.calls.specs.contracts.Held.{Summarized, Linked}
 use Rattle.dataflow.specs.Promise.{Written}
 
--- a fit file, its header, and a work area that is zero
+-- a fit file, its header, and a work area that is zero as far as it is used
 pub record FitFlow (s : List ℕ) (h : Header) (work : List ℕ) : Type 0 where
   pub fit : FitFile s
   pub header : h ≡ headerOf s
   pub some : 0 < h .statements
   pub work-room : workWords (h .statements) ≤ length work
-  pub zero : (x : ℕ) → getD work x 0 ≡ 0
+  pub zero : (x : ℕ) → x < areaEnd (h .statements) (setWords (h .arrays)) → getD work x 0 ≡ 0
 
 -- and areas with room
 pub record FitAreas (s : List ℕ) (h : Header) (masks liveIn liveOut work : List ℕ) : Type 0 where
@@ -47,14 +48,14 @@ pub record Findings (f : Flow) (masks masks′ liveIn liveIn′ liveOut liveOut�
 pub record SummariesMade (s : List ℕ) (h : Header) (ws : List ℕ) : Type 0 where
   pub indexed : Indexed s h ws
   pub summarized : Summarized (flowOf s) ws (h .statements)
-  pub zero : (x : ℕ) → enteredRowAt (h .statements) ≤ x → x < areaEnd (h .statements) → getD ws x 0 ≡ 0
+  pub zero : (x : ℕ) → enteredRowAt (h .statements) ≤ x → x < areaEnd (h .statements) (setWords (h .arrays)) → getD ws x 0 ≡ 0
 
 -- what the forward solver starts from: the edges are known, and its words are zero
 pub record SolverStart (s : List ℕ) (h : Header) (ws : List ℕ) : Type 0 where
   pub indexed : Indexed s h ws
   pub linked : Linked (flowOf s) ws (h .statements)
   pub some : 0 < h .statements
-  pub zero : (x : ℕ) → queueAt (h .statements) ≤ x → x < areaEnd (h .statements) → getD ws x 0 ≡ 0
+  pub zero : (x : ℕ) → queueAt (h .statements) ≤ x → x < areaEnd (h .statements) (setWords (h .arrays)) → getD ws x 0 ≡ 0
 
 -- the masks are written
 pub record Masked (s : List ℕ) (h : Header) (masks masks′ vs : List ℕ) (visits : ℕ) : Type 0 where

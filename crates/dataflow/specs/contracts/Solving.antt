@@ -1,51 +1,49 @@
 -- The work area as a state of the queue rule: what waits, what was visited, and for each number the union of what was pushed to it, which is what a
--- visit of it would pull now. A visited number's word says whether a visit would change its masks.
+-- visit of it would pull now. A visited number is among those that grew where a visit would change its masks.
 use Prim.Native.Nat.{ℕ, _+_, _*_, _<_, _≤_}
 use mathlib.Core.Bool.{true, cond}
 use mathlib.Core.List.{List, _∷_}
 use mathlib.Core.Path.{_≡_}
 use lib.ListN.{getD}
+use Rattle.words.specs.contracts.Row.{has}
 use Rattle.flow.specs.Flow.{Flow}
-use Rattle.flow.specs.Limits.{maxArrays}
 use Rattle.theory.specs.Doubled.{doubled}
 use Rattle.theory.specs.Queue.{Solver, Course, Over, pulled, changed, visit}
-use Rattle.statements.specs.contracts.Layout.{queueAt, areaEnd}
+use Rattle.statements.specs.contracts.Layout.{queueAt}
 use Rattle.statements.specs.contracts.Ready.{Keeps}
-use Rattle.calls.specs.contracts.Held.{EmptyEntered}
 use Rattle.solve.specs.declared.Queue.{Queue}
-use Rattle.solve.specs.contracts.Layout.{visitedAt, grownAt}
+use Rattle.solve.specs.contracts.Layout.{visitedAt, grownAt, areaEnd}
 use Rattle.solve.specs.contracts.Waiting.{Waits}
 use Rattle.solve.specs.contracts.Pushed.{masksAt}
 use Rattle.dataflow.specs.contracts.Sent.{masksBelow}
 
-pub record Solving (f : Flow) (ws : List ℕ) (n : ℕ) (queue : Queue) (st : Solver) : Type 0 where
+pub record Solving (f : Flow) (ws : List ℕ) (n w : ℕ) (queue : Queue) (st : Solver) : Type 0 where
   pub waits : Waits ws n queue (st .waiting)
-  pub visited : (d : ℕ) → d < 2 * n → getD ws (visitedAt n + d) 0 ≡ cond (st .visited d) 1 0
-  pub masks : (d a : ℕ) → d < 2 * n → a < maxArrays → masksAt ws n d a ≡ masksBelow (f .arrays) (pulled (doubled f) st d) a
-  pub grown : (d : ℕ) → d < 2 * n → st .visited d ≡ true → getD ws (grownAt n + d) 0 ≡ cond (changed (doubled f) st d) 1 0
-  pub entered-row : EmptyEntered ws n
+  pub visited : (d : ℕ) → d < 2 * n → has ws (visitedAt n) d ≡ cond (st .visited d) 1 0
+  pub masks : (d a : ℕ) → d < 2 * n → a < 64 * w → masksAt ws n w d a ≡ masksBelow (f .arrays) (pulled (doubled f) st d) a
+  pub grown : (d : ℕ) → d < 2 * n → st .visited d ≡ true → has ws (grownAt n) d ≡ cond (changed (doubled f) st d) 1 0
 
 -- a state that the rule comes to, with its work area
-pub record Underway (f : Flow) (ws : List ℕ) (n : ℕ) (queue : Queue) : Type 0 where
+pub record Underway (f : Flow) (ws : List ℕ) (n w : ℕ) (queue : Queue) : Type 0 where
   pub count : ℕ
   pub state : Solver
   pub course : Course (doubled f) count state
-  pub solving : Solving f ws n queue state
+  pub solving : Solving f ws n w queue state
 
 -- the front of the queue is visited
-pub record VisitsFront (f : Flow) (ws vs : List ℕ) (n : ℕ) (queue r : Queue) (u : Underway f ws n queue) : Type 0 where
+pub record VisitsFront (f : Flow) (ws vs : List ℕ) (n w : ℕ) (queue r : Queue) (u : Underway f ws n w queue) : Type 0 where
   pub front : ℕ
   pub behind : List ℕ
   pub waiting : u .state .waiting ≡ front ∷ behind
-  pub solving : Solving f vs n r (visit (doubled f) (u .state) front behind)
+  pub solving : Solving f vs n w r (visit (doubled f) (u .state) front behind)
 
 -- the words from the queue on are zero
-abbrev pub Unused : List ℕ → ℕ → Type 0
-Unused ws n = (x : ℕ) → queueAt n ≤ x → x < areaEnd n → getD ws x 0 ≡ 0
+abbrev pub Unused : List ℕ → ℕ → ℕ → Type 0
+Unused ws n w = (x : ℕ) → queueAt n ≤ x → x < areaEnd n w → getD ws x 0 ≡ 0
 
 -- from an area that is zero from the queue on: the queue rule's course is over after so many visits, and every number has the masks that it leaves
-pub record RuleResult (f : Flow) (ws vs : List ℕ) (n visits : ℕ) : Type 0 where
+pub record RuleResult (f : Flow) (ws vs : List ℕ) (n w visits : ℕ) : Type 0 where
   pub left : Solver
   pub over : Over (doubled f) visits left
-  pub masks : (d a : ℕ) → d < 2 * n → a < f .arrays → masksAt vs n d a ≡ left .masks d a
-  pub keeps : Keeps (queueAt n) (areaEnd n) ws vs
+  pub masks : (d a : ℕ) → d < 2 * n → a < f .arrays → masksAt vs n w d a ≡ left .masks d a
+  pub keeps : Keeps (queueAt n) (areaEnd n w) ws vs

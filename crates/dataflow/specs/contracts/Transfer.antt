@@ -1,12 +1,60 @@
 -- "At a statement, a reference turns NONE into AUTO and keeps other states; then DIM with flag 1 makes its array's mask DIMMED, CLR and RUN make all masks NONE":
--- what the masks of a row become, array by array. Assumes nothing.
-use Prim.Native.Nat.{ℕ}
-use mathlib.Core.Bool.{cond}
+-- what the masks of a row become, array by array, and the sets of arrays by which a row steps. Assumes nothing.
+use Prim.Native.Nat.{ℕ, _+_, _*_, _<_, _≤_, max}
+use mathlib.Core.Bool.{Bool, true, false, cond}
 use mathlib.Core.List.{List}
+use mathlib.Core.Logic.{_⊎_}
+use mathlib.Core.Path.{_≡_}
 use lib.Dec.{ltb}
+use lib.ListN.{length, getD}
+use Rattle.words.specs.contracts.Row.{has}
 use Rattle.masks.specs.declared.Effect.{Effect}
+use Rattle.flow.specs.Flow.{Flow}
+use Rattle.theory.specs.Doubled.{statementEffects}
 use Rattle.theory.specs.Queue.{stepAll}
+use Rattle.statements.specs.contracts.Ready.{Keeps}
+use Rattle.calls.specs.declared.edges.EdgeClass.{EdgeClass}
+use Rattle.calls.specs.declared.edges.EdgeClass.the-variants as C
+use Rattle.solve.specs.contracts.Layout.{setRow, outRow, maskRowAt}
+use Rattle.solve.specs.contracts.Rows.{maskAt, stepWhere}
+use Rattle.solve.specs.contracts.Pushed.{masksAt}
 
--- each array below the count takes its effects, one after the other; the bytes from there on stay
+-- vs is ws with the arrays that pass the test as the set at word `set`, of w words
+pub record SetIs (ws vs : List ℕ) (set w : ℕ) (p : ℕ → Bool) : Type 0 where
+  pub keeps : Keeps set (set + w) ws vs
+  pub member : (a : ℕ) → a < 64 * w → has vs set a ≡ cond (p a) 1 0
+
+-- with those in it besides
+pub record SetGains (ws vs : List ℕ) (set w : ℕ) (p : ℕ → Bool) : Type 0 where
+  pub keeps : Keeps set (set + w) ws vs
+  pub member : (a : ℕ) → a < 64 * w → has vs set a ≡ max (has ws set a) (cond (p a) 1 0)
+
+-- the set stands below both rows, and these lie apart within the slice
+pub record RowsApart (ws : List ℕ) (w set to from : ℕ) : Type 0 where
+  pub below-to : set + w ≤ to
+  pub below-from : set + w ≤ from
+  pub to-fits : to + 3 * w ≤ length ws
+  pub from-fits : from + 3 * w ≤ length ws
+  pub apart : (to + 3 * w ≤ from) ⊎ (from + 3 * w ≤ to)
+
+-- the row at `to` is the row at `from` of which the arrays that pass the test take the effect. Besides it only the set is written
+pub record RowSteps (ws vs : List ℕ) (w set to from : ℕ) (p : ℕ → Bool) (e : Effect) : Type 0 where
+  pub size : length vs ≡ length ws
+  pub masks : (a : ℕ) → a < 64 * w → maskAt vs w to a ≡ stepWhere p e (maskAt ws w from) a
+  pub elsewhere : (x : ℕ) → (set ≤ x → x < set + w → ⊥) → (to ≤ x → x < to + 3 * w → ⊥) → getD vs x 0 ≡ getD ws x 0
+
+-- each array below the count takes its effects, one after the other; the masks from there on stay
 unfoldable pub acted : ℕ → (ℕ → List Effect) → (ℕ → ℕ) → ℕ → ℕ
 acted count effects m a = cond (ltb a count) (stepAll (effects a) (m a)) (m a)
+
+-- the act of statement i on the masks of d is in the row for its edges
+pub record Acted (f : Flow) (ws vs : List ℕ) (n w d i : ℕ) : Type 0 where
+  pub keeps : Keeps (setRow n) (maskRowAt n w 0) ws vs
+  pub masks : (a : ℕ) → a < 64 * w → maskAt vs w (outRow n w) a ≡ acted (f .arrays) (statementEffects f i) (masksAt ws n w d) a
+
+-- the edges are those of a call that is not opaque
+abbrev pub isCall : EdgeClass → Bool
+isCall (C.Listed m) = false
+isCall (C.Return row) = false
+isCall C.Nowhere = false
+isCall (C.Call x) = true

@@ -1,5 +1,5 @@
 -- What the live sets are found from, and what they are: the words of the definitions, with every other word of the two areas as it was.
--- The matrix and the queue are zero before; the words outside them are kept.
+-- Of the work area only the words of the worklist are written.
 use Prim.Native.Nat.{ℕ, _<_, _≤_}
 use mathlib.Core.List.{List}
 use mathlib.Core.Path.{_≡_}
@@ -13,18 +13,17 @@ use Rattle.solve.specs.contracts.Layout.{visitedAt}
 use Rattle.live.specs.contracts.Predecessors.{Predecessors}
 use Rattle.live.specs.contracts.Solving.{Held}
 
--- the areas have room for n words, and the matrix and the queue are zero
+-- the areas have room for n words
 pub record LiveStart (s ws ins outs : List ℕ) (n : ℕ) : Type 0 where
   pub ready : Ready s ws n
   pub some : 0 < n
   pub in-room : n ≤ length ins
   pub out-room : n ≤ length outs
-  pub zero : (x : ℕ) → matrixAt n ≤ x → x < visitedAt n → getD ws x 0 ≡ 0
 
--- no name is live yet, and every statement waits
-pub record AllWaiting (f : Flow) (n : ℕ) (ws vs ins ins′ outs outs′ : List ℕ) (q : Queue) : Type 0 where
+-- the predecessors are noted, and the statements that have not handed their live-in on wait
+pub record Begun (f : Flow) (n : ℕ) (ws vs ins ins′ outs outs′ : List ℕ) (q : Queue) : Type 0 where
   pub predecessors : Predecessors f vs n
-  pub held : Held f n vs ins′ outs′ q
+  pub held : Held f 0 n vs ins′ outs′ q
   pub kept : Keeps (matrixAt n) (visitedAt n) ws vs
   pub in-area : Keeps 0 n ins ins′
   pub out-area : Keeps 0 n outs outs′

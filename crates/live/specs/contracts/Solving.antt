@@ -1,6 +1,6 @@
 -- What holds of the live sets while statements wait: every name in a set is live, and a statement that does not wait satisfies document 01's equation and has
--- handed its live-in on to its predecessors.
-use Prim.Native.Nat.{ℕ, _+_, _<_}
+-- handed its live-in on to its predecessors. A sweep that has come down to statement lo says so of the statements from lo on, and the worklist of all.
+use Prim.Native.Nat.{ℕ, _+_, _<_, _≤_}
 use mathlib.Core.List.{List}
 use mathlib.Core.Logic.{_⊎_}
 use mathlib.Core.Path.{_≡_}
@@ -21,23 +21,27 @@ use Rattle.live.specs.contracts.Spread.{missing}
 abbrev pub transfer : Flow → ℕ → ℕ → ℕ
 transfer f j after = bitOr (statement f j .read) (without after (statement f j .written))
 
-pub record HandedOn (f : Flow) (n : ℕ) (ins outs : List ℕ) (j : ℕ) : Type 0 where
-  pub equation : getD ins j 0 ≡ transfer f j (getD outs j 0)
-  pub carried : (i x : ℕ) → i < n → In j (successors f i) → bit (getD ins j 0) x ≡ 1 → bit (getD outs i 0) x ≡ 1
+-- the names in the live-in words are live
+abbrev pub Sound : Flow → ℕ → List ℕ → Type 0
+Sound f n ins = (i x : ℕ) → i < n → bit (getD ins i 0) x ≡ 1 → LiveIn f x i
 
-pub record Solving (f : Flow) (n : ℕ) (ins outs w : List ℕ) : Type 0 where
+pub record HandedOn (f : Flow) (lo n : ℕ) (ins outs : List ℕ) (j : ℕ) : Type 0 where
+  pub equation : lo ≤ j → getD ins j 0 ≡ transfer f j (getD outs j 0)
+  pub carried : (i x : ℕ) → lo ≤ i → i < n → In j (successors f i) → bit (getD ins j 0) x ≡ 1 → bit (getD outs i 0) x ≡ 1
+
+pub record Solving (f : Flow) (lo n : ℕ) (ins outs w : List ℕ) : Type 0 where
   pub small : (k : ℕ) → In k w → k < n
-  pub sound-in : (i x : ℕ) → i < n → bit (getD ins i 0) x ≡ 1 → LiveIn f x i
-  pub sound-out : (i x : ℕ) → i < n → bit (getD outs i 0) x ≡ 1 → LiveOut f x i
-  pub handed-on : (j : ℕ) → j < n → In j w ⊎ HandedOn f n ins outs j
+  pub sound-in : Sound f n ins
+  pub sound-out : (i x : ℕ) → lo ≤ i → i < n → bit (getD outs i 0) x ≡ 1 → LiveOut f x i
+  pub handed-on : (j : ℕ) → j < n → In j w ⊎ HandedOn f lo n ins outs j
 
 -- the queue holds numbers for which all this holds
-abbrev pub Held : Flow → ℕ → List ℕ → List ℕ → List ℕ → Queue → Type 0
-Held f n ws ins outs q = (w : List ℕ) × Waits ws n q w × Solving f n ins outs w
+abbrev pub Held : Flow → ℕ → ℕ → List ℕ → List ℕ → List ℕ → Queue → Type 0
+Held f lo n ws ins outs q = (w : List ℕ) × Waits ws n q w × Solving f lo n ins outs w
 
 -- one statement is taken and handled
 pub record Visited (f : Flow) (n : ℕ) (ws vs ins ins′ outs outs′ : List ℕ) (q r : Queue) : Type 0 where
-  pub held : Held f n vs ins′ outs′ r
+  pub held : Held f 0 n vs ins′ outs′ r
   pub falls : r .len + missing outs′ n < q .len + missing outs n
   pub kept : KeepsRest n ws vs
   pub in-area : Keeps 0 n ins ins′

@@ -1,32 +1,41 @@
--- The words of the solver in the work area: for each doubled number whether it waits, was visited and has grown, and its row of masks; then two rows
--- for the edges of the statement at hand.
-use Prim.Native.Nat.{ℕ, _+_, _*_}
+-- The words of the solver in the work area of a flow of n statements whose sets of arrays have w words: the sets of the doubled numbers that wait, that were visited and whose masks have
+-- grown; a set of arrays and two rows of masks for the statement at hand; then a row of masks for each doubled number. A row of masks is three sets of arrays.
+use Prim.Native.Nat.{ℕ, _+_, _*_, _/_}
 use Rattle.statements.specs.contracts.Layout.{solverAt}
 
-abbrev pub maskWords : ℕ
-maskWords = 8
+-- words of a set of doubled numbers
+abbrev pub nodeWords : ℕ → ℕ
+nodeWords n = (2 * n + 63) / 64
 
 abbrev pub waitingAt : ℕ → ℕ
 waitingAt n = solverAt n
 
 abbrev pub visitedAt : ℕ → ℕ
-visitedAt n = solverAt n + 2 * n
+visitedAt n = solverAt n + nodeWords n
 
 abbrev pub grownAt : ℕ → ℕ
-grownAt n = solverAt n + 4 * n
+grownAt n = solverAt n + 2 * nodeWords n
 
--- where the first k rows of masks end
-abbrev pub maskRowsEnd : ℕ → ℕ → ℕ
-maskRowsEnd n k = solverAt n + 6 * n + maskWords * k
+-- the arrays that take an effect
+abbrev pub setRow : ℕ → ℕ
+setRow n = solverAt n + 3 * nodeWords n
 
--- the row of the doubled number d stands behind the d rows before it
-abbrev pub maskRowAt : ℕ → ℕ → ℕ
-maskRowAt n d = maskRowsEnd n d
+-- what goes along the edges of the statement at hand, and along the edge to base + continuation
 
--- the rows for the edges of the statement at hand stand behind all of them: what goes along its edges, and along the edge to base + continuation
+abbrev pub outRow : ℕ → ℕ → ℕ
+outRow n w = setRow n + w
 
-abbrev pub outRow : ℕ → ℕ
-outRow n = maskRowsEnd n (2 * n)
+abbrev pub backRow : ℕ → ℕ → ℕ
+backRow n w = outRow n w + 3 * w
 
-abbrev pub backRow : ℕ → ℕ
-backRow n = outRow n + maskWords
+-- where the first k rows of the doubled numbers end
+abbrev pub maskRowsEnd : ℕ → ℕ → ℕ → ℕ
+maskRowsEnd n w k = backRow n w + 3 * w + 3 * (w * k)
+
+-- the row of the doubled number d stands behind the d rows before it. The laws of rows are in proofs/Room
+abbrev pub maskRowAt : ℕ → ℕ → ℕ → ℕ
+maskRowAt n w d = maskRowsEnd n w d
+
+-- the words that are used
+abbrev pub areaEnd : ℕ → ℕ → ℕ
+areaEnd n w = maskRowsEnd n w (2 * n)

@@ -1,4 +1,4 @@
--- The queue of waiting numbers: a ring of words in the work area that holds the list of those that wait, and a word for each number that says whether it does.
+-- The queue of waiting numbers: a ring of words in the work area that holds the list of those that wait, and the set of them.
 -- What joining the back and taking the front make of every list that the ring holds, and which words they write.
 use Prim.Native.Nat.{ℕ, _+_, _*_, _-_, _<_, _≤_}
 use mathlib.Core.Bool.{cond}
@@ -6,6 +6,7 @@ use mathlib.Core.List.{List, _∷_}
 use mathlib.Core.Path.{_≡_}
 use lib.Dec.{ltb}
 use lib.ListN.{length, getD}
+use Rattle.words.specs.contracts.Row.{has}
 use Rattle.theory.specs.Lists.{In, elem, Distinct}
 use Rattle.theory.specs.Queue.{join}
 use Rattle.statements.specs.contracts.Layout.{queueAt, enteredRowAt}
@@ -21,11 +22,11 @@ pub record Waits (ws : List ℕ) (n : ℕ) (queue : Queue) (w : List ℕ) : Type
   pub count : queue .len ≡ length w
   pub front : queue .head < 2 * n
   pub slot : (k : ℕ) → k < length w → getD ws (queueAt n + wrapped (2 * n) (queue .head + k)) 0 ≡ getD w k 0
-  pub flag : (d : ℕ) → d < 2 * n → getD ws (waitingAt n + d) 0 ≡ cond (elem d w) 1 0
+  pub flag : (d : ℕ) → d < 2 * n → has ws (waitingAt n) d ≡ cond (elem d w) 1 0
   pub below : (d : ℕ) → In d w → d < 2 * n
   pub distinct : Distinct w
 
--- only the ring and the words that say what waits are written
+-- only the ring and the set of what waits are written
 pub record KeepsRest (n : ℕ) (ws vs : List ℕ) : Type 0 where
   pub size : length vs ≡ length ws
   pub below : (x : ℕ) → x < queueAt n → getD vs x 0 ≡ getD ws x 0

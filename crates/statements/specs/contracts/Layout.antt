@@ -2,6 +2,7 @@
 -- solver, whose layout is crate solve's. The matrix has n rows of `rowWords n` words; all fits into 64 × n words. Each phase writes one run of words, so that
 -- what it keeps is an interval.
 use Prim.Native.Nat.{ℕ, _+_, _*_, _/_}
+use Rattle.flow.specs.Limits.{maxArrays}
 
 abbrev pub offsetsAt : ℕ → ℕ
 offsetsAt n = 0
@@ -40,13 +41,13 @@ queueAt n = rowsEnd n n
 abbrev pub enteredRowAt : ℕ → ℕ
 enteredRowAt n = queueAt n + 2 * n
 
--- where the solver's words begin, and how many there are
+-- where the solver's words begin
 abbrev pub solverAt : ℕ → ℕ
 solverAt n = queueAt n + 3 * n
 
-abbrev pub solverWords : ℕ → ℕ
-solverWords n = 22 * n + 16
+-- words of a set of arrays, and the most that there may be
+abbrev pub setWords : ℕ → ℕ
+setWords arrays = (arrays + 63) / 64
 
--- the words that are used
-abbrev pub areaEnd : ℕ → ℕ
-areaEnd n = solverAt n + solverWords n
+abbrev pub maxWidth : ℕ
+maxWidth = setWords maxArrays

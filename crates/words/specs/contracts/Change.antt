@@ -2,13 +2,13 @@
 -- A change of a row writes its words one after the other, the lowest first. Assumes nothing.
 use Prim.Native.Nat.{ℕ, zero, suc, _+_, _-_, _/_, _%_, _^_, _<_}
 use mathlib.Core.Path.{_≡_}
-use mathlib.Core.Bool.{Bool, false, _||_, not}
+use mathlib.Core.Bool.{Bool, false, cond, _||_, not}
 use mathlib.Core.List.{List}
 use mathlib.Core.Logic.{_≢_}
 use lib.Bits.{bitAnd, bitOr}
 use lib.Dec.{eqb}
 use lib.ListN.{getD, set}
-use Rattle.words.specs.contracts.Row.{has}
+use Rattle.words.specs.contracts.Row.{bit, has}
 
 -- the word at `at` joined with bits
 unfoldable pub joined : List ℕ → ℕ → ℕ → List ℕ
@@ -26,6 +26,14 @@ inserted ws base i = joined ws (base + i / 64) (2 ^ (i % 64))
 pub record Inserted (ws vs : List ℕ) (base i : ℕ) (r : Bool) : Type 0 where
   pub slice : vs ≡ inserted ws base i
   pub fresh : r ≡ eqb (has ws base i) 0
+
+-- the bits of a that are not in b, both words
+unfoldable pub without : ℕ → ℕ → ℕ
+without a b = bitAnd a (2 ^ 64 - 1 - b)
+
+-- i is no member any more
+unfoldable pub removed : List ℕ → ℕ → ℕ → List ℕ
+removed ws base i = set ws (base + i / 64) (without (getD ws (base + i / 64) 0) (2 ^ (i % 64)))
 
 -- word base + k becomes f of the slice so far and k, for each k below the width in turn
 unfoldable pub rewritten : (List ℕ → ℕ → ℕ) → List ℕ → ℕ → ℕ → List ℕ
@@ -52,9 +60,9 @@ pub record Unioned (ws vs : List ℕ) (to from width : ℕ) (r : Bool) : Type 0 
 unfoldable pub zeroed : List ℕ → ℕ → ℕ → List ℕ
 zeroed ws base width = rewritten (λ vs k. 0) ws base width
 
--- the bits of a that are not in b, both words
-unfoldable pub without : ℕ → ℕ → ℕ
-without a b = bitAnd a (2 ^ 64 - 1 - b)
+-- the bits of the word r are those of b where the set has them, and else those of a
+pub record Chosen (chosen b a r : ℕ) : Type 0 where
+  pub member : (j : ℕ) → bit r j ≡ cond (eqb (bit chosen j) 1) (bit b j) (bit a j)
 
 -- ws with f 0, f 1, .. of k elements at base, base + 1, ..
 unfoldable pub noted : List ℕ → ℕ → ℕ → (ℕ → ℕ) → List ℕ

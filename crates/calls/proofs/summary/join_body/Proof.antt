@@ -1,7 +1,7 @@
 -- `calls::summary::join_body` meets its contract: the word of the call is joined with that of the body.
 -- By what joining a word ensures.
 use borrow.Author.Needs.{needs}
-use Prim.Native.Nat.{ℕ, _+_}
+use Prim.Native.Nat.{ℕ, _+_, _*_}
 use mathlib.Core.Bool.{not}
 use mathlib.Core.Path.{ap, ap₂, _∙_}
 use denote.Ref.{now}
@@ -11,6 +11,9 @@ use Rattle.words.specs.contracts.Change.{joined}
 use Rattle.calls.specs.contracts.Held.{transparent}
 use Rattle.calls.proofs.summary.join_body.Statement.{statement}
 use Rattle.calls.proofs.summary.join_body.Tie as tie
+
+statement-count-requires : tie.Need-statement-count-requires
+statement-count-requires c κs = search needs
 
 bodies-requires : tie.Need-bodies-requires
 bodies-requires c κs = search needs
@@ -50,18 +53,21 @@ same-length c = search needs
 
 returns : tie.Need-returns
 returns c =
-    let a = c .before .before .before .before .before .before .before .before .before .before .before .before .before .args in
+    let read = c .before .before .before .before .before .before .before .before .before .before .before .before in
+    let a = read .before .before .before .args in
     let ws = now (a .work) in
+    let e = read .statement-count .ensures .0 in
     record {
       slice = c .before .before .union-word .ensures .slice
-          ∙ ap₂ (λ (x y : ℕ). joined ws (x + a .c .0) (getD ws (y + a .b .0) 0)) (c .before .before .before .before .call-touched .ensures) (c .before .before .before .before .before .before .before .before .touched .ensures);
-      state = ap (λ (x : ℕ). not (eqb (getD ws (x + a .b .0) 0) transparent)) (c .before .before .before .before .before .before .before .before .before .before .before .bodies .ensures);
+          ∙ ap₂ (λ (x y : ℕ). joined ws (x + a .c .0) (getD ws (y + a .b .0) 0)) (c .before .before .before .before .call-touched .ensures ∙ ap (_*_ 2) e) (c .before .before .before .before .before .before .before .before .touched .ensures ∙ ap (_*_ 4) e);
+      state = ap (λ (x : ℕ). not (eqb (getD ws (x + a .b .0) 0) transparent)) (c .before .before .before .before .before .before .before .before .before .before .before .bodies .ensures ∙ ap (_*_ 3) e);
     }
 
 pub join-body-spec : {M : Type 1} → statement M
 join-body-spec =
     tie.close
     (tie.spec
+    statement-count-requires
     bodies-requires
     add-opaque-body
     mul-opaque-body

@@ -9,6 +9,7 @@ use lib.Seq.{take-all}
 use Rattle.flow.specs.Format.{flowOf}
 use Rattle.theory.specs.Body.{successors}
 use Rattle.calls.specs.contracts.Walking.{Met}
+use Rattle.statements.proofs.Keeps.{ready-below}
 use Rattle.calls.proofs.Checked.{successor-below}
 use Rattle.calls.proofs.Walking.{met-none, met-more, met-stack, met-ready}
 use Rattle.calls.proofs.walk.meet_successors.Statement.{statement}
@@ -38,7 +39,7 @@ module _ (c : tie.In-loop Inv-loop μ-loop) where
   inside = omega (arith, c .loop-test .taken, c .before .before .successor-count .ensures)
 
   is-statement : getD list (c .before .loop .k) 0 < start .args .n
-  is-statement = successor-below (start .pre .0) (start .args .i .0) (c .before .loop .k) inside
+  is-statement = ready-below (start .pre .0) (successor-below (start .pre .0 .fit) (start .args .i .0) (c .before .loop .k) inside)
 
 successor-requires : tie.Need-successor-requires Inv-loop μ-loop
 successor-requires c κs =

@@ -1,6 +1,6 @@
 -- `dataflow::arrays::array_states` meets its contract. The invariant: the area is a state that the queue rule comes to, after so many visits.
 -- The measure is what is left of Term 1's bound.
-use Prim.Native.Nat.{ℕ, _-_, _<_, _≤_}
+use Prim.Native.Nat.{ℕ, _-_, _*_, _<_, _≤_}
 use mathlib.Core.List.{[]}
 use mathlib.Core.Path.{_≡_, sym, ap, subst, _∙_}
 use native.Mathlib.Nat.{zero-add}
@@ -11,36 +11,49 @@ use Rattle.flow.specs.Limits.{maxArrays}
 use Rattle.records.proofs.Files.{limited}
 use Rattle.theory.specs.Doubled.{doubled}
 use Rattle.theory.specs.Queue.{visitBound}
-use Rattle.statements.specs.contracts.Layout.{queueAt, areaEnd}
+use Rattle.statements.specs.contracts.Layout.{queueAt, setWords, maxWidth}
 use Rattle.statements.specs.contracts.Ready.{Keeps}
-use Rattle.statements.proofs.Keeps.{ready-most, ready-room, keeps-trans, ready-size}
+use Rattle.statements.proofs.Keeps.{ready-most, keeps-trans, ready-size}
 use Rattle.statements.proofs.WellFormed.{well-formed, arrays-is, entry-is}
+use lib.Dec.{ltb}
+use Rattle.masks.specs.declared.Effect.the-variants.{Reset}
+use Rattle.solve.specs.contracts.Layout.{setRow, outRow, maskRowAt, areaEnd}
+use Rattle.solve.proofs.Room.{row-from, solver-room}
+use Rattle.dataflow.specs.contracts.Transfer.{RowSteps}
+use Rattle.dataflow.specs.contracts.Solving.{Unused, RuleResult}
+use Rattle.dataflow.proofs.Sets.{steps-at, entry-apart}
 use Rattle.dataflow.proofs.Kept.{indexed-stays, linked-stays}
 use Rattle.dataflow.proofs.Few.{visits-few}
 use Rattle.dataflow.proofs.Running.{first-waits, starts, starts-keeps, Running, running-on, running-bound, running-ends}
+use borrow.Author.Needs.{needs}
 use Rattle.dataflow.proofs.arrays.array_states.Statement.{statement}
 use Rattle.dataflow.proofs.arrays.array_states.Tie as tie
-use Rattle.dataflow.proofs.arrays.array_states.Reads as reads
-use Rattle.dataflow.proofs.arrays.array_states.Lts as lts
 
 abbrev Inv-loop : tie.InvT-loop
-Inv-loop file h work₀ n queue₀ visits₀ work queue visits = Running (flowOf file) n work₀ work queue visits
+Inv-loop file h work₀ n width queue₀ visits₀ work queue visits = Running (flowOf file) n width work₀ work queue visits
 
 abbrev μ-loop : tie.MeasureT-loop
-μ-loop file h work₀ n queue₀ visits₀ work queue visits = visitBound (doubled (flowOf file)) - visits
+μ-loop file h work₀ n width queue₀ visits₀ work queue visits = visitBound (doubled (flowOf file)) - visits
 
 -- what the header says
 
 count : (c : tie.Start Inv-loop μ-loop) → c .args .h .arrays ≡ flowOf (now (c .args .file)) .arrays
 count c = ap (λ h. h .arrays) (c .pre .0 .header) ∙ sym (arrays-is (now (c .args .file)))
 
-few : (c : tie.Start Inv-loop μ-loop) → flowOf (now (c .args .file)) .arrays ≤ maxArrays
-few c = subst (λ (k : ℕ). k ≤ maxArrays) (sym (arrays-is (now (c .args .file)))) (limited (c .pre .0 .ready .fit) .arrays)
+limit : (c : tie.Start Inv-loop μ-loop) → c .args .h .arrays ≤ maxArrays
+limit c = let most = limited (c .pre .0 .ready .fit) .arrays in omega (arith, ap (λ h. h .arrays) (c .pre .0 .header))
+
+few : (c : tie.Start Inv-loop μ-loop) → flowOf (now (c .args .file)) .arrays ≤ 64 * setWords (c .args .h .arrays)
+few c = omega (arith, count c)
+
+-- the width is that of the flow
+narrow : (c : tie.After-set-words Inv-loop μ-loop) → c .set-words .result ≤ maxWidth
+narrow c = let most = limit (c .before .before .before) in omega (arith, c .set-words .ensures)
 
 -- the number where the flow is entered
-entry : (c : tie.After-node Inv-loop μ-loop) → c .node .result .0 ≡ flowOf (now (c .before .before .before .args .file)) .entry
+entry : (c : tie.After-node Inv-loop μ-loop) → c .node .result .0 ≡ flowOf (now (c .before .before .before .before .args .file)) .entry
 entry c =
-    let s = c .before .before .before in
+    let s = c .before .before .before .before in
     c .node .ensures ∙ zero-add (s .args .h .entry .0) ∙ ap (λ h. h .entry .0) (s .pre .0 .header) ∙ sym (entry-is (now (s .args .file)))
 
 -- the header's entry is a statement
@@ -50,83 +63,106 @@ within c =
     let h = well-formed (c .pre .0 .ready .fit) .entry (subst (λ (k : ℕ). 0 < k) (sym size) (c .pre .2)) in
     omega (arith, ap (λ h. h .entry .0) (c .pre .0 .header) ∙ sym (entry-is (now (c .args .file))))
 
-below : (c : tie.After-node Inv-loop μ-loop) → c .node .result .0 < c .before .before .before .args .h .statements
+below : (c : tie.After-node Inv-loop μ-loop) → c .node .result .0 < c .before .before .before .before .args .h .statements
 below c =
-    let s = c .before .before .before in
+    let s = c .before .before .before .before in
     omega (arith, within s, c .node .ensures ∙ zero-add (s .args .h .entry .0))
+
+set-words-requires : tie.Need-set-words-requires Inv-loop μ-loop
+set-words-requires c κs = limit (c .before .before)
 
 node-requires : tie.Need-node-requires Inv-loop μ-loop
 node-requires c κs =
-    let s = c .before .before in
+    let s = c .before .before .before in
     (ready-most (s .pre .0 .ready), within s)
 
-mask-row-requires : tie.Need-mask-row-requires Inv-loop μ-loop
-mask-row-requires c κs =
-    let s = c .before .before .before .before in
-    let m = c .before in
-    (ready-most (s .pre .0 .ready), omega (arith, below m))
+set-row-requires : tie.Need-set-row-requires Inv-loop μ-loop
+set-row-requires c κs = ready-most (c .before .before .before .before .before .pre .0 .ready)
 
-step-all-requires : tie.Need-step-all-requires Inv-loop μ-loop
-step-all-requires c κs =
-    let s = c .before .before .before .before .before in
-    let m = c .before .before in
-    let room = ready-room (s .pre .0 .ready) (s .pre .2) in
-    let row = c .mask-row .ensures in
-    (omega (arith, below m), omega (arith, few s, count s))
+mask-row-requires : tie.Need-mask-row-requires Inv-loop μ-loop
+mask-row-requires c κs = (ready-most (c .before .before .before .before .before .before .pre .0 .ready), narrow (c .before .before .before), omega (arith, below (c .before .before)))
+
+out-row-requires : tie.Need-out-row-requires Inv-loop μ-loop
+out-row-requires c κs = (ready-most (c .before .before .before .before .before .before .before .pre .0 .ready), narrow (c .before .before .before .before))
+
+reset-row-requires : tie.Need-reset-row-requires Inv-loop μ-loop
+reset-row-requires c κs =
+    let s = c .before .before .before .before .before .before .before .before in (
+      limit s,
+      narrow (c .before .before .before .before .before),
+      entry-apart (now (s .args .work)) (s .args .h .statements) (c .before .before .before .before .before .set-words .result) (c .before .before .before .before .node .result .0)
+          (solver-room (s .pre .0 .ready) (s .pre .2) (narrow (c .before .before .before .before .before))) (omega (arith, below (c .before .before .before .before))) (c .before .before .set-row .ensures) (c .before .mask-row .ensures) (c .out-row .ensures),
+    )
+
+-- the row of the entry, by the places that were found
+entered : (c : tie.After-reset-row Inv-loop μ-loop) → let a = c .before .before .before .before .before .before .before .before .before .args in
+    RowSteps (now (a .work)) (c .reset-row .last .0) (c .before .before .before .before .before .before .set-words .result) (setRow (a .h .statements)) (maskRowAt (a .h .statements) (c .before .before .before .before .before .before .set-words .result) (c .before .before .before .before .before .node .result .0))
+    (outRow (a .h .statements) (c .before .before .before .before .before .before .set-words .result)) (λ b. ltb b (a .h .arrays)) Reset
+entered c = steps-at (c .before .before .before .set-row .ensures) (c .before .before .mask-row .ensures) (c .before .out-row .ensures) (c .reset-row .ensures)
+
+-- the solver's words are zero, as wide as they are found to be
+unused : (c : tie.After-set-words Inv-loop μ-loop) → Unused (now (c .before .before .before .args .work)) (c .before .before .before .args .h .statements) (c .set-words .result)
+unused c = let s = c .before .before .before in subst (Unused (now (s .args .work)) (s .args .h .statements)) (sym (c .set-words .ensures)) (s .pre .3)
 
 enqueue-requires : tie.Need-enqueue-requires Inv-loop μ-loop
 enqueue-requires c κs =
-    let s = c .before .before .before .before .before .before .before .before .before in
-    let m = c .before .before .before .before .before .before in
-    let room = ready-room (s .pre .0 .ready) (s .pre .2) in
-    let size = c .before .before .before .step-all .ensures .keeps .size in (
+    let s = c .before .before .before .before .before .before .before .before .before .before .before .before in
+    let m = c .before .before .before .before .before .before .before .before in
+    let n : ℕ = s .args .h .statements in
+    let room = solver-room (s .pre .0 .ready) (s .pre .2) (narrow (c .before .before .before .before .before .before .before .before .before)) in
+    let low = row-from n (c .before .before .before .before .before .before .before .before .before .set-words .result) (2 * n) in
+    let size = c .before .before .before .reset-row .ensures .size in (
       ready-most (s .pre .0 .ready),
       omega arith,
       omega (arith, below m),
       (
         [],
-        first-waits (flowOf (now (s .args .file))) (s .args .h .statements) _ _ (m .node .result .0) (s .args .h .arrays) _ (ready-size (s .pre .0 .ready)) (s .pre .2) (s .pre .3)
-            (entry m) (below m) (count s) (c .before .before .before .before .mask-row .ensures) (c .before .before .before .step-all .ensures),
+        first-waits (flowOf (now (s .args .file))) n (c .before .before .before .before .before .before .before .before .before .set-words .result) _ _ (m .node .result .0) (s .args .h .arrays) (ready-size (s .pre .0 .ready)) (s .pre .2) (unused (c .before .before .before .before .before .before .before .before .before))
+            (entry m) (below m) (count s) (entered (c .before .before .before)),
       ),
     )
 
 -- the area where the visits begin
 
-begins : (c : tie.After-enqueue Inv-loop μ-loop) → let a = c .before .before .before .before .before .before .before .before .before .before .args in Running (flowOf (now (a .file))) (a .h .statements) (c .enqueue .last .0) (c .enqueue .last .0) (c .enqueue .result) 0
+begins : (c : tie.After-enqueue Inv-loop μ-loop) → let a = c .before .before .before .before .before .before .before .before .before .before .before .before .before .args in Running (flowOf (now (a .file))) (a .h .statements) (c .before .before .before .before .before .before .before .before .before .before .set-words .result) (c .enqueue .last .0) (c .enqueue .last .0) (c .enqueue .result) 0
 begins c =
-    let s = c .before .before .before .before .before .before .before .before .before .before in
-    let m = c .before .before .before .before .before .before .before in
-    starts (flowOf (now (s .args .file))) (s .args .h .statements) _ _ (m .node .result .0) (s .args .h .arrays) _ (ready-size (s .pre .0 .ready)) (s .pre .2) (s .pre .3)
-    (entry m) (below m) (count s) (c .before .before .before .before .before .mask-row .ensures) (c .before .before .before .before .step-all .ensures) _ _ (c .enqueue .ensures)
+    let s = c .before .before .before .before .before .before .before .before .before .before .before .before .before in
+    let m = c .before .before .before .before .before .before .before .before .before in
+    starts (flowOf (now (s .args .file))) (s .args .h .statements) (c .before .before .before .before .before .before .before .before .before .before .set-words .result) _ _ (m .node .result .0) (s .args .h .arrays) (ready-size (s .pre .0 .ready)) (s .pre .2) (unused (c .before .before .before .before .before .before .before .before .before .before))
+    (entry m) (below m) (count s) (entered (c .before .before .before .before)) _ _ (c .enqueue .ensures)
 
-beside : (c : tie.After-enqueue Inv-loop μ-loop) → let a = c .before .before .before .before .before .before .before .before .before .before .args in Keeps (queueAt (a .h .statements)) (areaEnd (a .h .statements)) (now (a .work)) (c .enqueue .last .0)
+beside : (c : tie.After-enqueue Inv-loop μ-loop) → let a = c .before .before .before .before .before .before .before .before .before .before .before .before .before .args in Keeps (queueAt (a .h .statements)) (areaEnd (a .h .statements) (c .before .before .before .before .before .before .before .before .before .before .set-words .result)) (now (a .work)) (c .enqueue .last .0)
 beside c =
-    let s = c .before .before .before .before .before .before .before .before .before .before in
-    let m = c .before .before .before .before .before .before .before in
-    starts-keeps (flowOf (now (s .args .file))) (s .args .h .statements) _ _ (m .node .result .0) (s .args .h .arrays) _ (ready-size (s .pre .0 .ready)) (s .pre .2) (s .pre .3)
-    (entry m) (below m) (count s) (c .before .before .before .before .before .mask-row .ensures) (c .before .before .before .before .step-all .ensures) _ _ (c .enqueue .ensures)
+    let s = c .before .before .before .before .before .before .before .before .before .before .before .before .before in
+    let m = c .before .before .before .before .before .before .before .before .before in
+    starts-keeps (flowOf (now (s .args .file))) (s .args .h .statements) (c .before .before .before .before .before .before .before .before .before .before .set-words .result) _ _ (m .node .result .0) (s .args .h .arrays) (ready-size (s .pre .0 .ready)) (s .pre .2) (unused (c .before .before .before .before .before .before .before .before .before .before))
+    (entry m) (below m) (count s) (entered (c .before .before .before .before)) _ _ (c .enqueue .ensures)
 
 loop-holds : tie.Need-loop-holds Inv-loop μ-loop
 loop-holds c = begins (c .before .before)
 
 visit-requires : tie.Need-visit-requires Inv-loop μ-loop
 visit-requires c κs =
-    let s = c .before .before .before .before .before .before .before .before .before .before .before .before .before .before .before .before in
+    let s = c .before .before .before .before .before .before .before .before .before .before .before .before .before .before .before .before .before .before .before in
     let x = c .before .before .before .loop .inv in
     let keeps = keeps-trans (beside (c .before .before .before .before .before .before)) (x .keeps) in
-    (indexed-stays keeps (s .pre .0), linked-stays keeps (s .pre .1), s .pre .2, c .before .if1 .taken, x .underway)
+    (c .before .before .before .before .before .before .before .before .before .before .before .before .before .before .before .before .set-words .ensures, indexed-stays keeps (s .pre .0), linked-stays keeps (s .pre .1), s .pre .2, c .before .if1 .taken, x .underway)
 
-bound : (c : tie.Then1 Inv-loop μ-loop) → c .before .before .loop .visits < visitBound (doubled (flowOf (now (c .before .before .before .before .before .before .before .before .before .before .before .before .before .before .before .args .file))))
+-- every array of the flow has its place in a set of that width
+wide : (c : tie.After-set-words Inv-loop μ-loop) → flowOf (now (c .before .before .before .args .file)) .arrays ≤ 64 * c .set-words .result
+wide c = let all = few (c .before .before .before) in omega (arith, c .set-words .ensures)
+
+bound : (c : tie.Then1 Inv-loop μ-loop) → c .before .before .loop .visits < visitBound (doubled (flowOf (now (c .before .before .before .before .before .before .before .before .before .before .before .before .before .before .before .before .before .before .args .file))))
 bound c =
-    let s = c .before .before .before .before .before .before .before .before .before .before .before .before .before .before .before in
-    let h = running-bound (well-formed (s .pre .0 .ready .fit)) (ready-size (s .pre .0 .ready)) (s .pre .2) (few s) (c .before .before .loop .visits) (c .before .before .loop .inv) in
+    let s = c .before .before .before .before .before .before .before .before .before .before .before .before .before .before .before .before .before .before in
+    let h = running-bound (well-formed (s .pre .0 .ready .fit)) (ready-size (s .pre .0 .ready)) (s .pre .2) (wide (c .before .before .before .before .before .before .before .before .before .before .before .before .before .before .before)) (c .before .before .loop .visits) (c .before .before .loop .inv) in
     let some = c .if1 .taken in
     omega (arith, h, some)
 
 add-visits : tie.Need-add-visits Inv-loop μ-loop
 add-visits c =
     let h = bound (c .before .before .before .before) in
-    let k = visits-few (c .before .before .before .before .before .before .before .before .before .before .before .before .before .before .before .before .before .before .before .pre .0 .ready) in
+    let k = visits-few (c .before .before .before .before .before .before .before .before .before .before .before .before .before .before .before .before .before .before .before .before .before .before .pre .0 .ready) in
     omega (arith, h, k)
 
 loop-less : tie.Need-loop-less Inv-loop μ-loop
@@ -142,10 +178,11 @@ same-length c = c .before .before .loop .inv .keeps .size ∙ beside (c .before 
 
 returns : tie.Need-returns Inv-loop μ-loop
 returns c =
-    let s = c .before .before .before .before .before .before .before .before .before .before .before .before .before .before .before in
+    let s = c .before .before .before .before .before .before .before .before .before .before .before .before .before .before .before .before .before .before in
     let none = c .if1 .left in
-    let x = running-ends (well-formed (s .pre .0 .ready .fit)) (ready-size (s .pre .0 .ready)) (s .pre .2) (few s) (c .before .before .loop .visits) (c .before .before .loop .inv) (omega (arith, none)) in
-    record { left = x .left; over = x .over; masks = x .masks; keeps = keeps-trans (beside (c .before .before .before .before .before)) (x .keeps) }
+    let x = running-ends (well-formed (s .pre .0 .ready .fit)) (ready-size (s .pre .0 .ready)) (s .pre .2) (wide (c .before .before .before .before .before .before .before .before .before .before .before .before .before .before .before)) (c .before .before .loop .visits) (c .before .before .loop .inv) (omega (arith, none)) in
+    subst (λ (w : ℕ). RuleResult (flowOf (now (s .args .file))) (now (s .args .work)) (c .before .before .loop .work) (s .args .h .statements) w (c .before .before .loop .visits)) (c .before .before .before .before .before .before .before .before .before .before .before .before .before .before .before .set-words .ensures)
+    (record { left = x .left; over = x .over; masks = x .masks; keeps = keeps-trans (beside (c .before .before .before .before .before)) (x .keeps) })
 
 pub array-states-spec : {M : Type 1} → statement M
 array-states-spec =
@@ -153,9 +190,12 @@ array-states-spec =
     (tie.spec
     Inv-loop
     μ-loop
+    set-words-requires
     node-requires
+    set-row-requires
     mask-row-requires
-    step-all-requires
+    out-row-requires
+    reset-row-requires
     enqueue-requires
     loop-holds
     visit-requires

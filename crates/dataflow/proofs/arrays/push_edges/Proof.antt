@@ -1,52 +1,52 @@
--- `dataflow::arrays::push_edges` meets its contract. The invariant: what the edges from the cursor on have left to push, with what was pushed, is all.
--- The measure is the number of slots left.
-use Prim.Native.Nat.{_*_, _-_, _<_}
-use mathlib.Core.Path.{sym, _∙_}
+-- `dataflow::arrays::push_edges` meets its contract. The invariant: the edges before the cursor are pushed, and those from there on are left.
+-- The measure is the number of slots behind the cursor.
+use Prim.Native.Nat.{ℕ, _-_, _*_, _<_}
+use mathlib.Core.List.{List}
+use mathlib.Core.Path.{_≡_, sym, ap, _∙_}
 use native.Mathlib.Omega.{arith}
-use borrow.Author.Needs.{needs}
 use denote.Ref.{now}
 use lib.ListN.{length}
 use Rattle.flow.specs.Format.{flowOf}
-use Rattle.theory.specs.Doubled.{node}
-use Rattle.statements.proofs.Keeps.{ready-most, ready-room, ready-size}
+use Rattle.theory.specs.Doubled.{Node, at}
+use Rattle.statements.proofs.Keeps.{ready-most, ready-size}
 use Rattle.statements.proofs.WellFormed.{well-formed}
 use Rattle.calls.specs.contracts.Slots.{slots}
 use Rattle.calls.proofs.Cursor.{NextEdge, edge-to, edge-end}
-use Rattle.dataflow.proofs.Kept.{indexed-stays, linked-stays, entered-stays}
+use Rattle.solve.proofs.Room.{solver-room}
+use Rattle.dataflow.proofs.Kept.{indexed-stays, linked-stays}
 use Rattle.dataflow.proofs.Sending.{Sending, sending-none, sending-more, sending-all, target-below}
+use borrow.Author.Needs.{needs}
 use Rattle.dataflow.proofs.arrays.push_edges.Statement.{statement}
 use Rattle.dataflow.proofs.arrays.push_edges.Tie as tie
-use Rattle.dataflow.proofs.arrays.push_edges.Reads as reads
-use Rattle.dataflow.proofs.arrays.push_edges.Lts as lts
 
 abbrev Inv-loop : tie.InvT-loop
-Inv-loop file h work₀ d n queue₀ cursor₀ work queue cursor = Sending (flowOf file) work₀ n queue₀ (d .0) work queue cursor
+Inv-loop file h work₀ width es n queue₀ cursor₀ work queue cursor = Sending (flowOf file) work₀ n width queue₀ (at (es .base) (es .stmt .0)) work queue cursor
 
 abbrev μ-loop : tie.MeasureT-loop
-μ-loop file h work₀ d n queue₀ cursor₀ work queue cursor = length (slots (flowOf file) (node (flowOf file) (d .0))) - cursor
+μ-loop file h work₀ width es n queue₀ cursor₀ work queue cursor = length (slots (flowOf file) (at (es .base) (es .stmt .0))) - cursor
 
 loop-holds : tie.Need-loop-holds Inv-loop μ-loop
-loop-holds c = sending-none _ _ _ _ _
+loop-holds c = sending-none _ _ _ _ _ _
 
 edge-requires : tie.Need-edge-requires Inv-loop μ-loop
 edge-requires c κs =
     let s = c .before .before .before .before in
     let inv = c .before .loop .inv in
-    (indexed-stays (inv .keeps) (s .pre .0), linked-stays (inv .keeps) (s .pre .1), search needs, entered-stays _ _ _ (inv .entered-row) (s .pre .3))
+    (indexed-stays (inv .keeps) (s .pre .1), linked-stays (inv .keeps) (s .pre .2), s .pre .3)
 
 enum-known-t : tie.Need-enum-known-t Inv-loop μ-loop
 enum-known-t c = search needs
 
 -- the edge at hand, and that it goes to a number of the graph
 next-edge : (c : tie.After-t Inv-loop μ-loop) → let a = c .before .before .before .before .before .before .before .args in
-    NextEdge (flowOf (now (a .file))) (slots (flowOf (now (a .file))) (node (flowOf (now (a .file))) (a .d .0))) (c .before .before .before .before .loop .cursor)
+    NextEdge (flowOf (now (a .file))) (slots (flowOf (now (a .file))) (at (a .es .base) (a .es .stmt .0))) (c .before .before .before .before .loop .cursor)
     (c .t .given .0 .0) (c .t .given .0 .1 .0) (c .t .given .0 .1 .1 .0)
 next-edge c = edge-to (sym (c .before .before .edge .ensures) ∙ c .t .given .1)
 
 below : (c : tie.After-t Inv-loop μ-loop) → c .t .given .0 .0 .0 < 2 * c .before .before .before .before .before .before .before .args .h .statements
 below c =
     let s = c .before .before .before .before .before .before .before in
-    target-below (s .args .d .0) (well-formed (s .pre .0 .ready .fit)) (ready-size (s .pre .0 .ready)) (next-edge c)
+    target-below (at (s .args .es .base) (s .args .es .stmt .0)) (well-formed (s .pre .1 .ready .fit)) (ready-size (s .pre .1 .ready)) (next-edge c)
 
 push-edge-requires : tie.Need-push-edge-requires Inv-loop μ-loop
 push-edge-requires c κs =
@@ -54,9 +54,10 @@ push-edge-requires c κs =
     let inv = c .before .before .before .before .before .before .loop .inv in
     let some = s .pre .4 in
     let waits = inv .waits (some .0) (some .1) in
-    let room = ready-room (s .pre .0 .ready) (search needs) in
     let size = inv .keeps .size in
-    (ready-most (s .pre .0 .ready), omega arith, below (c .before .before), (waits .0, waits .1))
+    let t = below (c .before .before) in
+    let room = solver-room (s .pre .1 .ready) (omega arith) (s .pre .0) in
+    (ready-most (s .pre .1 .ready), s .pre .0, omega arith, t, (waits .0, waits .1))
 
 loop-less : tie.Need-loop-less Inv-loop μ-loop
 loop-less c =
@@ -78,7 +79,7 @@ returns : tie.Need-returns Inv-loop μ-loop
 returns c =
     let s = c .before .before .before .before .before .before .before in
     let f = flowOf (now (s .args .file)) in
-    sending-all (c .before .before .before .before .loop .inv) (edge-end f (slots f (node f (s .args .d .0))) (c .before .before .before .before .loop .cursor) (sym (c .before .before .edge .ensures) ∙ c .enum-told .given .1))
+    sending-all (c .before .before .before .before .loop .inv) (edge-end f (slots f (at (s .args .es .base) (s .args .es .stmt .0))) (c .before .before .before .before .loop .cursor) (sym (c .before .before .edge .ensures) ∙ c .enum-told .given .1))
 
 pub push-edges-spec : {M : Type 1} → statement M
 push-edges-spec =

@@ -6,8 +6,11 @@ use mathlib.Core.Path.{sym, subst}
 use Rattle.flow.specs.declared.Header.{Header}
 use Rattle.flow.specs.Limits.{maxArrays}
 use Rattle.records.proofs.Files.{limited}
-use Rattle.statements.specs.contracts.Layout.{areaEnd}
-use Rattle.statements.proofs.Keeps.{ready-most, ready-room}
+use native.Mathlib.Omega.{arith}
+use Rattle.statements.specs.contracts.Layout.{setWords}
+use Rattle.statements.proofs.Keeps.{ready-most}
+use Rattle.solve.specs.contracts.Layout.{areaEnd}
+use Rattle.solve.proofs.Room.{solver-room}
 use Rattle.dataflow.proofs.Phases.{masked}
 use Rattle.dataflow.proofs.door.solve_arrays.Statement.{statement}
 use Rattle.dataflow.proofs.door.solve_arrays.Tie as tie
@@ -20,11 +23,12 @@ array-states-requires c κs =
 write-masks-requires : tie.Need-write-masks-requires
 write-masks-requires c κs =
     let start = c .before .before .before .before .before .before .before .before .before in
-    let blank = start .pre .0 in (
+    let blank = start .pre .0 in
+    let few : start .args .h .arrays ≤ maxArrays = subst (λ (x : Header). x .arrays ≤ maxArrays) (sym (blank .indexed .header)) (limited (blank .indexed .ready .fit) .arrays) in (
       ready-most (blank .indexed .ready),
-      subst (λ (x : Header). x .arrays ≤ maxArrays) (sym (blank .indexed .header)) (limited (blank .indexed .ready .fit) .arrays),
+      few,
       start .pre .1,
-      subst (λ k. areaEnd (start .args .h .statements) ≤ k) (sym (c .before .before .before .before .array-states .ensures .keeps .size)) (ready-room (blank .indexed .ready) (blank .some)),
+      subst (λ k. areaEnd (start .args .h .statements) (setWords (start .args .h .arrays)) ≤ k) (sym (c .before .before .before .before .array-states .ensures .keeps .size)) (solver-room (blank .indexed .ready) (blank .some) (omega arith)),
     )
 
 same-length : tie.Need-same-length

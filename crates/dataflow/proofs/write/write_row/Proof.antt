@@ -1,46 +1,81 @@
--- `write_row` meets its contract. The loop's invariant, `Filled`: the masks of the words passed are noted. The measure is how many whole words are left.
+-- `write_row` meets its contract. The loop's invariant, `Filled`: the masks of the words passed are noted. The measure is how many words are left.
 -- Assumes nothing.
+use native.Mathlib.Nat.{zero-min}
 use native.Mathlib.Omega.{arith}
 use borrow.Author.Needs.{needs}
 use denote.Ref.{now}
-use Prim.Native.Nat.{ℕ, _+_, _-_, _*_, _/_, _%_, _≤_}
+use Prim.Native.Nat.{ℕ, _+_, _-_, _*_, _≤_, min}
 use mathlib.Core.List.{List}
 use mathlib.Core.Path.{_≡_, refl, ap, ap₂, _∙_}
 use lib.ListN.{length}
-use Rattle.words.specs.contracts.Byte.{byteOf}
 use Rattle.words.specs.contracts.Change.{noted}
-use Rattle.dataflow.specs.contracts.Bytes.{bothCopies}
-use Rattle.dataflow.proofs.NotedRows.{word-on}
+use Rattle.dataflow.specs.contracts.Bytes.{maskIn, joinedWord, joinedMask}
+use Rattle.dataflow.proofs.MaskBytes.{joined-mask}
+use Rattle.dataflow.proofs.NotedRows.{noted-on}
 use Rattle.dataflow.proofs.write.write_row.Statement.{statement}
 use Rattle.dataflow.proofs.write.write_row.Tie as tie
 
--- k words were passed and the masks in them noted
-record Filled (ws : List ℕ) (at : ℕ) (work : List ℕ) (n arrays i : ℕ) (masks : List ℕ) (k : ℕ) : Type 0 where
-  passed : k ≤ arrays / 8
+record Filled (ws : List ℕ) (at : ℕ) (work : List ℕ) (x y arrays width : ℕ) (masks : List ℕ) (k : ℕ) : Type 0 where
+  passed : k ≤ width
   size : length masks ≡ length ws
-  bytes : masks ≡ noted ws at (8 * k) (bothCopies work n i)
+  bytes : masks ≡ noted ws at (min (64 * k) arrays) (joinedMask work width x y)
 
 abbrev Inv-loop : tie.InvT-loop
-Inv-loop masks₀ at work n arrays i k₀ masks k = Filled masks₀ at work n arrays (i .0) masks k
+Inv-loop masks₀ at work zero other arrays width k₀ masks k = Filled masks₀ at work zero other arrays width masks k
 
 abbrev μ-loop : tie.MeasureT-loop
-μ-loop masks₀ at work n arrays i k₀ masks k = arrays / 8 - k
+μ-loop masks₀ at work zero other arrays width k₀ masks k = width - k
+
+-- the masks of one word more are noted
+module _ {ws work masks : List ℕ} {at x y arrays width k : ℕ} (f : Filled ws at work x y arrays width masks k) (l : 64 * k ≤ arrays) where
+  word-on : {none auto dimmed m : ℕ} → none ≡ joinedWord work x y k → auto ≡ joinedWord work x y (width + k) → dimmed ≡ joinedWord work x y (2 * width + k)
+      → m ≡ min 64 (arrays - 64 * k) → noted masks (at + 64 * k) m (maskIn none auto dimmed) ≡ noted ws at (min (64 * (k + 1)) arrays) (joinedMask work width x y)
+  word-on {none} {auto} {dimmed} {m} p q r e =
+      let whole : min (64 * k) arrays ≡ 64 * k = omega arith in
+      let more : 64 * k + m ≡ min (64 * (k + 1)) arrays = omega arith in
+      ap (λ (v : List ℕ). noted v (at + 64 * k) m (maskIn none auto dimmed)) (f .bytes ∙ upTo whole)
+      ∙ noted-on ws at (64 * k) m (joinedMask work width x y) (maskIn none auto dimmed) (λ j h. rw (p, q, r) (joined-mask work width x y k j (omega arith)))
+      ∙ upTo more
+    where
+      upTo : {a b : ℕ} → a ≡ b → noted ws at a (joinedMask work width x y) ≡ noted ws at b (joinedMask work width x y)
+      upTo = ap (λ (v : ℕ). noted ws at v (joinedMask work width x y))
+
+set-words-requires : tie.Need-set-words-requires Inv-loop μ-loop
+set-words-requires c κs = search needs
 
 loop-holds : tie.Need-loop-holds Inv-loop μ-loop
 unfolding noted
-loop-holds c = record { passed = omega arith; size = refl; bytes = refl }
-
-mul-write-bytes : tie.Need-mul-write-bytes Inv-loop μ-loop
-mul-write-bytes c = search needs
-
-add-write-bytes : tie.Need-add-write-bytes Inv-loop μ-loop
-add-write-bytes c = search needs
+loop-holds c = record { passed = omega arith; size = refl; bytes = simp zero-min }
 
 joined-word-requires : tie.Need-joined-word-requires Inv-loop μ-loop
 joined-word-requires c κs = search needs
 
-write-bytes-requires : tie.Need-write-bytes-requires Inv-loop μ-loop
-write-bytes-requires c κs = search needs
+add-joined-word : tie.Need-add-joined-word Inv-loop μ-loop
+add-joined-word c = search needs
+
+joined-word-requires-2 : tie.Need-joined-word-requires-2 Inv-loop μ-loop
+joined-word-requires-2 c κs = search needs
+
+mul-joined-word : tie.Need-mul-joined-word Inv-loop μ-loop
+mul-joined-word c = search needs
+
+add-joined-word-2 : tie.Need-add-joined-word-2 Inv-loop μ-loop
+add-joined-word-2 c = search needs
+
+joined-word-requires-3 : tie.Need-joined-word-requires-3 Inv-loop μ-loop
+joined-word-requires-3 c κs = search needs
+
+mul-write-word : tie.Need-mul-write-word Inv-loop μ-loop
+mul-write-word c = search needs
+
+add-write-word : tie.Need-add-write-word Inv-loop μ-loop
+add-write-word c = search needs
+
+in-word-requires : tie.Need-in-word-requires Inv-loop μ-loop
+in-word-requires c κs = search needs
+
+write-word-requires : tie.Need-write-word-requires Inv-loop μ-loop
+write-word-requires c κs = search needs
 
 add-k : tie.Need-add-k Inv-loop μ-loop
 add-k c = search needs
@@ -50,41 +85,25 @@ loop-less c = search needs
 
 loop-again : tie.Need-loop-again Inv-loop μ-loop
 loop-again c =
-    let a = c .before .before .before .before .before .before .before .before .before .args in
-    let s = c .before .before .before .before .before .before .loop in
+    let s = c .before .before .before .before .before .before .before .before .before .loop in
     record {
       passed = omega arith;
-      size = c .before .before .write-bytes .kept .0 ∙ s .inv .size;
-      bytes = c .before .before .write-bytes .ensures
-          ∙ ap₂ (λ (l : List ℕ) (w : ℕ). noted l (a .at + 8 * s .k) 8 (byteOf w)) (s .inv .bytes) (c .before .before .before .joined-word .ensures)
-          ∙ word-on (now (a .masks)) (now (a .work)) (a .at) (a .n) (a .i .0) (s .k) 8 (omega arith)
-          ∙ ap (λ (x : ℕ). noted (now (a .masks)) (a .at) x (bothCopies (now (a .work)) (a .n) (a .i .0))) (omega arith);
+      size = c .before .before .write-word .kept .0 ∙ s .inv .size;
+      bytes = c .before .before .write-word .ensures
+          ∙ word-on (s .inv) (omega arith) (c .before .before .before .before .before .before .before .joined-word .ensures)
+          (c .before .before .before .before .before .before .joined-word2 .ensures) (c .before .before .before .before .before .joined-word3 .ensures)
+          (c .before .before .before .in-word .ensures);
     }
 
-mul-write-bytes-2 : tie.Need-mul-write-bytes-2 Inv-loop μ-loop
-mul-write-bytes-2 c = search needs
-
-add-write-bytes-2 : tie.Need-add-write-bytes-2 Inv-loop μ-loop
-add-write-bytes-2 c = search needs
-
-joined-word-requires-2 : tie.Need-joined-word-requires-2 Inv-loop μ-loop
-joined-word-requires-2 c κs = search needs
-
-write-bytes-requires-2 : tie.Need-write-bytes-requires-2 Inv-loop μ-loop
-write-bytes-requires-2 c κs = search needs
-
 same-length : tie.Need-same-length Inv-loop μ-loop
-same-length c = c .before .before .write-bytes2 .kept .0 ∙ c .before .before .before .before .before .before .loop .inv .size
+same-length c = c .before .loop .inv .size
 
 returns : tie.Need-returns Inv-loop μ-loop
 returns c =
-    let a = c .before .before .before .before .before .before .before .before .before .args in
-    let s = c .before .before .before .before .before .before .loop in
-    let whole : 8 * s .k + a .arrays % 8 ≡ a .arrays = omega arith in
-    c .before .before .write-bytes2 .ensures
-    ∙ ap₂ (λ (l : List ℕ) (w : ℕ). noted l (a .at + 8 * s .k) (a .arrays % 8) (byteOf w)) (s .inv .bytes) (c .before .before .before .joined-word2 .ensures)
-    ∙ word-on (now (a .masks)) (now (a .work)) (a .at) (a .n) (a .i .0) (s .k) (a .arrays % 8) (omega arith)
-    ∙ ap (λ (x : ℕ). noted (now (a .masks)) (a .at) x (bothCopies (now (a .work)) (a .n) (a .i .0))) whole
+    let a = c .before .before .before .before .before .args in
+    let s = c .before .loop in
+    let whole : min (64 * s .k) (a .arrays) ≡ a .arrays = omega arith in
+    s .inv .bytes ∙ ap₂ (λ (k w : ℕ). noted (now (a .masks)) (a .at) k (joinedMask (now (a .work)) w (a .zero) (a .other))) whole (c .before .before .set-words .ensures)
 
 pub write-row-spec : {M : Type 1} → statement M
 write-row-spec =
@@ -92,17 +111,20 @@ write-row-spec =
     (tie.spec
     Inv-loop
     μ-loop
+    set-words-requires
     loop-holds
-    mul-write-bytes
-    add-write-bytes
     joined-word-requires
-    write-bytes-requires
+    add-joined-word
+    joined-word-requires-2
+    mul-joined-word
+    add-joined-word-2
+    joined-word-requires-3
+    mul-write-word
+    add-write-word
+    in-word-requires
+    write-word-requires
     add-k
     loop-less
     loop-again
-    mul-write-bytes-2
-    add-write-bytes-2
-    joined-word-requires-2
-    write-bytes-requires-2
     same-length
     returns)

@@ -1,60 +1,79 @@
--- `solve::rows::step_members` meets its contract. The invariant: a is a member or the count, and the members below it have stepped.
--- The measure is what is left of the count.
-use Prim.Native.Nat.{_-_}
+-- `solve::rows::step_members` meets its contract. The invariant: the first k words of the row have stepped; one word is a step from none to all of them.
+-- The measure is what is left of the width.
+use Prim.Native.Nat.{ℕ, _-_, _+_, _*_, _≤_}
+use mathlib.Core.List.{List}
+use mathlib.Core.Logic.{_⊎_}
+use mathlib.Core.Path.{_≡_, refl, sym, subst}
+use native.Mathlib.Nat.{add-zero}
 use native.Mathlib.Omega.{arith}
-use borrow.Author.Needs.{needs}
-use mathlib.Core.Path.{_≡_, ap}
 use denote.Ref.{now}
-use Rattle.words.specs.contracts.Byte.{byteAt}
-use Rattle.solve.specs.contracts.Rows.{stepWhere, memberBelow}
-use Rattle.statements.proofs.Members.{next-later}
-use Rattle.solve.proofs.RowChanges.{row-as, Members, members-start, members-on}
+use lib.ListN.{getD}
+use Rattle.solve.specs.contracts.Rows.{RowIs, WordStepped, maskAt, stepWhere, member}
+use Rattle.solve.proofs.Stepping.{Stepping, stepping-none, stepping-more, stepping-all}
+use borrow.Author.Needs.{needs}
 use Rattle.solve.proofs.rows.step_members.Statement.{statement}
 use Rattle.solve.proofs.rows.step_members.Tie as tie
 
 abbrev Inv-loop : tie.InvT-loop
-Inv-loop work₀ row set count effect a₀ work a = Members work₀ row set count effect work a
+Inv-loop work₀ width to from set effect k₀ work k = Stepping work₀ width to from set effect work k
 
 abbrev μ-loop : tie.MeasureT-loop
-μ-loop work₀ row set count effect a₀ work a = count - a
+μ-loop work₀ width to from set effect k₀ work k = width - k
 
-next-requires : tie.Need-next-requires Inv-loop μ-loop
-next-requires c κs = search needs
+mul-chosen : tie.Need-mul-chosen Inv-loop μ-loop
+mul-chosen c = search needs
 
-loop-holds : tie.Need-loop-holds Inv-loop μ-loop
-loop-holds c = members-start (c .next .ensures)
+slice-read-chosen : tie.Need-slice-read-chosen Inv-loop μ-loop
+slice-read-chosen c = search needs
 
-step-at-requires : tie.Need-step-at-requires Inv-loop μ-loop
-step-at-requires c κs = let size = c .before .before .loop .inv .row-is .keeps .size in search needs
-
-add-next : tie.Need-add-next Inv-loop μ-loop
-add-next c = search needs
-
-next-requires-2 : tie.Need-next-requires-2 Inv-loop μ-loop
-next-requires-2 c κs =
-    let before = c .before .before .before .before .before .before .loop .inv .row-is .keeps .size in
-    let after = c .before .before .before .step-at .ensures .keeps .size in
-    search needs
-
-loop-less : tie.Need-loop-less Inv-loop μ-loop
-loop-less c =
-    let rise = next-later (c .before .before .before .before .step-at .last .0) (c .before .before .before .before .before .before .before .before .before .before .before .args .set) (c .before .before .before .before .before .before .before .loop .a) (c .before .before .before .before .before .before .before .before .before .before .before .args .count) (search needs) in
-    let next = c .next2 .ensures in
-    omega arith
-
-loop-again : tie.Need-loop-again Inv-loop μ-loop
-loop-again c = members-on (c .before .before .before .before .before .before .before .loop .inv) (search needs) (search needs) (search needs) (c .before .before .before .before .step-at .ensures) (c .next2 .ensures)
+step-word-requires : tie.Need-step-word-requires Inv-loop μ-loop
+step-word-requires c κs = search needs
 
 same-length : tie.Need-same-length Inv-loop μ-loop
-same-length c = c .before .loop .inv .row-is .keeps .size
+same-length c = search needs
 
 returns : tie.Need-returns Inv-loop μ-loop
 returns c =
-    let a = c .before .before .before .before .before .args in
-    let s = c .before .loop in
-    let high = s .inv .high in
-    let whole : s .a ≡ a .count = omega arith in
-    row-as (s .inv .row-is) (λ b l. ap (λ k. stepWhere (memberBelow (now (a .work)) (a .set) k) (a .effect) (byteAt (now (a .work)) (a .row)) b) whole)
+    let s = c .before .before .before .before .before .before .before in
+    let a = s .args in
+    let ws : List ℕ = now (a .work) in
+    let one : a .width ≡ 1 = c .before .before .before .before .before .if1 .taken in
+    let word = subst (λ (x : ℕ). WordStepped ws (c .before .before .step-word .last .0) 1 (a .to) (a .from) 0 (getD ws x 0) (a .effect)) (sym (add-zero (a .set))) (c .before .before .step-word .ensures) in
+    let apart = subst (λ (w : ℕ). (a .to + 3 * w ≤ a .from) ⊎ (a .from + 3 * w ≤ a .to)) one (s .pre .4) in
+    subst (λ (w : ℕ). RowIs ws (c .before .before .step-word .last .0) w (a .to) (stepWhere (member ws (a .set)) (a .effect) (maskAt ws w (a .from)))) (sym one)
+    (stepping-all (stepping-more stepping-none (omega arith) (omega (arith, s .pre .1)) (omega (arith, s .pre .2)) apart word) refl)
+
+loop-holds : tie.Need-loop-holds Inv-loop μ-loop
+loop-holds c = stepping-none
+
+add-chosen : tie.Need-add-chosen Inv-loop μ-loop
+add-chosen c = let size = c .before .loop .inv .keeps .size in search needs
+
+mul-chosen-2 : tie.Need-mul-chosen-2 Inv-loop μ-loop
+mul-chosen-2 c = let size = c .before .loop .inv .keeps .size in search needs
+
+slice-read-chosen-2 : tie.Need-slice-read-chosen-2 Inv-loop μ-loop
+slice-read-chosen-2 c = let size = c .before .before .loop .inv .keeps .size in search needs
+
+step-word-requires-2 : tie.Need-step-word-requires-2 Inv-loop μ-loop
+step-word-requires-2 c κs = let size = c .before .before .before .loop .inv .keeps .size in search needs
+
+add-k : tie.Need-add-k Inv-loop μ-loop
+add-k c = search needs
+
+loop-less : tie.Need-loop-less Inv-loop μ-loop
+loop-less c = search needs
+
+loop-again : tie.Need-loop-again Inv-loop μ-loop
+loop-again c = stepping-more (c .before .before .before .before .before .before .loop .inv) (search needs) (search needs) (search needs) (c .before .before .before .before .before .before .before .before .before .pre .4) (c .before .before .step-word2 .ensures)
+
+same-length-2 : tie.Need-same-length-2 Inv-loop μ-loop
+same-length-2 c = c .before .loop .inv .keeps .size
+
+returns-2 : tie.Need-returns-2 Inv-loop μ-loop
+returns-2 c =
+    let whole : c .before .loop .k ≡ c .before .before .before .before .args .width = omega (arith, c .before .loop .inv .some) in
+    stepping-all (c .before .loop .inv) whole
 
 pub step-members-spec : {M : Type 1} → statement M
 step-members-spec =
@@ -62,12 +81,18 @@ step-members-spec =
     (tie.spec
     Inv-loop
     μ-loop
-    next-requires
+    mul-chosen
+    slice-read-chosen
+    step-word-requires
+    same-length
+    returns
     loop-holds
-    step-at-requires
-    add-next
-    next-requires-2
+    add-chosen
+    mul-chosen-2
+    slice-read-chosen-2
+    step-word-requires-2
+    add-k
     loop-less
     loop-again
-    same-length
-    returns)
+    same-length-2
+    returns-2)

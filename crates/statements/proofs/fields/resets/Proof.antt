@@ -12,16 +12,13 @@ use Rattle.theory.specs.Doubled.{resets}
 use Rattle.statements.proofs.fields.resets.Statement.{statement}
 use Rattle.statements.proofs.fields.resets.Tie as tie
 
-offset-requires : tie.Need-offset-requires
-offset-requires c κs = search needs
-
 kind-requires : tie.Need-kind-requires
 kind-requires c κs = search needs
 
 number : (c : tie.After-kind)
     → (eqb (c .kind .result) 2 || eqb (c .kind .result) 3)
-    ≡ resets (kind (flowOf (now (c .before .before .before .before .args .file))) (c .before .before .before .before .args .i .0))
-number c = ap (λ x. eqb x 2 || eqb x 3) (c .kind .ensures) ∙ c .before .offset .ensures .resets
+    ≡ resets (kind (flowOf (now (c .before .before .args .file))) (c .before .before .args .i .0))
+number c = ap (λ x. eqb x 2 || eqb x 3) (c .kind .ensures) ∙ c .before .before .pre .resets
 
 returns : tie.Need-returns
 returns c = let first : eqb (c .before .kind .result) 2 ≡ (eqb (c .before .kind .result) 2 || eqb (c .before .kind .result) 3) = rw (c .if1 .taken) in
@@ -32,4 +29,4 @@ returns-2 c = let second : eqb (c .before .kind .result) 3 ≡ (eqb (c .before .
     second ∙ number (c .before)
 
 pub resets-spec : {M : Type 1} → statement M
-resets-spec = tie.close (tie.spec offset-requires kind-requires returns returns-2)
+resets-spec = tie.close (tie.spec kind-requires returns returns-2)

@@ -1,0 +1,29 @@
+-- What a door tells its caller: the answer of the call behind it, as the paper's numbers.
+use Prim.Native.Nat.{ℕ}
+use mathlib.Core.List.{List}
+use mathlib.Core.Path.{_≡_}
+use Rattle.flow.specs.Refusals.{numberOf, placeOf}
+use Rattle.dataflow.specs.declared.Answer.{Answer}
+use Rattle.dataflow.specs.declared.Answer.the-variants.{Accepted, Refused}
+use Rattle.dataflow.specs.Promise.{Promise}
+
+-- the paper's number, place and visits for each answer
+abbrev pub numberOfAnswer : Answer → ℕ
+numberOfAnswer (Accepted v) = 0
+numberOfAnswer (Refused r) = numberOf r
+
+abbrev pub placeOfAnswer : Answer → ℕ
+placeOfAnswer (Accepted v) = 0
+placeOfAnswer (Refused r) = placeOf r
+
+abbrev pub visitsOfAnswer : Answer → ℕ
+visitsOfAnswer (Accepted v) = v
+visitsOfAnswer (Refused r) = 0
+
+-- the door: an answer that keeps the promise, as this paper's numbers
+pub record Door (s masks masks′ liveIn liveIn′ liveOut liveOut′ work work′ : List ℕ) (place visits r : ℕ) : Type 0 where
+  pub answer : Answer
+  pub number : r ≡ numberOfAnswer answer
+  pub place-is : place ≡ placeOfAnswer answer
+  pub visits-is : visits ≡ visitsOfAnswer answer
+  pub promise : Promise s masks masks′ liveIn liveIn′ liveOut liveOut′ work work′ answer
