@@ -1,26 +1,49 @@
 // The queue of the forward solver: doubled numbers wait.
 ghost use mathlib.Core.List.{List};
+ghost use mathlib.Core.Path.{_≡_};
 ghost use Prim.Native.Nat.{ℕ, _*_, _<_, _≤_};
-ghost use lib.ListN.{length};
+ghost use lib.Dec.{eqb};
+ghost use lib.ListN.{length, getD, set};
 ghost use Rattle.flow.specs.Limits.{maxStatements};
-ghost use Rattle.solve.specs.contracts.Layout.{visitedAt};
+ghost use Rattle.statements.specs.contracts.Layout.{maxWidth};
+ghost use Rattle.solve.specs.contracts.Layout.{settledAt, waitsAt, nodesEnd};
 ghost use Rattle.solve.specs.contracts.Waiting.{Waits, Enqueued, Taken};
 use crate::Queue;
+use crate::layout;
 use crate::ring;
 use flow::NodeId;
 
 // d joins the back unless it waits.
-pub fn enqueue(work: &mut [u64], n: usize, queue: Queue, d: NodeId) -> Queue
-    requires { ⌜ (n ≤ maxStatements) × (visitedAt n ≤ length (now work)) × (d .0 < 2 * n) × ((w : List ℕ) × Waits (now work) n queue w) ⌝ }
-    ensures { λ r. ⌜ Enqueued (now (work .entry)) (now (work .exit)) n queue (d .0) r ⌝ }
+pub fn enqueue(work: &mut [u64], n: usize, width: usize, queue: Queue, d: NodeId) -> Queue
+    requires { ⌜ (n ≤ maxStatements) × (width ≤ maxWidth) × (nodesEnd n width ≤ length (now work)) × (d .0 < 2 * n) × ((l : List ℕ) × Waits (now work) n width queue l) ⌝ }
+    ensures { λ r. ⌜ Enqueued (now (work .entry)) (now (work .exit)) n width queue (d .0) r ⌝ }
 {
-    ring::enqueue(work, n, queue, d.0)
+    ring::enqueue(work, n, width, queue, d.0)
 }
 
 // The front, which waits no more.
-pub fn take(work: &mut [u64], n: usize, queue: Queue) -> NodeId
-    requires { ⌜ (n ≤ maxStatements) × (visitedAt n ≤ length (now work)) × (0 < queue .len) × ((w : List ℕ) × Waits (now work) n queue w) ⌝ }
-    ensures { λ r. ⌜ Taken (now (work .entry)) (now (work .exit)) n queue (r .0) ⌝ }
+pub fn take(work: &mut [u64], n: usize, width: usize, queue: Queue) -> NodeId
+    requires { ⌜ (n ≤ maxStatements) × (width ≤ maxWidth) × (nodesEnd n width ≤ length (now work)) × (0 < queue .len) × ((l : List ℕ) × Waits (now work) n width queue l) ⌝ }
+    ensures { λ r. ⌜ Taken (now (work .entry)) (now (work .exit)) n width queue (r .0) ⌝ }
 {
-    NodeId(ring::take(work, n, queue))
+    NodeId(ring::take(work, n, width, queue))
+}
+
+pub fn waits(work: &[u64], n: usize, width: usize, d: NodeId) -> bool
+    requires { ⌜ (n ≤ maxStatements) × (width ≤ maxWidth) × (nodesEnd n width ≤ length (now work)) × (d .0 < 2 * n) ⌝ }
+    ensures { λ r. ⌜ r ≡ eqb (getD (now (work .entry)) (waitsAt n width (d .0)) 0) 1 ⌝ }
+{
+    work[layout::waits(n, width, d.0)] == 1
+}
+
+// d is settled by its visit. Says whether it was before.
+pub fn settle(work: &mut [u64], n: usize, width: usize, d: NodeId) -> bool
+    requires { ⌜ (n ≤ maxStatements) × (width ≤ maxWidth) × (nodesEnd n width ≤ length (now work)) × (d .0 < 2 * n) ⌝ }
+    ensures { λ r. ⌜ r ≡ eqb (getD (now (work .entry)) (settledAt n width (d .0)) 0) 1 ⌝ }
+    ensures { λ _. ⌜ now (work .exit) ≡ set (now (work .entry)) (settledAt n width (d .0)) 1 ⌝ }
+{
+    let at = layout::settled(n, width, d);
+    let old = work[at];
+    work[at] = 1;
+    old == 1
 }

@@ -1,0 +1,26 @@
+-- `waits` meets its contract: the place is not too large (`node-below`).
+-- Assumes nothing.
+use borrow.Author.Needs.{needs}
+use native.Mathlib.Nat.{le-of-lt}
+use native.Mathlib.Omega.{arith}
+use Rattle.solve.proofs.Room.{node-below}
+use Rattle.solve.proofs.layout.waits.Statement.{statement}
+use Rattle.solve.proofs.layout.waits.Tie as tie
+
+mask-rows-end-requires : tie.Need-mask-rows-end-requires
+mask-rows-end-requires c κs = search needs
+
+mul-result : tie.Need-mul-result
+mul-result c = search needs
+
+add-result : tie.Need-add-result
+add-result c = omega (arith, node-below (c .before .pre .0) (c .before .pre .1) (le-of-lt (c .before .pre .2)))
+
+add-result-2 : tie.Need-add-result-2
+add-result-2 c = omega (arith, node-below (c .before .pre .0) (c .before .pre .1) (le-of-lt (c .before .pre .2)))
+
+returns : tie.Need-returns
+returns c = search needs
+
+pub waits-spec : {M : Type 1} → statement M
+waits-spec = tie.close (tie.spec mask-rows-end-requires mul-result add-result add-result-2 returns)
