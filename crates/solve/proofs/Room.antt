@@ -66,3 +66,7 @@ solver-room r p l = let room = r .room in omega (arith, solver-fits p (ready-mos
 
 pub nodes-room : {s ws : List ℕ} {n w : ℕ} → Ready s ws n → 0 < n → w ≤ maxWidth → nodesEnd n w ≤ length ws
 nodes-room {n = n} {w = w} r p l = omega (arith, solver-room r p l, nodes-within n w)
+
+-- numbers without masks need less
+pub bare-room : {s ws : List ℕ} {n : ℕ} → Ready s ws n → 0 < n → nodesEnd n 0 ≤ length ws
+bare-room r p = nodes-room r p (omega arith)
