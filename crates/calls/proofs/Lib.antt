@@ -5,7 +5,6 @@ pub mod BodySummary
 pub mod CallSummary
 pub mod Summaries
 pub mod Slots
-pub mod Cursor
 pub mod Found
 pub mod Classes
 pub mod Joined

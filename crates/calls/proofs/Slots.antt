@@ -19,11 +19,11 @@ use Rattle.theory.specs.Queue.{Arc, brings, join, enqueue, stepAll}
 use Rattle.theory.proofs.Lists.{In-elem, In-map, select-In, concatMap-append}
 use Rattle.theory.proofs.Edges.{same-node, in-once}
 use Rattle.theory.proofs.Enqueue.{join-keeps, join-adds}
-use Rattle.calls.specs.contracts.Slots.{edgeTo, ifEntered, otherSlots, callSlots, returnSlots, listedSlots, slotsOf, slots, present, toArc}
+use Rattle.calls.specs.contracts.Slots.{edgeTo, ifEntered, lineSlots, otherSlots, callSlots, returnSlots, listedSlots, slotsOf, slots, present, toArc}
 
 -- Present slots
 
-present-append : (xs ys : List (Option Edge)) → present (xs ++ ys) ≡ present xs ++ present ys
+pub present-append : (xs ys : List (Option Edge)) → present (xs ++ ys) ≡ present xs ++ present ys
 unfolding present
 present-append xs ys = concatMap-append optionList xs ys
 
@@ -65,7 +65,7 @@ map-map g h [] = refl
 map-map g h (x ∷ l) = ap (λ r. g (h x) ∷ r) (map-map g h l)
 
 call-present : (f : Flow) (b : Base) (i k : ℕ) → present (callSlots f b i k) ≡ map (edgeTo (at b k)) (targets f b i k)
-unfolding callSlots otherSlots targets entered present concatMap optionList
+unfolding callSlots lineSlots otherSlots targets entered present concatMap optionList
 call-present f b i k =
     let back = at b k in
     let first = map (λ l. ifEntered back (enters f l)) (callLines (kind f i)) in
