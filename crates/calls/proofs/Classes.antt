@@ -112,6 +112,7 @@ call-row {f} {ws} {n} {i} {x} z h l room q o lines successors row = record {
   continues = q;
   lines = lines;
   successors = successors;
+  place = row ∙ ap (λ (m : ℕ). rowAt m i) (sym z);
   room = rw (row, z) room;
   entered = λ j m. rw row (h .bodies i j l (rw z at m) (h .calls .call i (x .continuation .0) l q ∙ ap (λ (t : Bool). cond t opaque transparent) o));
 }

@@ -15,12 +15,12 @@ use lib.Seq.{drop-cons, getD-at}
 use Rattle.words.specs.contracts.Row as row
 use Rattle.flow.specs.declared.Base.{Base}
 use Rattle.flow.specs.declared.Base.the-variants.{Zero, N}
-use Rattle.flow.specs.Flow.{Flow, size, enters}
+use Rattle.flow.specs.Flow.{Flow, size}
 use Rattle.theory.specs.Lists.{any, elem, concatMap, optionList, upTo}
 use Rattle.theory.specs.Body.{kind, successors, callLines, entered}
 use Rattle.theory.specs.Doubled.{Node, Edge, at, plain, numberIn, sameNode, returnsTo}
 use Rattle.theory.proofs.Lists.{same-test, or-second, says-one, length-upTo}
-use Rattle.calls.specs.contracts.Slots.{edgeTo, ifEntered, lineSlots, otherSlots, returnSlots, listedSlots, present}
+use Rattle.calls.specs.contracts.Slots.{lineSlot, lineSlots, otherSlot, otherSlots, returnSlots, listedSlots, present}
 use Rattle.calls.specs.contracts.Class.{CallOf}
 use Rattle.calls.specs.declared.edges.Call.{Call}
 
@@ -61,35 +61,21 @@ module _ (f : Flow) (b : Base) (i c : ℕ) where
 
 -- a call with the continuation k
 module _ (f : Flow) (b : Base) (i k c : ℕ) where
-  pub line-here : c < length (callLines (kind f i)) → (e : ℕ) → enters f (getD (callLines (kind f i)) c 0) ≡ some e
-      → leftFrom c (lineSlots f b i k) ≡ edgeTo (at b k) (at N e) ∷ leftFrom (c + 1) (lineSlots f b i k)
+  pub line-slot : c < length (callLines (kind f i)) → leftFrom c (lineSlots f b i k) ≡ optionList (lineSlot f b k (getD (callLines (kind f i)) c 0)) ++ leftFrom (c + 1) (lineSlots f b i k)
   unfolding lineSlots
-  line-here h e q = here (λ l. ifEntered (at b k) (enters f l)) (callLines (kind f i)) 0 c h (ap (ifEntered (at b k)) q)
-
-  pub line-skip : c < length (callLines (kind f i)) → enters f (getD (callLines (kind f i)) c 0) ≡ none → leftFrom c (lineSlots f b i k) ≡ leftFrom (c + 1) (lineSlots f b i k)
-  unfolding lineSlots
-  line-skip h q = skip (λ l. ifEntered (at b k) (enters f l)) (callLines (kind f i)) 0 c h (ap (ifEntered (at b k)) q)
+  line-slot h = mapped (lineSlot f b k) (callLines (kind f i)) 0 c h
 
   pub line-end : length (callLines (kind f i)) ≤ c → leftFrom c (lineSlots f b i k) ≡ []
   unfolding lineSlots
-  line-end h = past (λ l. ifEntered (at b k) (enters f l)) (callLines (kind f i)) 0 c h
+  line-end h = past (lineSlot f b k) (callLines (kind f i)) 0 c h
 
-  other : ℕ → Option Edge
-  other j = cond (not (elem j (entered f i) || eqb j k)) (some (edgeTo (at b k) (at b j))) none
-
-  pub other-here : c < length (successors f i) → (elem (getD (successors f i) c 0) (entered f i) || eqb (getD (successors f i) c 0) k) ≡ false
-      → leftFrom c (otherSlots f b i k) ≡ edgeTo (at b k) (at b (getD (successors f i) c 0)) ∷ leftFrom (c + 1) (otherSlots f b i k)
-  unfolding otherSlots other
-  other-here h e = here other (successors f i) 0 c h (ap (λ (t : Bool). cond (not t) (some (edgeTo (at b k) (at b (getD (successors f i) c 0)))) none) e)
-
-  pub other-skip : c < length (successors f i) → (elem (getD (successors f i) c 0) (entered f i) || eqb (getD (successors f i) c 0) k) ≡ true
-      → leftFrom c (otherSlots f b i k) ≡ leftFrom (c + 1) (otherSlots f b i k)
-  unfolding otherSlots other
-  other-skip h e = skip other (successors f i) 0 c h (ap (λ (t : Bool). cond (not t) (some (edgeTo (at b k) (at b (getD (successors f i) c 0)))) none) e)
+  pub other-slot : c < length (successors f i) → leftFrom c (otherSlots f b i k) ≡ optionList (otherSlot f b i k (getD (successors f i) c 0)) ++ leftFrom (c + 1) (otherSlots f b i k)
+  unfolding otherSlots
+  other-slot h = mapped (otherSlot f b i k) (successors f i) 0 c h
 
   pub other-end : length (successors f i) ≤ c → leftFrom c (otherSlots f b i k) ≡ []
-  unfolding otherSlots other
-  other-end h = past other (successors f i) 0 c h
+  unfolding otherSlots
+  other-end h = past (otherSlot f b i k) (successors f i) 0 c h
 
 -- no other successor is the continuation
 pub not-back : (b : Base) (l : Bool) (j k : ℕ) → (l || eqb j k) ≡ false → sameNode (at b j) (at b k) ≡ false

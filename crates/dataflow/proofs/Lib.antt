@@ -10,6 +10,7 @@ pub mod Few
 pub mod Running
 pub mod NotedRows
 pub mod MaskBytes
+pub mod Members
 pub mod Phases
 pub mod Promised
 pub mod Told

@@ -10,7 +10,6 @@ use native.Mathlib.Omega.{arith}
 use borrow.Author.Tests.{eq-eqb, ne-eqb}
 use lib.Dec.{eqb, ltb}
 use lib.ListN.{length, getD}
-use Rattle.words.specs.contracts.Row.{has}
 use Rattle.masks.specs.declared.Effect.the-variants.{Reset}
 use Rattle.flow.specs.Flow.{Flow, size}
 use Rattle.theory.specs.Lists.{elem}
@@ -27,14 +26,13 @@ use Rattle.statements.specs.contracts.Ready.{Keeps}
 use Rattle.statements.proofs.Keeps.{keeps-refl, keeps-trans, keeps-widen}
 use Rattle.statements.proofs.Members.{zero-has}
 use Rattle.solve.specs.declared.Queue.{Queue}
-use Rattle.solve.specs.contracts.Layout.{visitedAt, setRow, outRow, backRow, maskRowAt, areaEnd}
+use Rattle.solve.specs.contracts.Layout.{setRow, outRow, maskRowAt, settledAt, waitsAt, areaEnd}
 use Rattle.solve.specs.contracts.Rows.{maskAt, stepWhere}
 use Rattle.solve.specs.contracts.Waiting.{Waits, Enqueued}
 use Rattle.solve.specs.contracts.Pushed.{masksAt}
-use Rattle.solve.proofs.Room.{rows-apart, row-from, row-fits}
+use Rattle.solve.proofs.Room.{rows-apart, row-from, row-fits, nodes-within, not-waits}
 use Rattle.solve.proofs.Masks.{mask-cong}
 use Rattle.solve.proofs.Waiting.{rest-keeps, waits-none}
-use Rattle.solve.proofs.Growing.{masks-kept}
 use Rattle.dataflow.specs.contracts.Transfer.{RowSteps}
 use Rattle.dataflow.specs.contracts.Sent.{masksBelow}
 use Rattle.dataflow.specs.contracts.Solving.{Underway, VisitsFront, Unused, RuleResult}
@@ -74,29 +72,43 @@ module _ (f : Flow) (n w : ℕ) (ws us : List ℕ) (entry count : ℕ) (sized : 
   low : (x : ℕ) → x < setRow n → getD us x 0 ≡ getD ws x 0
   low x l = entered .elsewhere x (λ a b. omega arith) (λ a b. let least = row-from n w entry in omega arith)
 
-  pub first-waits : Waits us n nothing []
-  first-waits = let least = row-from n w (2 * n) in waits-none some (λ x l h. low x (omega arith) ∙ unused x (omega arith) (omega arith))
+  -- the words of the numbers beside their masks
+  flags : (d x : ℕ) → d < 2 * n → settledAt n w d ≤ x → x < waitsAt n w d + 1 → getD us x 0 ≡ 0
+  flags d x l lo hi =
+      let least = row-from n w d in
+      let fits = row-fits n w l in
+      let end = nodes-within n w in
+      entered .elsewhere x (λ a b. omega arith) (λ a b. apart a b (decLt d entry) (decLt entry d)) ∙ unused x (omega arith) (omega arith)
+    where
+      apart : maskRowAt n w entry ≤ x → x < maskRowAt n w entry + 3 * w → Dec (d < entry) → Dec (entry < d) → ⊥
+      apart a b (yes h) c = let far = rows-apart n w h in omega arith
+      apart a b (no h) (yes c) = let far = rows-apart n w c in omega arith
+      apart a b (no h) (no c) = let same : d ≡ entry = omega (arith, h, c) in let here : maskRowAt n w d ≡ maskRowAt n w entry = rw same in omega arith
 
-  module _ (vs : List ℕ) (r : Queue) (q : Enqueued us vs n nothing entry r) where
-    not-visited : (d : ℕ) → d < 2 * n → has vs (visitedAt n) d ≡ 0
-    not-visited d l =
-        let least = row-from n w (2 * n) in
-        zero-has vs (visitedAt n) d
-        (q .kept .above (visitedAt n + d / 64) (omega arith) ∙ low (visitedAt n + d / 64) (omega arith) ∙ unused (visitedAt n + d / 64) (omega arith) (omega arith))
+  pub first-waits : Waits us n w nothing []
+  first-waits = waits-none some (λ d l. flags d (waitsAt n w d) l (omega arith) (omega arith))
+
+  module _ (vs : List ℕ) (r : Queue) (q : Enqueued us vs n w nothing entry r) where
+    -- joining the queue writes no other word of a number
+    kept-word : (d x : ℕ) → maskRowAt n w d ≤ x → x < waitsAt n w d → getD vs x 0 ≡ getD us x 0
+    kept-word d x lo hi = q .kept .above x (let least = row-from n w d in omega arith) (λ c m. not-waits n w d x lo hi c)
+
+    not-settled : (d : ℕ) → d < 2 * n → getD vs (settledAt n w d) 0 ≡ 0
+    not-settled d l = kept-word d (settledAt n w d) (omega arith) (omega arith) ∙ flags d (settledAt n w d) l (omega arith) (omega arith)
 
     entry-is : g .entry ≡ entry
     unfolding doubled
     entry-is = zero-add (f .entry) ∙ sym first
 
-    waits : Waits vs n r (initial g .waiting)
+    waits : Waits vs n w r (initial g .waiting)
     unfolding initial doubled elem
     waits =
-        subst (λ (l : List ℕ). Waits vs n r l)
+        subst (λ (l : List ℕ). Waits vs n w r l)
         (ap (λ (e : ℕ). e ∷ []) (sym entry-is) ∙ sym (ap (λ (b : Bool). cond b [] (g .entry ∷ [])) (ne-eqb (size f + size f) 0 (λ e. omega arith))))
         (q .waits [] first-waits)
 
     same-masks : (d a : ℕ) → d < 2 * n → a < 64 * w → masksAt vs n w d a ≡ masksAt us n w d a
-    same-masks = masks-kept us vs n w (λ x l h. q .kept .above x (let least = row-from n w 0 in omega arith))
+    same-masks d a l m = mask-cong us vs w (maskRowAt n w d) a m (λ x lo hi. kept-word d x lo (omega arith))
 
     -- at the entry every array below the count is NONE, and elsewhere nothing is
     first-mask : (d a : ℕ) → masksBelow (f .arrays) (pulled g (initial g) d) a ≡ cond (ltb a count) (cond (eqb d entry) 1 0) 0
@@ -113,10 +125,10 @@ module _ (f : Flow) (n w : ℕ) (ws us : List ℕ) (entry count : ℕ) (sized : 
         at (yes e) =
             ap (λ (y : ℕ). masksAt us n w y a) e ∙ entered .masks a m
             ∙ ap₂ (λ (v k : ℕ). cond (ltb a count) v k) (sym (ap (λ (b : Bool). cond b 1 0) (eq-eqb d entry e)))
-            (zero-mask ws w (outRow n w) a m (λ x lo hi. let least = row-from n w (2 * n) in unused x (omega arith) (omega arith)))
+            (zero-mask ws w (outRow n w) a m (λ x lo hi. let least = row-from n w (2 * n) in let end = nodes-within n w in unused x (omega arith) (omega arith)))
         at (no e) =
             mask-cong ws us w (maskRowAt n w d) a m (λ x lo hi. entered .elsewhere x (λ c b. let least = row-from n w d in omega arith) (λ c b. apart x lo hi c b (decLt d entry)))
-            ∙ zero-mask ws w (maskRowAt n w d) a m (λ x lo hi. let least = row-from n w d in let fits = row-fits n w l in unused x (omega arith) (omega arith))
+            ∙ zero-mask ws w (maskRowAt n w d) a m (λ x lo hi. let least = row-from n w d in let fits = row-fits n w l in let end = nodes-within n w in unused x (omega arith) (omega arith))
             ∙ cond-zero (ltb a count) ∙ ap (λ (v : ℕ). cond (ltb a count) v 0) (sym (ap (λ (b : Bool). cond b 1 0) (ne-eqb d entry e)))
           where
             apart : (x : ℕ) → maskRowAt n w d ≤ x → x < maskRowAt n w d + 3 * w → maskRowAt n w entry ≤ x → x < maskRowAt n w entry + 3 * w → Dec (d < entry) → ⊥
@@ -132,9 +144,8 @@ module _ (f : Flow) (n w : ℕ) (ws us : List ℕ) (entry count : ℕ) (sized : 
         course = begins;
         solving = record {
           waits = waits;
-          visited = not-visited;
           masks = masks;
-          grown = λ d l v. clash false v refl;
+          settled = not-settled;
         };
       };
       counted = refl;
@@ -145,6 +156,7 @@ module _ (f : Flow) (n w : ℕ) (ws us : List ℕ) (entry count : ℕ) (sized : 
     starts-keeps =
         let least = row-from n w entry in
         let fits = row-fits n w {d = entry} (omega arith) in
+        let end = nodes-within n w in
         keeps-trans
         (record {
           size = entered .size;

@@ -11,10 +11,12 @@ use borrow.Author.Tests.{eq-eqb, ne-eqb}
 use lib.Bits.{bitOr, or-self, or-zero-r}
 use lib.Dec.{eqb}
 use lib.ListN.{getD}
-use Rattle.flow.specs.Flow.{Flow}
+use Rattle.flow.specs.declared.Base.{Base}
+use Rattle.flow.specs.declared.Base.the-variants.{Zero, N}
+use Rattle.flow.specs.Flow.{Flow, size}
 use Rattle.theory.specs.Lists.{differ}
 use Rattle.theory.specs.Queue.{Arc, join, enqueue}
-use Rattle.theory.specs.Doubled.{Edge, number}
+use Rattle.theory.specs.Doubled.{Edge, at, number, numberIn}
 use Rattle.theory.proofs.Push.{differ-chain}
 use Rattle.statements.specs.contracts.Layout.{queueAt}
 use Rattle.statements.specs.contracts.Ready.{Keeps}
@@ -28,7 +30,7 @@ use Rattle.solve.specs.contracts.Waiting.{Waits}
 use Rattle.solve.specs.contracts.Pushed.{masksAt, Source, Pushed}
 use Rattle.solve.proofs.Room.{row-first}
 use Rattle.solve.proofs.Masks.{mask-cong, differ-as}
-use Rattle.dataflow.specs.contracts.Sent.{Sources, carried, SettledSet, Sent}
+use Rattle.dataflow.specs.contracts.Sent.{edgeRow, Sources, carried, SettledSet, Sent}
 use Rattle.dataflow.proofs.Unions.{or-between, differ-self, cond-or}
 
 -- The rows that edges carry
@@ -85,7 +87,7 @@ sent-none {ws = ws} {n = n} {w = w} = record {
 }
 
 -- one edge
-module _ {f : Flow} {ws vs : List ℕ} {n w i : ℕ} {from : Bool → ℕ} {queue r : Queue} (x : Edge) (sources : Sources n w from) (p : Pushed ws vs n w queue (from (x .continues)) (number f (x .to)) r) where
+module _ (f : Flow) {ws vs : List ℕ} {n w : ℕ} {from : Bool → ℕ} {queue r : Queue} (x : Edge) (sources : Sources n w from) (p : Pushed ws vs n w queue (from (x .continues)) (number f (x .to)) r) where
   one-mask : (t a : ℕ) → t < 2 * n → a < 64 * w → masksAt vs n w t a ≡ bitOr (masksAt ws n w t a) (carried f ws w from (x ∷ []) t a)
   unfolding carried
   one-mask t a l m = at (ℕ-discrete t (number f (x .to))) ∙ ap (bitOr (masksAt ws n w t a)) (sym (or-zero-r (cond (eqb (number f (x .to)) t) (maskAt ws w (from (x .continues)) a) 0)))
@@ -108,7 +110,7 @@ module _ {f : Flow} {ws vs : List ℕ} {n w i : ℕ} {from : Bool → ℕ} {queu
           ∙ sym (ap (λ (b : Bool). cond b 0 (getD ws (settledAt n w t) 0))
           (differ-as (64 * w) (masksAt vs n w t) (masksAt ws n w t) (masksAt ws n w t) (masksAt ws n w t) (λ a m. p .others t a l ne m) (λ a m. refl) ∙ differ-self (64 * w) (masksAt ws n w t)))
 
-  pub sent-one : Sent f ws vs n w from queue i (x ∷ []) r
+  pub sent-one : {i : ℕ} → Sent f ws vs n w from queue i (x ∷ []) r
   unfolding enqueue
   sent-one = record {
     waits = p .waits;
@@ -117,6 +119,29 @@ module _ {f : Flow} {ws vs : List ℕ} {n w i : ℕ} {from : Bool → ℕ} {queu
     source = sources-stay from (x .continues) sources p;
     keeps = p .keeps;
   }
+
+-- by the places and numbers that were found
+pub sent-edge : {f : Flow} {ws vs : List ℕ} {n w i row t : ℕ} {from : Bool → ℕ} {queue r : Queue} (x : Edge) → size f ≡ n → Sources n w from → row ≡ from (x .continues) → t ≡ numberIn n (x .to)
+    → Pushed ws vs n w queue row t r → Sent f ws vs n w from queue i (x ∷ []) r
+sent-edge {f} {ws} {vs} {n} {w} {i} {row} {t} {from} {queue} {r} x z sources e d p =
+    sent-one f x sources
+    (subst (λ (y : ℕ). Pushed ws vs n w queue (from (x .continues)) y r) (d ∙ ap (λ (m : ℕ). numberIn m (x .to)) (sym z)) (subst (λ (y : ℕ). Pushed ws vs n w queue y t r) e p))
+
+pub sources-one : (n w from : ℕ) → Source n w from → Sources n w (λ b. from)
+sources-one n w from (inl s) = inl (λ b. s)
+sources-one n w from (inr s) = inr (s .0, s .1, λ b. s .2)
+
+pub sources-call : (n w : ℕ) → Sources n w (edgeRow n w)
+sources-call n w = inl at
+  where
+    at : (b : Bool) → (outRow n w ≤ edgeRow n w b) × (edgeRow n w b + 3 * w ≤ maskRowAt n w 0)
+    at true = (omega arith, row-first n w)
+    at false = (omega arith, let first = row-first n w in omega arith)
+
+-- the numbers of copies
+pub copy-below : (n : ℕ) (b : Base) {j : ℕ} → j < n → numberIn n (at b j) < 2 * n
+copy-below n Zero l = omega arith
+copy-below n N l = omega arith
 
 -- some edges, and then others
 module _ {f : Flow} {ws us vs : List ℕ} {n w i : ℕ} {from : Bool → ℕ} {first queue r : Queue} {xs ys : List Edge} (s : Sent f ws us n w from first i xs queue) (p : Sent f us vs n w from queue i ys r) where
@@ -137,7 +162,7 @@ module _ {f : Flow} {ws us vs : List ℕ} {n w i : ℕ} {from : Bool → ℕ} {f
       ∙ cond-or (differ (64 * w) (masksAt us n w t) (masksAt ws n w t)) (differ (64 * w) (masksAt vs n w t) (masksAt us n w t)) 0 (getD ws (settledAt n w t) 0)
       ∙ sym (ap (λ (b : Bool). cond b 0 (getD ws (settledAt n w t) 0))
       (differ-chain (64 * w) (masksAt ws n w t) (masksAt us n w t) (masksAt vs n w t) (λ a m.
-          or-between (masksAt ws n w t a) (masksAt us n w t a) (masksAt vs n w t a) (held (masksAt ws n w t a) _ _ (s .masks t a l m)) (held (masksAt us n w t a) _ _ (p .masks t a l m)))))
+      or-between (masksAt ws n w t a) (masksAt us n w t a) (masksAt vs n w t a) (held (masksAt ws n w t a) _ _ (s .masks t a l m)) (held (masksAt us n w t a) _ _ (p .masks t a l m)))))
 
   pub sent-append : Sent f ws vs n w from first i (xs ++ ys) r
   sent-append = record {
@@ -162,16 +187,15 @@ module _ {f : Flow} {ws : List ℕ} {n w i : ℕ} {from : Bool → ℕ} {first :
   sending-none = record { done = []; sent = sent-none; rest = refl }
 
   module _ {vs : List ℕ} {queue : Queue} {left : List Edge} (s : Sending f ws vs n w from first i all queue left) where
+    pub sending-on : {us : List ℕ} {r : Queue} {xs next : List Edge} → left ≡ xs ++ next → Sent f vs us n w from queue i xs r → Sending f ws us n w from first i all r next
+    sending-on {xs = xs} {next = next} e p = record {
+      done = s .done ++ xs;
+      sent = sent-append (s .sent) p;
+      rest = append-assoc (s .done) xs next ∙ sym (ap (λ (ys : List Edge). s .done ++ ys) e) ∙ s .rest;
+    }
+
     pub sending-skip : {next : List Edge} → left ≡ next → Sending f ws vs n w from first i all queue next
     sending-skip e = subst (λ (xs : List Edge). Sending f ws vs n w from first i all queue xs) e s
-
-    pub sending-more : {us : List ℕ} {r : Queue} {next : List Edge} (x : Edge) → Sources n w from → left ≡ x ∷ next → Pushed vs us n w queue (from (x .continues)) (number f (x .to)) r
-        → Sending f ws us n w from first i all r next
-    sending-more {next = next} x sources e p = record {
-      done = s .done ++ (x ∷ []);
-      sent = sent-append (s .sent) (sent-one x sources p);
-      rest = append-assoc (s .done) (x ∷ []) next ∙ sym (ap (λ (xs : List Edge). s .done ++ xs) e) ∙ s .rest;
-    }
 
     pub sending-all : left ≡ [] → Sent f ws vs n w from first i all queue
     sending-all e =

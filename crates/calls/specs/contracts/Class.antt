@@ -9,6 +9,7 @@ use Rattle.words.specs.contracts.Row.{has}
 use Rattle.flow.specs.Flow.{Flow, size}
 use Rattle.theory.specs.Lists.{elem}
 use Rattle.theory.specs.Body.{kind, successors, callLines, continuationOf, entered}
+use Rattle.statements.specs.contracts.Layout.{rowAt}
 use Rattle.calls.specs.declared.edges.Call.{Call}
 use Rattle.calls.specs.contracts.Slots.{byKind}
 
@@ -20,5 +21,6 @@ pub record CallOf (f : Flow) (ws : List ℕ) (i : ℕ) (x : Call) : Type 0 where
   pub continues : continuationOf (kind f i) ≡ some (x .continuation .0)
   pub lines : x .lines ≡ length (callLines (kind f i))
   pub successors : x .successors ≡ length (successors f i)
+  pub place : x .row ≡ rowAt (size f) i
   pub room : x .row + (size f + 63) / 64 ≤ length ws
   pub entered : (j : ℕ) → j < size f → has ws (x .row) j ≡ cond (elem j (entered f i)) 1 0

@@ -21,12 +21,20 @@ ifEntered back none = none
 ifEntered back (some e) = some (edgeTo back (at N e))
 
 -- the successors of a call with the continuation k, less those that are entered and the continuation
+
+abbrev pub otherSlot : Flow → Base → ℕ → ℕ → ℕ → Option Edge
+otherSlot f b i k j = cond (not (elem j (entered f i) || eqb j k)) (some (edgeTo (at b k) (at b j))) none
+
 unfoldable pub otherSlots : Flow → Base → ℕ → ℕ → List (Option Edge)
-otherSlots f b i k = map (λ j. cond (not (elem j (entered f i) || eqb j k)) (some (edgeTo (at b k) (at b j))) none) (successors f i)
+otherSlots f b i k = map (otherSlot f b i k) (successors f i)
 
 -- the statements that its lines enter
+
+abbrev pub lineSlot : Flow → Base → ℕ → ℕ → Option Edge
+lineSlot f b k l = ifEntered (at b k) (enters f l)
+
 unfoldable pub lineSlots : Flow → Base → ℕ → ℕ → List (Option Edge)
-lineSlots f b i k = map (λ l. ifEntered (at b k) (enters f l)) (callLines (kind f i))
+lineSlots f b i k = map (lineSlot f b k) (callLines (kind f i))
 
 -- a call that is not opaque, with the continuation k
 unfoldable pub callSlots : Flow → Base → ℕ → ℕ → List (Option Edge)

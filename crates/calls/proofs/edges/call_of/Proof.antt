@@ -23,7 +23,7 @@ row-requires : tie.Need-row-requires
 row-requires c κs = let s = c .before .before .before .before .before in (ready-most (s .pre .0), s .pre .2)
 
 returns : tie.Need-returns
-returns c = 
+returns c =
     let s = c .before .before .before .before .before .before in
     let f = flowOf (now (s .args .file)) in
     call-row (ready-size (s .pre .0)) (s .pre .1) (s .pre .2) (row-room (s .pre .0) (s .pre .2)) (c .before .before .before .continuation-of .ensures) (call-says f (s .args .i .0) (s .pre .4) .2)

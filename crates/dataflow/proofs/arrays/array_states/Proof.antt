@@ -18,7 +18,7 @@ use Rattle.statements.proofs.WellFormed.{well-formed, arrays-is, entry-is}
 use lib.Dec.{ltb}
 use Rattle.masks.specs.declared.Effect.the-variants.{Reset}
 use Rattle.solve.specs.contracts.Layout.{setRow, outRow, maskRowAt, areaEnd}
-use Rattle.solve.proofs.Room.{row-from, solver-room}
+use Rattle.solve.proofs.Room.{nodes-within, solver-room}
 use Rattle.dataflow.specs.contracts.Transfer.{RowSteps}
 use Rattle.dataflow.specs.contracts.Solving.{Unused, RuleResult}
 use Rattle.dataflow.proofs.Sets.{steps-at, entry-apart}
@@ -110,9 +110,10 @@ enqueue-requires c κs =
     let m = c .before .before .before .before .before .before .before .before in
     let n : ℕ = s .args .h .statements in
     let room = solver-room (s .pre .0 .ready) (s .pre .2) (narrow (c .before .before .before .before .before .before .before .before .before)) in
-    let low = row-from n (c .before .before .before .before .before .before .before .before .before .set-words .result) (2 * n) in
+    let end = nodes-within n (c .before .before .before .before .before .before .before .before .before .set-words .result) in
     let size = c .before .before .before .reset-row .ensures .size in (
       ready-most (s .pre .0 .ready),
+      narrow (c .before .before .before .before .before .before .before .before .before),
       omega arith,
       omega (arith, below m),
       (

@@ -36,7 +36,7 @@ same-length : tie.Need-same-length
 same-length c = search needs
 
 returns : tie.Need-returns
-returns c = 
+returns c =
     let s = c .before .before .before .before .before .before .before .before in
     let u = union-at (c .before .before .before .before .before .mask-row .ensures) (c .before .if1 .taken) (c .before .before .before .before .union .ensures) in
     let us : List ℕ = c .before .before .before .before .union .last .0 in
@@ -47,7 +47,7 @@ same-length-2 : tie.Need-same-length-2
 same-length-2 c = search needs
 
 returns-2 : tie.Need-returns-2
-returns-2 c = 
+returns-2 c =
     let s = c .before .before .before .before .before .before .before in
     let u = union-at (c .before .before .before .before .mask-row .ensures) (c .if1 .left) (c .before .before .before .union .ensures) in
     grown-not (now (s .args .work)) (s .args .n) (s .args .width) (s .args .from) (s .args .d .0) (s .pre .2) (s .pre .3) (s .pre .4) (λ i. c .before .before .before .before .before .before .slice-known .given i .fits) u
