@@ -1,5 +1,5 @@
--- `note_bodies` meets its contract: the row of entered statements is zeroed, the bodies' walks join it, and its RETURNs go to k.
--- By the laws of `Adds` and `Joins`. Assumes nothing.
+-- `note_bodies` meets its contract: the row of entered statements is zeroed, the bodies' walks join it, and its RETURNs go to k. The row of RETURNs stays.
+-- By the laws of `Adds` and `Gains`. Assumes nothing.
 use Prim.Native.Nat.{ℕ, _+_, _≤_}
 use mathlib.Core.Bool.{true}
 use mathlib.Core.Path.{subst}
@@ -12,11 +12,12 @@ use Rattle.theory.specs.Body.{entered}
 use Rattle.statements.specs.contracts.Layout.{rowWords, enteredRowAt, solverAt}
 use Rattle.statements.specs.contracts.Ready.{Keeps}
 use Rattle.statements.proofs.WorkArea.{row-from, row-words-le}
-use Rattle.statements.proofs.Keeps.{keeps-trans, keeps-widen, indexed-keeps, ready-keeps, ready-most, ready-room, ready-formed, ready-size}
+use Rattle.statements.proofs.Keeps.{keeps-trans, keeps-widen, indexed-keeps, ready-most, ready-room, ready-formed, ready-size}
 use Rattle.calls.specs.contracts.Held.{Empty}
 use Rattle.calls.specs.contracts.Joins.{Adds, bodiesOf}
-use Rattle.calls.proofs.Joined.{joins-after}
+use Rattle.calls.proofs.Joined.{gains-after}
 use Rattle.calls.proofs.Gathered.{rows-stay, bodies-noted}
+use Rattle.calls.proofs.ReturnSet.{return-set-stays}
 use Rattle.calls.proofs.returns.note_bodies.Statement.{statement}
 use Rattle.calls.proofs.returns.note_bodies.Tie as tie
 
@@ -60,8 +61,8 @@ note-members-requires : tie.Need-note-members-requires
 note-members-requires c κs =
     let d = c .before .before .before in
     let start = row d .before .before .before in
-    let n = start .args .h .statements in
-    (ready-keeps (start .pre .0 .ready) (kept d) (omega (arith, row-from n n)), start .pre .2)
+    let r = start .pre .0 .ready in
+    (record { few = ready-most r; room = omega (arith, r .room, kept d .size) }, start .pre .2)
 
 same-length : tie.Need-same-length
 same-length c = search needs
@@ -74,9 +75,9 @@ returns c =
     let n = a .h .statements in
     let us = d .before .before .before .before .zero-row .last .0 in
     let e = row d .entered-row .ensures in
-    joins-after (kept d)
-    (bodies-noted f (a .k .0) (entered f (a .c .0)) (subst (λ (x : ℕ). Empty us n x) e (d .before .before .before .before .zero-row .ensures .0))
-    (subst (λ (x : ℕ). Adds x us (d .add-lines .last .1 .1 .0) n (bodiesOf f true (entered f (a .c .0)))) e (d .add-lines .ensures)) (c .before .before .note-members .ensures))
+    bodies-noted f (a .k .0) (entered f (a .c .0)) (subst (λ (x : ℕ). Empty us n x) e (d .before .before .before .before .zero-row .ensures .0))
+    (subst (λ (x : ℕ). Adds x us (d .add-lines .last .1 .1 .0) n (bodiesOf f true (entered f (a .c .0)))) e (d .add-lines .ensures))
+    (return-set-stays (kept d) (omega arith) (row d .before .before .before .pre .4)) (gains-after (kept d) (omega arith) (c .before .before .note-members .ensures))
 
 pub note-bodies-spec : {M : Type 1} → statement M
 note-bodies-spec =
