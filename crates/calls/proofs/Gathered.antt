@@ -1,6 +1,6 @@
 -- Where the RETURNs of a call's bodies go, gathered member by member of the row that the walks were joined in, and call by call.
 -- Each step adds what its part gives, so that the whole is what the definitions say.
-use Prim.Native.Nat.{ℕ, zero, suc, _+_, _≤_, _<_, min, max}
+use Prim.Native.Nat.{ℕ, _+_, _≤_, _<_, min, max}
 use mathlib.Core.Bool.{Bool, true, false, cond, not, _&&_, _||_, or-false, and-comm, and-false}
 use mathlib.Core.List.{List, [], _∷_, _++_, append-nil}
 use mathlib.Core.Option.{Option, none, some}
@@ -12,7 +12,7 @@ use lib.Dec.{eqb, ltb}
 use lib.ListN.{length, getD}
 use Rattle.words.specs.contracts.Row as row
 use Rattle.words.specs.contracts.Row.{nextMember, First}
-use Rattle.words.specs.contracts.Change.{Inserted, intersected}
+use Rattle.words.specs.contracts.Change.{Inserted, ReadFirst, intersected}
 use Rattle.words.proofs.Row.{has-lt}
 use Rattle.words.proofs.Intersected.{intersected-has}
 use Rattle.words.proofs.NextMember.{first}
@@ -27,10 +27,10 @@ use Rattle.theory.proofs.Body.{entered-below, walked-sound, walked-complete}
 use Rattle.statements.specs.contracts.Layout.{callsAt, callTouchedAt, matrixAt, rowAt, rowWords, queueAt, enteredRowAt, solverAt, returnsRowAt}
 use Rattle.statements.specs.contracts.Ready.{Keeps, MembersWord}
 use Rattle.statements.proofs.WorkArea.{row-holds, row-words-le}
-use Rattle.statements.proofs.Keeps.{keeps-has, keeps-intersected}
+use Rattle.statements.proofs.Keeps.{keeps-trans, keeps-has, keeps-intersected}
 use Rattle.statements.proofs.Members.{first-as, members-none, members-next}
 use Rattle.calls.specs.contracts.Held.{WalkRow, Empty, CallSummaries, Summarized, Linked, transparent, opaque}
-use Rattle.calls.specs.contracts.Joins.{Joins, Gains, Adds, Notes, Summary, BodyRows, ReturnSet, isEntered, inBoth, bodyOf, bodiesOf, fromBodies}
+use Rattle.calls.specs.contracts.Joins.{Joins, Gains, Gathers, Adds, Notes, Summary, BodyRows, ReturnSet, isEntered, bodyOf, bodiesOf, fromBodies}
 use Rattle.calls.proofs.Joined.{joins-none, joins-then, joins-same, gains-none, gains-same, gains-more, gains-after, gains-joins, row-stays, adds-same, adds-all}
 use Rattle.calls.proofs.Summing.{walk-low, walk-kept}
 use Rattle.calls.proofs.BodySummary.{return-stays, return-ordinary}
@@ -69,33 +69,9 @@ module _ {ws₀ : List ℕ} {n : ℕ} (k : ℕ) where
       found : First ws₀ (enteredRowAt n) (r + 1) n (nextMember vs (enteredRowAt n) (r + 1) n)
       found = first-as (first vs (enteredRowAt n) (r + 1) n (omega arith)) (λ j l. keeps-has (more .kept) (enteredRowAt n) j (λ a b. omega arith))
 
-noting-done : {ws₀ ws : List ℕ} {n k r : ℕ} → Noting ws₀ ws n k r → n ≤ r → Gains ws₀ ws n (queueAt n) (isEntered ws₀ n) k
+pub noting-done : {ws₀ ws : List ℕ} {n k r : ℕ} → Noting ws₀ ws n k r → n ≤ r → Gains ws₀ ws n (queueAt n) (isEntered ws₀ n) k
 noting-done {ws₀ = ws₀} {n = n} {r = r} inv l =
     gains-same (inv .gains) (λ s ls. ap (λ (t : Bool). t && isEntered ws₀ n s) (lt-ltb s r (omega arith)))
-
--- a member of two rows, as a test
-both-members : (a b : ℕ) → a < 2 → b < 2 → eqb (min a b) 1 ≡ (eqb a 1 && eqb b 1)
-both-members zero b la lb = let least : min 0 b ≡ 0 = omega arith in ap (λ (x : ℕ). eqb x 1) least
-both-members (suc a) b la lb =
-    let one : suc a ≡ 1 = omega arith in
-    let least : min (suc a) b ≡ b = omega arith in
-    ap (λ (x : ℕ). eqb x 1) least ∙ sym (ap (λ (x : ℕ). eqb x 1 && eqb b 1) one)
-
--- where the row had first lost what is no RETURN, the rows of those that both rows had gain k
-module _ (ws : List ℕ) {us : List ℕ} (n : ℕ) (cut : us ≡ intersected ws (enteredRowAt n) (returnsRowAt n) (rowWords n)) (room : solverAt n ≤ length ws) where
-  members-cut : (s : ℕ) → s < n → isEntered us n s ≡ inBoth ws n s
-  members-cut s l =
-      let place : ℕ = enteredRowAt n in
-      ap (λ (x : ℕ). eqb x 1)
-      (ap (λ (xs : List ℕ). row.has xs place s) cut
-      ∙ intersected-has ws place (returnsRowAt n) (rowWords n) (omega (arith, row-words-le n)) (λ i j a b e. omega (arith, row-words-le n)) s (omega (arith, row-holds n)))
-      ∙ both-members (row.has ws place s) (row.has ws (returnsRowAt n) s) (has-lt ws place s) (has-lt ws (returnsRowAt n) s)
-
-  pub members-noted : {vs : List ℕ} {k r : ℕ} → Noting us vs n k r → n ≤ r → Gains ws vs n (solverAt n) (inBoth ws n) k
-  members-noted inv l = gains-same (gains-after kept (omega arith) (noting-done inv l)) members-cut
-    where
-      kept : Keeps (enteredRowAt n) (solverAt n) ws us
-      kept = subst (λ (xs : List ℕ). Keeps (enteredRowAt n) (solverAt n) ws xs) (sym cut) (keeps-intersected ws (enteredRowAt n) (returnsRowAt n) (rowWords n) (omega arith) (omega (arith, row-words-le n)))
 
 -- A body's walk
 
@@ -158,13 +134,42 @@ module _ (f : Flow) where
   elem-walks s [] = refl
   elem-walks s (b ∷ bs) = elem-append s (walked f b) (bodiesOf f true bs) ∙ ap (λ (t : Bool). elem s (walked f b) || t) (elem-walks s bs)
 
-  -- once the row has the bodies' walks and no more, its RETURNs are those of the bodies
-  pub bodies-noted : {ws₀ ws us vs : List ℕ} {n hi : ℕ} (k : ℕ) (bs : List ℕ) → Empty ws n (enteredRowAt n) → Adds (enteredRowAt n) ws us n (bodiesOf f true bs)
-      → ReturnSet f us n → Gains ws₀ vs n hi (inBoth us n) k → Joins f ws₀ vs n hi (fromBodies f bs k)
-  bodies-noted k bs empty a rs g =
-      gains-joins (λ s. any (λ e. elem s (walked f e)) bs) g
-      (λ s l. ap₂ _&&_ (ap (λ (x : ℕ). eqb x 1) (adds-all empty a s l) ∙ says-one (elem s (bodiesOf f true bs)) ∙ elem-walks s bs)
-      (ap (λ (x : ℕ). eqb x 1) (rs .holds s l) ∙ says-one (isReturn (kind f s))))
+  -- the row of entered statements becomes what a row that has the bodies' walks, and no more, shares with that of RETURNs
+  pub gathers : {ws us vs : List ℕ} (n at : ℕ) (bs : List ℕ) → Keeps (enteredRowAt n) (solverAt n) ws us → ReturnSet f us n → solverAt n ≤ length us
+      → ReadFirst (enteredRowAt n) at (rowWords n) → vs ≡ intersected us (enteredRowAt n) at (returnsRowAt n) (rowWords n)
+      → ((s : ℕ) → s < n → row.has us at s ≡ cond (any (λ e. elem s (walked f e)) bs) 1 0) → Gathers f ws vs n bs
+  gathers {ws} {us} {vs} n at bs kept rs room apart cut has = record {
+    kept = keeps-trans kept (subst (λ (xs : List ℕ). Keeps (enteredRowAt n) (solverAt n) us xs) (sym cut) (keeps-intersected us (enteredRowAt n) at (returnsRowAt n) (rowWords n) (omega arith) inside));
+    holds = λ s l.
+        ap (λ (xs : List ℕ). row.has xs (enteredRowAt n) s) cut
+        ∙ intersected-has us (enteredRowAt n) at (returnsRowAt n) (rowWords n) (omega (arith, inside)) apart (λ i j a b e. omega (arith, inside)) s (omega (arith, row-holds n))
+        ∙ ap₂ min (has s l) (rs .holds s l) ∙ both (any (λ e. elem s (walked f e)) bs) (isReturn (kind f s));
+  }
+    where
+      inside : enteredRowAt n + rowWords n ≤ solverAt n
+      inside = omega (arith, row-words-le n)
+
+      both : (a b : Bool) → min (cond a 1 0) (cond b 1 0) ≡ cond (a && b) 1 0
+      both true true = omega arith
+      both true false = omega arith
+      both false b = omega arith
+
+  -- from the row of a body's walk, and line by line
+
+  pub body-gathered : {ws : List ℕ} {n b : ℕ} → WellFormed f → size f ≡ n → b < n → WalkRow f ws n b → (s : ℕ) → s < n → row.has ws (rowAt n b) s ≡ cond (any (λ e. elem s (walked f e)) (b ∷ [])) 1 0
+  unfolding any
+  body-gathered {b = b} w z lb r s l = row-walked w z lb r s l ∙ ap (λ (t : Bool). cond t 1 0) (sym (or-false (elem s (walked f b))))
+
+  pub lines-gathered : {ws us : List ℕ} {n : ℕ} (bs : List ℕ) → Empty ws n (enteredRowAt n) → Adds (enteredRowAt n) ws us n (bodiesOf f true bs)
+      → (s : ℕ) → s < n → row.has us (enteredRowAt n) s ≡ cond (any (λ e. elem s (walked f e)) bs) 1 0
+  lines-gathered bs empty a s l = adds-all empty a s l ∙ ap (λ (t : Bool). cond t 1 0) (elem-walks s bs)
+
+  -- its members, which are the RETURNs of the bodies, go to k
+  pub bodies-noted : {ws us vs : List ℕ} {n : ℕ} (k : ℕ) (bs : List ℕ) → Gathers f ws us n bs → Gains us vs n (queueAt n) (isEntered us n) k
+      → Joins f ws vs n (solverAt n) (fromBodies f bs k)
+  bodies-noted k bs g gains =
+      let walks : ℕ → Bool = λ s. any (λ e. elem s (walked f e)) bs in
+      gains-joins walks (gains-after (g .kept) (omega arith) gains) (λ s l. ap (λ (x : ℕ). eqb x 1) (g .holds s l) ∙ says-one (walks s && isReturn (kind f s)))
 
 -- Call by call
 

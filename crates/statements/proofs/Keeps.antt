@@ -86,9 +86,9 @@ module _ (ws : List ℕ) {lo hi : ℕ} where
   unfolding unioned
   keeps-unioned to from width l h = keeps-rewritten _ to width l h
 
-  pub keeps-intersected : (to other width : ℕ) → lo ≤ to → to + width ≤ hi → Keeps lo hi ws (intersected ws to other width)
+  pub keeps-intersected : (to a b width : ℕ) → lo ≤ to → to + width ≤ hi → Keeps lo hi ws (intersected ws to a b width)
   unfolding intersected
-  keeps-intersected to other width l h = keeps-rewritten _ to width l h
+  keeps-intersected to a b width l h = keeps-rewritten _ to width l h
 
   pub keeps-zeroed : (base width : ℕ) → lo ≤ base → base + width ≤ hi → Keeps lo hi ws (zeroed ws base width)
   unfolding zeroed

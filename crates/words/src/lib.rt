@@ -74,14 +74,14 @@ pub fn union(ws: &mut [u64], to: usize, from: usize, width: usize) -> bool
     grew
 }
 
-// The row at `to` keeps what the row at `other` has too, lowest word first.
-pub fn intersect(ws: &mut [u64], to: usize, other: usize, width: usize)
-    requires { ⌜ (to + width ≤ length (now ws)) × (other + width ≤ length (now ws)) ⌝ }
-    ensures { λ _. ⌜ now (ws .exit) ≡ intersected (now (ws .entry)) to other width ⌝ }
+// The row at `to` becomes what the rows at `a` and `b` share, lowest word first.
+pub fn intersect(ws: &mut [u64], to: usize, a: usize, b: usize, width: usize)
+    requires { ⌜ (to + width ≤ length (now ws)) × (a + width ≤ length (now ws)) × (b + width ≤ length (now ws)) ⌝ }
+    ensures { λ _. ⌜ now (ws .exit) ≡ intersected (now (ws .entry)) to a b width ⌝ }
 {
     let mut k = 0;
     while k < width {
-        ws[to + k] = ws[to + k] & ws[other + k];
+        ws[to + k] = ws[a + k] & ws[b + k];
         k += 1;
     }
 }

@@ -33,13 +33,13 @@ pub record Gains (ws vs : List ℕ) (n hi : ℕ) (p : ℕ → Bool) (k : ℕ) : 
   pub kept : Keeps (matrixAt n) hi ws vs
   pub rows : (r j : ℕ) → r < n → j < n → has vs (rowAt n r) j ≡ max (has ws (rowAt n r) j) (cond (p r && eqb j k) 1 0)
 
--- the row of entered statements has s, and so has that of RETURNs
-
 abbrev pub isEntered : List ℕ → ℕ → ℕ → Bool
 isEntered ws n s = eqb (has ws (enteredRowAt n) s) 1
 
-abbrev pub inBoth : List ℕ → ℕ → ℕ → Bool
-inBoth ws n s = isEntered ws n s && eqb (has ws (returnsRowAt n) s) 1
+-- vs is ws with the RETURNs on the walks of the bodies bs in the row of entered statements
+pub record Gathers (f : Flow) (ws vs : List ℕ) (n : ℕ) (bs : List ℕ) : Type 0 where
+  pub kept : Keeps (enteredRowAt n) (solverAt n) ws vs
+  pub holds : (s : ℕ) → s < n → has vs (enteredRowAt n) s ≡ cond (any (λ e. lists.elem s (walked f e)) bs && isReturn (kind f s)) 1 0
 
 -- the row of RETURNs has all of them and no more
 pub record ReturnSet (f : Flow) (ws : List ℕ) (n : ℕ) : Type 0 where

@@ -14,10 +14,10 @@ use Rattle.words.proofs.intersect.Statement.{statement}
 use Rattle.words.proofs.intersect.Tie as tie
 
 abbrev Inv-loop : tie.InvT-loop
-Inv-loop ws₀ to other width k₀ ws k = (k ≤ width) × (length ws ≡ length ws₀) × (ws ≡ intersected ws₀ to other k)
+Inv-loop ws₀ to a b width k₀ ws k = (k ≤ width) × (length ws ≡ length ws₀) × (ws ≡ intersected ws₀ to a b k)
 
 abbrev μ-loop : tie.MeasureT-loop
-μ-loop ws₀ to other width k₀ ws k = width - k
+μ-loop ws₀ to a b width k₀ ws k = width - k
 
 loop-holds : tie.Need-loop-holds Inv-loop μ-loop
 unfolding intersected rewritten
@@ -61,10 +61,10 @@ unfolding intersected rewritten
 loop-again c =
     let s = c .before .before .before .loop in
     let a = c .before .before .before .before .args in
-    let step : List ℕ → List ℕ = λ ws. set ws (a .to + s .k) (bitAnd (getD ws (a .to + s .k) 0) (getD ws (a .other + s .k) 0)) in (
+    let step : List ℕ → List ℕ = λ ws. set ws (a .to + s .k) (bitAnd (getD ws (a .a + s .k) 0) (getD ws (a .b + s .k) 0)) in (
       omega arith,
       length-set (s .ws) (a .to + s .k) _ ∙ s .inv .1,
-      ap step (s .inv .2) ∙ ap (intersected (now (a .ws)) (a .to) (a .other)) (sym (add-one (s .k))),
+      ap step (s .inv .2) ∙ ap (intersected (now (a .ws)) (a .to) (a .a) (a .b)) (sym (add-one (s .k))),
     )
 
 same-length : tie.Need-same-length Inv-loop μ-loop
@@ -73,7 +73,7 @@ same-length c = c .before .loop .inv .1
 returns : tie.Need-returns Inv-loop μ-loop
 returns c =
     let whole : c .before .loop .k ≡ c .before .before .args .width = omega arith in
-    c .before .loop .inv .2 ∙ ap (intersected _ _ _) whole
+    c .before .loop .inv .2 ∙ ap (intersected _ _ _ _) whole
 
 pub intersect-spec : {M : Type 1} → statement M
 intersect-spec =
