@@ -11,4 +11,5 @@ pub mod Joined
 pub mod Lines
 pub mod CallRows
 pub mod Gathered
+pub mod ReturnSet
 pub mod Next
