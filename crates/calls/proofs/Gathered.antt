@@ -11,6 +11,7 @@ use borrow.Author.Tests.{eqb-true, eq-eqb, lt-ltb}
 use lib.Dec.{eqb, ltb}
 use lib.ListN.{length, getD}
 use Rattle.words.specs.contracts.Row as row
+use Rattle.words.specs.contracts.Row.{has}
 use Rattle.words.specs.contracts.Row.{nextMember, First}
 use Rattle.words.specs.contracts.Change.{Inserted, ReadFirst, intersected}
 use Rattle.words.proofs.Row.{has-lt}
@@ -24,12 +25,12 @@ use Rattle.theory.specs.contracts.WellFormed.{WellFormed}
 use Rattle.theory.specs.Doubled.{returnsTo, isSome}
 use Rattle.theory.proofs.Lists.{clash, same-test, not-so, eqb-sym, says-one, any-append, In-elem, elem-In, elem-not, elem-append, concatMap-append}
 use Rattle.theory.proofs.Body.{entered-below, walked-sound, walked-complete}
-use Rattle.statements.specs.contracts.Layout.{callsAt, callTouchedAt, matrixAt, rowAt, rowWords, queueAt, enteredRowAt, solverAt, returnsRowAt}
+use Rattle.statements.specs.contracts.Layout.{callsAt, callTouchedAt, bodiesAt, matrixAt, rowAt, rowWords, queueAt, enteredRowAt, solverAt, returnsRowAt}
 use Rattle.statements.specs.contracts.Ready.{Keeps, MembersWord}
-use Rattle.statements.proofs.WorkArea.{row-holds, row-words-le}
+use Rattle.statements.proofs.WorkArea.{row-holds, row-words-le, row-from}
 use Rattle.statements.proofs.Keeps.{keeps-trans, keeps-has, keeps-intersected}
 use Rattle.statements.proofs.Members.{first-as, members-none, members-next}
-use Rattle.calls.specs.contracts.Held.{WalkRow, Empty, CallSummaries, Summarized, Linked, transparent, opaque}
+use Rattle.calls.specs.contracts.Held.{WalkRow, Empty, CallSummaries, Summarized, Leaders, Linked, transparent, opaque}
 use Rattle.calls.specs.contracts.Joins.{Joins, Gains, Gathers, Adds, Notes, Summary, BodyRows, ReturnSet, isEntered, bodyOf, bodiesOf, fromBodies}
 use Rattle.calls.proofs.Joined.{joins-none, joins-then, joins-same, gains-none, gains-same, gains-more, gains-after, gains-joins, row-stays, adds-same, adds-all}
 use Rattle.calls.proofs.Summing.{walk-low, walk-kept}
@@ -224,7 +225,7 @@ calling-on {f} {c = c} inv l js = record {
 
 -- what the calls' summaries say stays
 
-pub summaries-kept : {f : Flow} {ws vs : List ℕ} {n lo hi : ℕ} → matrixAt n ≤ lo → Keeps lo hi ws vs → CallSummaries f ws n → CallSummaries f vs n
+pub summaries-kept : {f : Flow} {ws vs : List ℕ} {n lo hi : ℕ} → bodiesAt n ≤ lo → Keeps lo hi ws vs → CallSummaries f ws n → CallSummaries f vs n
 summaries-kept {f} {ws} {vs} {n} m k s = record {
   ordinary = λ c l e. same c l ∙ s .ordinary c l e;
   call = λ c j l e. same c l ∙ s .call c j l e;
@@ -241,17 +242,23 @@ summary-kept {f} {n = n} {c = c} w z s js l = record {
   bodies = λ k e. rows-kept c w z js (λ b m other. s .walks c b l (rw e m) other);
 }
 
-pub linked : {f : Flow} {ws us vs : List ℕ} {n hi : ℕ} → size f ≡ n → Summarized f ws n → Joins f ws us n hi (λ r k. any (returnsTo f r k) (upTo n)) → Notes f us vs n 0 n → Linked f vs n
-linked {f} {ws} {us} {vs} {n} z s js ns = record {
-  calls = summaries-kept (omega arith) (ns .kept) (summaries-kept (omega arith) (js .kept) (s .calls));
-  bodies = λ c j l lj e. ns .noted c j (omega arith) l lj (sym (ns .kept .below (callsAt n + c) (omega arith)) ∙ e);
-  returns = λ r k lr lk is.
-      let goes : ℕ → ℕ = λ m. cond (any (returnsTo f r k) (upTo m)) 1 0 in
+-- the edges are known once the leaders are noted too, which writes words of the bodies only
+pub linked : {f : Flow} {ws us vs ts : List ℕ} {n hi : ℕ} → size f ≡ n → Summarized f ws n → Joins f ws us n hi (λ r k. any (returnsTo f r k) (upTo n)) → Notes f us vs n 0 n
+    → Keeps (bodiesAt n) (matrixAt n) vs ts → Leaders f ts n → Linked f ts n
+linked {f} {ws} {us} {vs} {ts} {n} z s js ns k ls = record {
+  calls = summaries-kept (omega arith) k (summaries-kept (omega arith) (ns .kept) (summaries-kept (omega arith) (js .kept) (s .calls)));
+  bodies = λ c j l lj e. row c j ∙ ns .noted c j (omega arith) l lj (sym (k .below (callsAt n + c) (omega arith) ∙ ns .kept .below (callsAt n + c) (omega arith)) ∙ e);
+  returns = λ r j lr lj is.
+      let goes : ℕ → ℕ = λ m. cond (any (returnsTo f r j) (upTo m)) 1 0 in
       let only : max 0 (goes n) ≡ goes n = omega arith in
-      ns .others r k lr lk (λ a b e. no-call r lr is e)
-      ∙ js .joined r k lr lk is ∙ ap (λ (x : ℕ). max x (goes n)) (s .free r lr is k lk) ∙ only ∙ ap goes (sym z);
+      row r j ∙ ns .others r j lr lj (λ a b e. no-call r lr is e)
+      ∙ js .joined r j lr lj is ∙ ap (λ (x : ℕ). max x (goes n)) (s .free r lr is j lj) ∙ only ∙ ap goes (sym z);
+  leaders = ls;
 }
   where
+    row : (e j : ℕ) → has ts (rowAt n e) j ≡ has vs (rowAt n e) j
+    row e j = keeps-has k (rowAt n e) j (λ a b. omega (arith, row-from n e))
+
     -- a RETURN is no transparent call
     no-call : (r : ℕ) → r < n → isReturn (kind f r) ≡ true → getD us (callsAt n + r) 0 ≡ transparent → ⊥
     no-call r l is e = omega (arith, e, js .kept .below (callsAt n + r) (omega arith), s .calls .ordinary r l (return-ordinary (kind f r) is))

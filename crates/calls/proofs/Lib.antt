@@ -12,4 +12,5 @@ pub mod Lines
 pub mod CallRows
 pub mod Gathered
 pub mod ReturnSet
+pub mod Leading
 pub mod Next

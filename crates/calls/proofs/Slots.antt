@@ -42,7 +42,7 @@ present-select {A} p g (x ∷ l) = go (p x) (present-select p g l)
     go true e = ap (λ (es : List Edge). g x ∷ es) e
     go false e = e
 
-present-entered : (f : Flow) (back : Node) (ls : List ℕ)
+pub present-entered : (f : Flow) (back : Node) (ls : List ℕ)
     → present (map (λ l. ifEntered back (enters f l)) ls) ≡ map (edgeTo back) (map (at N) (concatMap (λ l. optionList (enters f l)) ls))
 unfolding present concatMap optionList
 present-entered f back [] = refl

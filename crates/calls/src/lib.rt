@@ -10,6 +10,7 @@ pub const TRANSPARENT: u64 = 2;
 pub const OPAQUE: u64 = 3;
 
 pub mod edges;
+pub mod leaders;
 pub mod returns;
 mod rows;
 pub mod summary;

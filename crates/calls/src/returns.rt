@@ -6,11 +6,12 @@ ghost use Prim.Native.Nat.{_+_, _<_};
 ghost use Rattle.flow.specs.Format.{flowOf};
 ghost use Rattle.theory.specs.Body.{entered};
 ghost use Rattle.theory.specs.Doubled.{returnsTo};
-ghost use Rattle.statements.specs.contracts.Layout.{rowWords, matrixAt, queueAt, solverAt, returnsRowAt};
+ghost use Rattle.statements.specs.contracts.Layout.{rowWords, bodiesAt, queueAt, solverAt, returnsRowAt};
 ghost use Rattle.statements.specs.contracts.Ready.{Ready, Indexed, Keeps};
 ghost use Rattle.calls.specs.contracts.Held.{Area, Summarized, Linked};
 ghost use Rattle.calls.specs.contracts.Joins.{Joins, Gains, Gathers, Adds, Summary, BodyRows, ReturnSet, ifReturn, isEntered, fromBodies};
 use crate::OPAQUE;
+use crate::leaders;
 use crate::rows;
 use flow::StmtId;
 use statements::fields;
@@ -114,11 +115,11 @@ fn note_call(file: &[u8], h: flow::Header, work: &mut [u64], c: StmtId)
 }
 
 // Notes what the edges are made from: first where each RETURN goes, then, since no walk is needed any more, in the row of each call that is not
-// opaque the statements that it enters.
+// opaque the statements that it enters, and which RETURNs go to the same continuations.
 pub fn note_edges(file: &[u8], h: flow::Header, work: &mut [u64])
     requires { ⌜ Indexed (now file) h (now work) × Summarized (flowOf (now file)) (now work) (h .statements) ⌝ }
     ensures { λ _. ⌜ Linked (flowOf (now (file .entry))) (now (work .exit)) (h .statements) ⌝ }
-    ensures { λ _. ⌜ Keeps (matrixAt (h .statements)) (returnsRowAt (h .statements) + rowWords (h .statements)) (now (work .entry)) (now (work .exit)) ⌝ }
+    ensures { λ _. ⌜ Keeps (bodiesAt (h .statements)) (returnsRowAt (h .statements) + rowWords (h .statements)) (now (work .entry)) (now (work .exit)) ⌝ }
 {
     let n = h.statements;
     note_returns(file, work, n);
@@ -128,4 +129,5 @@ pub fn note_edges(file: &[u8], h: flow::Header, work: &mut [u64])
         c += 1;
     }
     rows::note_rows(file, h, work);
+    leaders::note_leaders(file, work, n);
 }

@@ -2,7 +2,7 @@
 -- and the rows of the edges stay as they are on the way. A target that holds the row of its edge needs only to wait.
 use Prim.Native.Nat.{ℕ, _+_, _*_, _≤_, _<_}
 use mathlib.Core.Bool.{Bool, true, false, cond}
-use mathlib.Core.List.{List, [], _∷_, _++_, map, map-append, append-nil, append-assoc}
+use mathlib.Core.List.{List, [], _∷_, _++_, map, map-append, append-nil, append-assoc, List·Memᴰ·head, List·Memᴰ·tail}
 use mathlib.Core.Logic.{_≢_, _⊎_, inl, inr}
 use mathlib.Core.Path.{_≡_, refl, sym, ap, ap₂, subst, _∙_}
 use native.Mathlib.Decide.{ℕ-discrete}
@@ -14,7 +14,7 @@ use lib.ListN.{getD}
 use Rattle.flow.specs.declared.Base.{Base}
 use Rattle.flow.specs.declared.Base.the-variants.{Zero, N}
 use Rattle.flow.specs.Flow.{Flow, size}
-use Rattle.theory.specs.Lists.{differ}
+use Rattle.theory.specs.Lists.{In, differ}
 use Rattle.theory.specs.Queue.{Arc, join, enqueue}
 use Rattle.theory.specs.Doubled.{Edge, at, number, numberIn}
 use Rattle.theory.proofs.Push.{differ-chain}
@@ -26,11 +26,13 @@ use Rattle.calls.proofs.Slots.{or-assoc}
 use Rattle.solve.specs.declared.Queue.{Queue}
 use Rattle.solve.specs.contracts.Layout.{setRow, outRow, backRow, maskRowAt, settledAt, nodesEnd}
 use Rattle.solve.specs.contracts.Rows.{maskAt}
-use Rattle.solve.specs.contracts.Waiting.{Waits}
+use Rattle.solve.specs.contracts.Waiting.{Waits, Enqueued}
 use Rattle.solve.specs.contracts.Pushed.{masksAt, Source, Pushed}
 use Rattle.solve.proofs.Room.{row-first}
 use Rattle.solve.proofs.Masks.{mask-cong, differ-as}
-use Rattle.dataflow.specs.contracts.Sent.{edgeRow, Sources, carried, SettledSet, Sent}
+use Rattle.solve.proofs.Waiting.{rest-refl, waits-again}
+use Rattle.solve.proofs.Growing.{pushed}
+use Rattle.dataflow.specs.contracts.Sent.{edgeRow, Sources, carried, SettledSet, Sent, Held}
 use Rattle.dataflow.proofs.Unions.{or-between, differ-self, cond-or}
 
 -- The rows that edges carry
@@ -200,3 +202,27 @@ module _ {f : Flow} {ws : List ℕ} {n w i : ℕ} {from : Bool → ℕ} {first :
     pub sending-all : left ≡ [] → Sent f ws vs n w from first i all queue
     sending-all e =
         subst (λ (xs : List Edge). Sent f ws vs n w from first i xs queue) (sym (append-nil (s .done)) ∙ sym (ap (λ (xs : List Edge). s .done ++ xs) e) ∙ s .rest) (s .sent)
+
+-- A target that holds the row of its edge
+
+-- needs only to wait
+pub held-joined : {ws vs : List ℕ} {n w from d : ℕ} {queue r : Queue} → d < 2 * n → ((a : ℕ) → a < 64 * w → bitOr (masksAt ws n w d a) (maskAt ws w from a) ≡ masksAt ws n w d a)
+    → Enqueued ws vs n w queue d r → Pushed ws vs n w queue from d r
+held-joined {ws} {vs} {n} {w} {from} {d} {queue} {r} below holds y =
+    pushed below
+    (record {
+      masks = λ a l. sym (holds a l);
+      settled = sym (ap (λ (b : Bool). cond b 0 (getD ws (settledAt n w d) 0)) (differ-self (64 * w) (masksAt ws n w d)));
+      keeps = keeps-refl;
+    })
+    y
+
+-- and if it waits, nothing changes
+held-pushed : {ws : List ℕ} {n w from d : ℕ} {queue : Queue} → d < 2 * n → Held ws n w from d → Pushed ws ws n w queue from d queue
+held-pushed below h = held-joined below (h .masks) (record { waits = λ l k. waits-again k below (h .waits); kept = rest-refl })
+
+pub sent-held : {f : Flow} {ws : List ℕ} {n w i : ℕ} {from : Bool → ℕ} {queue : Queue} → Sources n w from → (xs : List Edge)
+    → ((x : Edge) → In x xs → (number f (x .to) < 2 * n) × Held ws n w (from (x .continues)) (number f (x .to))) → Sent f ws ws n w from queue i xs queue
+sent-held {f} sources [] h = sent-none
+sent-held {f} sources (x ∷ xs) h =
+    sent-append (sent-one f x sources (held-pushed (h x (List·Memᴰ·head refl) .0) (h x (List·Memᴰ·head refl) .1))) (sent-held sources xs (λ y m. h y (List·Memᴰ·tail m)))

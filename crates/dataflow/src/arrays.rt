@@ -4,11 +4,9 @@ ghost use mathlib.Core.Bool.{true, false};
 ghost use mathlib.Core.List.{List};
 ghost use mathlib.Core.Path.{_≡_};
 ghost use Prim.Native.Nat.{ℕ, _*_, _<_, _≤_};
-ghost use lib.Dec.{eqb};
 ghost use lib.ListN.{length, getD};
 ghost use Rattle.flow.specs.declared.Base.the-variants.{Zero};
 ghost use Rattle.flow.specs.Format.{flowOf};
-ghost use Rattle.flow.specs.Limits.{maxStatements};
 ghost use Rattle.theory.specs.Lists.{optionList};
 ghost use Rattle.theory.specs.Body.{kind, successors, callLines, isReturn};
 ghost use Rattle.theory.specs.Doubled as theory;
@@ -22,6 +20,7 @@ ghost use Rattle.solve.specs.contracts.Waiting.{Waits};
 ghost use Rattle.solve.specs.contracts.Pushed.{Source};
 ghost use Rattle.dataflow.specs.contracts.Sent.{edgeRow, Sent, Sends};
 ghost use Rattle.dataflow.specs.contracts.Solving.{Underway, VisitsFront, Unused, RuleResult};
+use crate::held;
 use crate::transfer;
 use calls::edges;
 use calls::edges::Call;
@@ -96,17 +95,6 @@ fn push_members(
     queue
 }
 
-// Where the row stands that a call sends to t, if it goes on at `back`.
-fn call_row(n: usize, width: usize, t: NodeId, back: NodeId) -> usize
-    requires { ⌜ (n ≤ maxStatements) × (width ≤ maxWidth) ⌝ }
-    ensures { λ r. ⌜ r ≡ edgeRow n width (eqb (t .0) (back .0)) ⌝ }
-{
-    if t.0 == back.0 {
-        return layout::back_row(n, width);
-    }
-    layout::out_row(n, width)
-}
-
 // The row of the call i goes to the statement that its line l enters, if any.
 fn push_line(
     file: &[u8],
@@ -127,14 +115,15 @@ fn push_line(
     match edges::line_entered(file, h, work, i, place, call, l) {
         LineEntry::At(b) => {
             let t = node(n, Base::N, b);
-            let from = call_row(n, width, t, node(n, base, call.continuation));
+            let from = held::call_row(n, width, t, node(n, base, call.continuation));
             push::push(work, n, width, queue, from, t)
         }
         LineEntry::Nothing => queue,
     }
 }
 
-fn push_lines(
+// The rows of the call i go to the statements that its lines enter, line by line in the order that the queue rule asks for.
+fn push_each_line(
     file: &[u8],
     h: flow::Header,
     work: &mut [u64],
@@ -156,6 +145,31 @@ fn push_lines(
         l += 1;
     }
     queue
+}
+
+// The same. Of a call that names several lines the statements that they enter are asked first, in the order of its row: mostly all of them wait and hold what the call
+// would send.
+fn push_lines(
+    file: &[u8],
+    h: flow::Header,
+    work: &mut [u64],
+    width: usize,
+    first: Queue,
+    base: Base,
+    i: StmtId,
+    place: usize,
+    call: Call,
+) -> Queue
+    requires { ⌜ (width ≤ maxWidth) × Indexed (now file) h (now work) × RecordOf (now file) (i .0) place × (i .0 < h .statements) × CallOf (flowOf (now file)) (now work) (i .0) call × ((l : List ℕ) × Waits (now work) (h .statements) width first l) ⌝ }
+    ensures { λ r. ⌜ Sent (flowOf (now (file .entry))) (now (work .entry)) (now (work .exit)) (h .statements) width (edgeRow (h .statements) width) first (i .0) (present (lineSlots (flowOf (now (file .entry))) base (i .0) (call .continuation .0))) r ⌝ }
+{
+    let n = h.statements;
+    if 1 < call.lines {
+        if held::all_hold(work, n, width, call.row, node(n, base, call.continuation)) {
+            return first;
+        }
+    }
+    push_each_line(file, h, work, width, first, base, i, place, call)
 }
 
 // The row of the call i goes to its successor j, unless that is entered or the continuation.

@@ -208,6 +208,14 @@ module _ {n w d : ℕ} {ws : List ℕ} {queue : Queue} {l : List ℕ} (h : Waits
     pub joined-kept : KeepsRest n w ws (set (set ws (queueAt n + wrapped (ringWords n) (queue .head + queue .len)) d) (waitsAt n w d) 1)
     joined-kept = rest-trans (slot-stored ws n w d slot-in) (flag-stored (set ws _ d) n w 1 b)
 
+-- a number that waits does not join again
+pub waits-again : {n w d : ℕ} {ws : List ℕ} {queue : Queue} {l : List ℕ} → Waits ws n w queue l → d < 2 * n → getD ws (waitsAt n w d) 0 ≡ 1 → Waits ws n w queue (join l d)
+waits-again {n} {w} {d} {ws} {queue} {l} h b e = at (elem d l) refl
+  where
+    at : (c : Bool) → elem d l ≡ c → Waits ws n w queue (join l d)
+    at true p = rw p h
+    at false p = absurd (omega (arith, e, h .flag d b ∙ ap (λ c. cond c 1 0) p))
+
 -- what is stored, at places that were computed
 pub enqueued : {n w d at b j : ℕ} {ws : List ℕ} {queue : Queue} → (l : List ℕ) × Waits ws n w queue l → d < 2 * n → nodesEnd n w ≤ length ws
     → at ≡ waitsAt n w d → b ≡ queueAt n → j ≡ wrapped (ringWords n) (queue .head + queue .len)

@@ -8,15 +8,17 @@ use mathlib.Core.Path.{_≡_}
 use lib.Bits.{bitOr}
 use lib.Dec.{eqb, ltb}
 use lib.ListN.{getD}
+use Rattle.words.specs.contracts.Row.{has}
+use Rattle.flow.specs.declared.Base.the-variants.{N}
 use Rattle.flow.specs.Flow.{Flow}
 use Rattle.theory.specs.Lists.{In, differ}
-use Rattle.theory.specs.Doubled.{Edge, node, number, edges, edgeEffects, doubled}
+use Rattle.theory.specs.Doubled.{Edge, at, node, number, numberIn, edges, edgeEffects, doubled}
 use Rattle.theory.specs.Queue.{enqueue, brings, stepAll}
 use Rattle.statements.specs.contracts.Layout.{queueAt}
 use Rattle.statements.specs.contracts.Ready.{Keeps}
 use Rattle.calls.specs.contracts.Slots.{toArc}
 use Rattle.solve.specs.declared.Queue.{Queue}
-use Rattle.solve.specs.contracts.Layout.{setRow, outRow, backRow, maskRowAt, settledAt, nodesEnd}
+use Rattle.solve.specs.contracts.Layout.{setRow, outRow, backRow, maskRowAt, settledAt, waitsAt, nodesEnd}
 use Rattle.solve.specs.contracts.Rows.{maskAt}
 use Rattle.solve.specs.contracts.Waiting.{Waits}
 use Rattle.solve.specs.contracts.Pushed.{masksAt}
@@ -64,3 +66,12 @@ pub record Sends (f : Flow) (ws vs : List ℕ) (n w : ℕ) (queue : Queue) (d : 
       → masksAt vs n w t a ≡ bitOr (masksAt ws n w t a) (masksBelow (f .arrays) (λ b. brings t b (m b) (doubled f .arcs d)) a)
   pub settled : SettledSet n w ws vs
   pub keeps : Keeps (queueAt n) (nodesEnd n w) ws vs
+
+-- d waits and has every state that the row at `from` has: pushing that row to it changes nothing
+pub record Held (ws : List ℕ) (n w from d : ℕ) : Type 0 where
+  pub waits : getD ws (waitsAt n w d) 0 ≡ 1
+  pub masks : (a : ℕ) → a < 64 * w → bitOr (masksAt ws n w d a) (maskAt ws w from a) ≡ masksAt ws n w d a
+
+-- every statement that the call's row at `row` holds is held in base n, where the call goes on at the number `back`
+abbrev pub AllHeld : List ℕ → ℕ → ℕ → ℕ → ℕ → Type 0
+AllHeld ws n w row back = (b : ℕ) → b < n → has ws row b ≡ 1 → Held ws n w (edgeRow n w (eqb (numberIn n (at N b)) back)) (numberIn n (at N b))

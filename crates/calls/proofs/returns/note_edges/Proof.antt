@@ -7,10 +7,10 @@ use denote.Ref.{now}
 use Rattle.flow.specs.Format.{flowOf}
 use Rattle.theory.specs.Lists.{any, upTo}
 use Rattle.theory.specs.Doubled.{returnsTo}
-use Rattle.statements.specs.contracts.Layout.{solverAt}
-use Rattle.statements.specs.contracts.Ready.{Indexed}
+use Rattle.statements.specs.contracts.Layout.{matrixAt, solverAt}
+use Rattle.statements.specs.contracts.Ready.{Indexed, Keeps}
 use Rattle.statements.proofs.WorkArea.{row-from}
-use Rattle.statements.proofs.Keeps.{keeps-trans, keeps-widen, indexed-keeps, ready-formed, ready-size}
+use Rattle.statements.proofs.Keeps.{keeps-trans, keeps-widen, ready-keeps, indexed-keeps, ready-formed, ready-size}
 use Rattle.calls.specs.contracts.Held.{Summarized}
 use Rattle.calls.specs.contracts.Joins.{Joins}
 use Rattle.calls.proofs.Gathered.{Calling, calling-start, calling-on, summary-kept, linked}
@@ -67,24 +67,39 @@ loop-again c = calling-on (c .before .before .before .before .before .loop .inv)
 note-rows-requires : tie.Need-note-rows-requires Inv-loop μ-loop
 note-rows-requires c κs = let d = c .before .before .before .before .before in indexed-keeps (indexed d) (c .before .before .loop .inv .joins .kept) (omega arith)
 
+-- the rows of the calls are noted
+module _ (c : tie.After-note-rows Inv-loop μ-loop) where
+  abbrev done : tie.After-note-returns Inv-loop μ-loop
+  done = c .before .before .before .before .before .before
+
+  rows-kept : let n = start done .args .h .statements in Keeps (matrixAt n) (solverAt n) (done .note-returns .last .1 .0) (c .note-rows .last .1 .1 .0)
+  rows-kept = keeps-trans (c .before .before .before .loop .inv .joins .kept) (c .note-rows .ensures .kept)
+
+note-leaders-requires : tie.Need-note-leaders-requires Inv-loop μ-loop
+note-leaders-requires c κs =
+    let d = c .before .before .before in
+    let k = rows-kept d in
+    let s = start (done d) in
+    (ready-keeps (indexed (done d) .ready) k (omega arith), return-set-stays k (omega arith) (done d .note-returns .ensures .0))
+
 same-length : tie.Need-same-length Inv-loop μ-loop
-same-length c =
-    let turn = c .before .before .before .before .before in
-    c .before .before .note-rows .ensures .kept .size ∙ turn .loop .inv .joins .kept .size ∙ turn .before .before .before .note-returns .ensures .1 .size
+same-length c = let d = c .before .before .before .before .before .before in c .before .before .note-leaders .ensures .1 .size ∙ rows-kept d .size ∙ done d .note-returns .ensures .1 .size
 
 returns : tie.Need-returns Inv-loop μ-loop
 returns c =
-    let turn = c .before .before .before .before .before in
-    let d = turn .before .before .before in
+    let e = c .before .before .before .before .before .before in
+    let turn = e .before .before .before in
+    let d = done e in
     let a = start d .args in
     let f = flowOf (now (a .file)) in
     let n = a .h .statements in
     let loop = turn .loop in
-    let rows = c .before .before .note-rows .ensures in
+    let led = c .before .before .note-leaders .ensures in
     let all : loop .c ≡ n = omega arith in (
       linked (ready-size (start d .pre .0 .ready)) (summarized d)
-          (subst (λ (m : ℕ). Joins f (d .note-returns .last .1 .0) (loop .work) n (solverAt n) (λ r k. any (returnsTo f r k) (upTo m))) all (loop .inv .joins)) rows,
-      keeps-trans (keeps-widen (omega (arith, row-from n n)) (omega arith) (d .note-returns .ensures .1)) (keeps-widen (omega arith) (omega arith) (keeps-trans (loop .inv .joins .kept) (rows .kept))),
+          (subst (λ (m : ℕ). Joins f (d .note-returns .last .1 .0) (loop .work) n (solverAt n) (λ r k. any (returnsTo f r k) (upTo m))) all (loop .inv .joins)) (e .note-rows .ensures) (led .1) (led .0),
+      keeps-trans (keeps-widen (omega (arith, row-from n n)) (omega arith) (d .note-returns .ensures .1))
+          (keeps-trans (keeps-widen (omega arith) (omega arith) (rows-kept e)) (keeps-widen (omega arith) (omega (arith, row-from n n)) (led .1))),
     )
 
 pub note-edges-spec : {M : Type 1} → statement M
@@ -100,5 +115,6 @@ note-edges-spec =
     loop-less
     loop-again
     note-rows-requires
+    note-leaders-requires
     same-length
     returns)

@@ -1,4 +1,4 @@
--- `dataflow::arrays::push_lines` meets its contract. The invariant: the rows went along the slots of the lines before l, and those from there on are left.
+-- `dataflow::arrays::push_each_line` meets its contract. The invariant: the rows went along the slots of the lines before l, and those from there on are left.
 -- The measure is how many are left.
 use Prim.Native.Nat.{_-_}
 use native.Mathlib.Omega.{arith}
@@ -11,8 +11,8 @@ use Rattle.calls.proofs.Found.{leftFrom, line-slot, line-end}
 use Rattle.dataflow.specs.contracts.Sent.{edgeRow}
 use Rattle.dataflow.proofs.Kept.{indexed-stays, call-stays}
 use Rattle.dataflow.proofs.Sending.{Sending, sending-none, sending-on, sending-all}
-use Rattle.dataflow.proofs.arrays.push_lines.Statement.{statement}
-use Rattle.dataflow.proofs.arrays.push_lines.Tie as tie
+use Rattle.dataflow.proofs.arrays.push_each_line.Statement.{statement}
+use Rattle.dataflow.proofs.arrays.push_each_line.Tie as tie
 
 abbrev Inv-loop : tie.InvT-loop
 Inv-loop file h work₀ width base i place call count queue₀ l₀ work queue l =
@@ -47,8 +47,8 @@ same-length c = c .before .loop .inv .sent .keeps .size
 returns : tie.Need-returns Inv-loop μ-loop
 returns c = let s = c .before .before .before .before in sending-all (c .before .loop .inv) (line-end (flowOf (now (s .args .file))) (s .args .base) (s .args .i .0) (s .args .call .continuation .0) (c .before .loop .l) (omega (arith, s .pre .4 .lines, c .loop-test .left)))
 
-pub push-lines-spec : {M : Type 1} → statement M
-push-lines-spec =
+pub push-each-line-spec : {M : Type 1} → statement M
+push-each-line-spec =
     tie.close
     (tie.spec
     Inv-loop
