@@ -1,11 +1,11 @@
 -- Leaders of RETURNs: rows with the same words hold the same statements, and the leaders are noted RETURN by RETURN, in words that no row has.
 -- By the row of RETURNs and the layout.
 use Prim.Native.Nat.{ℕ, _+_, _/_, _%_, _≤_, _<_}
-use mathlib.Core.Bool.{Bool, true, false, cond}
+use mathlib.Core.Bool.{Bool, true, false, cond, _&&_}
 use mathlib.Core.List.{List}
-use mathlib.Core.Logic.{_≢_}
-use mathlib.Core.Path.{_≡_, refl, sym, ap, subst, _∙_}
-use native.Mathlib.Decide.{decLt, ℕ-discrete}
+use mathlib.Core.Path.{_≡_, refl, sym, ap, ap₂, subst, _∙_}
+use native.Mathlib.Decide.{decLt}
+use native.Mathlib.Numerals.{add-one}
 use native.Mathlib.Omega.{arith}
 use borrow.Author.Tests.{eqb-true}
 use lib.Dec.{eqb}
@@ -16,7 +16,7 @@ use Rattle.words.proofs.NextMember.{first}
 use Rattle.flow.specs.Flow.{Flow}
 use Rattle.theory.specs.Lists.{allBelow}
 use Rattle.theory.specs.Body.{kind, isReturn}
-use Rattle.theory.proofs.Lists.{clash}
+use Rattle.theory.proofs.Lists.{clash, not-so}
 use Rattle.theory.proofs.Below.{allBelow-at}
 use Rattle.statements.specs.contracts.Layout.{bodiesAt, matrixAt, rowAt, rowWords, returnsRowAt}
 use Rattle.statements.specs.contracts.Ready.{Keeps}
@@ -24,6 +24,15 @@ use Rattle.statements.proofs.WorkArea.{row-from, member-word}
 use Rattle.statements.proofs.Keeps.{keeps-refl, keeps-trans, keeps-has, keeps-set}
 use Rattle.calls.specs.contracts.Held.{Leads, Leaders}
 use Rattle.calls.specs.contracts.Joins.{ReturnSet}
+
+-- a test of every number below a bound, one number at a time
+
+pub all-more : (k : ℕ) (p : ℕ → Bool) → allBelow k p ≡ true → p k ≡ true → allBelow (k + 1) p ≡ true
+unfolding allBelow
+all-more k p all here = ap (λ (m : ℕ). allBelow m p) (add-one k) ∙ ap₂ _&&_ all here
+
+pub all-not : (n k : ℕ) (p : ℕ → Bool) → k < n → p k ≡ false → allBelow n p ≡ false
+all-not n k p l e = not-so (allBelow n p) (λ t. clash (p k) (allBelow-at n p t k l) e)
 
 pub leads-same : {ws : List ℕ} {n r l a b width : ℕ} → l < n → a ≡ rowAt n l → b ≡ rowAt n r → width ≡ rowWords n
     → allBelow width (λ k. eqb (getD ws (a + k) 0) (getD ws (b + k) 0)) ≡ true → Leads ws n r l

@@ -35,7 +35,12 @@ fn leader_of(file: &[u8], work: &[u64], n: usize, r: StmtId) -> StmtId
 {
     let mut l = words::next(work, layout::returns_row(n), 0, r.0);
     while l < r.0 {
-        if same_words(work, layout::row(n, StmtId(l)), layout::row(n, r), layout::row_words(n)) {
+        if same_words(
+            work,
+            layout::row(n, StmtId(l)),
+            layout::row(n, r),
+            layout::row_words(n),
+        ) {
             return StmtId(l);
         }
         l = words::next(work, layout::returns_row(n), l + 1, r.0);

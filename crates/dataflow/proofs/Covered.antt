@@ -20,6 +20,7 @@ use Rattle.theory.specs.Body.{kind, callLines, entered}
 use Rattle.theory.specs.Doubled.{Node, Edge, at, number, numberIn, sameNode}
 use Rattle.theory.specs.contracts.WellFormed.{WellFormed}
 use Rattle.theory.proofs.Lists.{In-map, In-elem}
+use Rattle.theory.proofs.Body.{entered-below}
 use Rattle.theory.proofs.Below.{allBelow-at}
 use Rattle.calls.specs.declared.edges.Call.{Call}
 use Rattle.calls.specs.contracts.Class.{CallOf}
@@ -40,8 +41,8 @@ pub covered : (ws : List ℕ) (n w from d : ℕ) {to width : ℕ} → nodesEnd n
 covered ws n w from d {to} {width} room below source et ew all a l =
     sym (unioned-mask ws w (maskRowAt n w d) from fits (source-first n w from d source) a l)
     ∙ mask-cong ws (unioned ws (maskRowAt n w d) from (3 * w)) w (maskRowAt n w d) a l (λ x lo hi.
-        let here : maskRowAt n w d + (x - maskRowAt n w d) ≡ x = omega arith in
-        subst (λ (y : ℕ). getD (unioned ws (maskRowAt n w d) from (3 * w)) y 0 ≡ getD ws y 0) here (word (x - maskRowAt n w d) (omega arith)))
+    let here : maskRowAt n w d + (x - maskRowAt n w d) ≡ x = omega arith in
+    subst (λ (y : ℕ). getD (unioned ws (maskRowAt n w d) from (3 * w)) y 0 ≡ getD ws y 0) here (word (x - maskRowAt n w d) (omega arith)))
   where
     fits : maskRowAt n w d + 3 * w ≤ length ws
     fits = let in-area = row-fits n w below in omega arith

@@ -8,13 +8,13 @@ use lib.ListN.{length, getD}
 use Rattle.words.specs.contracts.Row.{has}
 use Rattle.flow.specs.declared.Header.{Header}
 use Rattle.flow.specs.Flow.{Flow, size}
-use Rattle.statements.specs.contracts.Layout.{callsAt, rowAt, queueAt}
+use Rattle.statements.specs.contracts.Layout.{callsAt, bodiesAt, rowAt, queueAt}
 use Rattle.statements.specs.contracts.Ready.{Ready, Indexed, Keeps}
 use Rattle.statements.proofs.WorkArea.{row-from, row-fits, member-word}
 use Rattle.statements.proofs.Keeps.{keeps-has, ready-keeps, indexed-keeps}
 use Rattle.calls.specs.declared.edges.Call.{Call}
 use Rattle.calls.specs.contracts.Class.{CallOf}
-use Rattle.calls.specs.contracts.Held.{Linked}
+use Rattle.calls.specs.contracts.Held.{Leads, Linked}
 use Rattle.calls.proofs.Gathered.{summaries-kept}
 
 -- the words from the queue on are the solver's
@@ -34,6 +34,10 @@ module _ {ws vs : List ℕ} {n hi : ℕ} (k : Keeps (queueAt n) hi ws vs) where
         calls = summaries-kept (omega arith) k (x .calls);
         bodies = λ c j l m e. row c j l m ∙ x .bodies c j l m (sym (call c l) ∙ e);
         returns = λ r j l m e. row r j l m ∙ x .returns r j l m e;
+        leaders = λ r l e.
+            let y = x .leaders r l e in
+            subst (λ (z : ℕ). Leads vs n r z) (sym (k .below (bodiesAt n + r) (omega arith)))
+            (record { below = y .below; same = λ j m. row (getD ws (bodiesAt n + r) 0) j (y .below) m ∙ y .same j m ∙ sym (row r j l m) });
       }
 
   pub ready-stays : {s : List ℕ} → Ready s ws n → Ready s vs n

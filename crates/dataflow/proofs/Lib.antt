@@ -4,6 +4,7 @@ pub mod Unions
 pub mod Kept
 pub mod Sending
 pub mod EdgeRows
+pub mod Sharing
 pub mod Sends
 pub mod Visiting
 pub mod Few

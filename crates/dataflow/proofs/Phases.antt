@@ -19,7 +19,7 @@ use Rattle.records.proofs.Noting.{noted-other}
 use Rattle.records.proofs.Statements.{size-is}
 use Rattle.theory.specs.Masks.{maskLeft}
 use Rattle.theory.specs.Live.{liveInWord, liveOutWord}
-use Rattle.statements.specs.contracts.Layout.{rowWords, callsAt, matrixAt, queueAt, enteredRowAt, returnsRowAt, setWords}
+use Rattle.statements.specs.contracts.Layout.{rowWords, callsAt, bodiesAt, matrixAt, queueAt, enteredRowAt, returnsRowAt, setWords}
 use Rattle.statements.specs.contracts.Ready.{Ready, Indexed, Keeps}
 use Rattle.statements.proofs.Noted.{ready-noted}
 use Rattle.statements.proofs.Keeps.{keeps-zeroed, ready-keeps, ready-room, indexed-keeps}
@@ -72,7 +72,7 @@ used-room {n = n} r p = omega (arith, ready-room r p, area.row-words-le n)
 
 -- with the words of the queue and of the rows of entered statements and of RETURNs zeroed, the forward solver can begin
 pub linked : {s : List ℕ} {h : Header} {ws vs us : List ℕ} → SummariesMade s h ws → 0 < h .statements
-    → Linked (flowOf s) vs (h .statements) → Keeps (matrixAt (h .statements)) (usedEnd (h .statements)) ws vs
+    → Linked (flowOf s) vs (h .statements) → Keeps (bodiesAt (h .statements)) (usedEnd (h .statements)) ws vs
     → us ≡ zeroed vs (queueAt (h .statements)) (usedEnd (h .statements) - queueAt (h .statements)) → SolverStart s h us
 linked {s} {h} {ws} {vs} {us} begun some l k c =
     subst (SolverStart s h) (sym c)

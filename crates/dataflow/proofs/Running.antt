@@ -8,6 +8,7 @@ use native.Mathlib.Decide.{decLt, ℕ-discrete}
 use native.Mathlib.Nat.{zero-add}
 use native.Mathlib.Omega.{arith}
 use borrow.Author.Tests.{eq-eqb, ne-eqb}
+use lib.Bits.{bitOr, or-zero-r}
 use lib.Dec.{eqb, ltb}
 use lib.ListN.{length, getD}
 use Rattle.masks.specs.declared.Effect.the-variants.{Reset}
@@ -21,16 +22,17 @@ use Rattle.theory.proofs.Terms.{doubled-well-formed}
 use Rattle.theory.proofs.Ends.{course-keeps, course-bound, potential}
 use Rattle.theory.proofs.Exact.{pulled-held}
 use Rattle.theory.proofs.Push.{pulled-first}
-use Rattle.statements.specs.contracts.Layout.{queueAt}
+use Rattle.statements.specs.contracts.Layout.{bodiesAt, queueAt}
 use Rattle.statements.specs.contracts.Ready.{Keeps}
 use Rattle.statements.proofs.Keeps.{keeps-refl, keeps-trans, keeps-widen}
 use Rattle.statements.proofs.Members.{zero-has}
+use Rattle.calls.specs.contracts.Held.{Linked}
 use Rattle.solve.specs.declared.Queue.{Queue}
-use Rattle.solve.specs.contracts.Layout.{setRow, outRow, maskRowAt, settledAt, waitsAt, areaEnd}
+use Rattle.solve.specs.contracts.Layout.{setRow, outRow, maskRowAt, settledAt, waitsAt, sentRowAt, areaEnd}
 use Rattle.solve.specs.contracts.Rows.{maskAt, stepWhere}
 use Rattle.solve.specs.contracts.Waiting.{Waits, Enqueued}
 use Rattle.solve.specs.contracts.Pushed.{masksAt}
-use Rattle.solve.proofs.Room.{rows-apart, row-from, row-fits, nodes-within, not-waits}
+use Rattle.solve.proofs.Room.{rows-apart, row-from, row-fits, nodes-within, not-waits, sent-from, sent-apart}
 use Rattle.solve.proofs.Masks.{mask-cong}
 use Rattle.solve.proofs.Waiting.{rest-keeps, waits-none}
 use Rattle.dataflow.specs.contracts.Transfer.{RowSteps}
@@ -135,9 +137,20 @@ module _ (f : Flow) (n w : ℕ) (ws us : List ℕ) (entry count : ℕ) (sized : 
             apart x lo hi c b (yes h) = let far = rows-apart n w h in omega arith
             apart x lo hi c b (no h) = let less : entry < d = omega (arith, h, e) in let far = rows-apart n w less in omega arith
 
-    pub starts : Running f n w vs vs r 0
+    -- nothing was sent
+    none-sent : (y a : ℕ) → y < n → a < 64 * w → maskAt vs w (sentRowAt n w y) a ≡ 0
+    none-sent y a l m =
+        let far = sent-from n w y in
+        let least = row-from n w (2 * n) in
+        let fits = row-fits n w {d = entry} (omega arith) in
+        let end = sent-apart n w l in
+        zero-mask vs w (sentRowAt n w y) a m (λ x lo hi.
+        q .kept .above x (omega arith) (λ c b z. let fit = row-fits n w b in omega arith)
+        ∙ entered .elsewhere x (λ c b. omega arith) (λ c b. omega arith) ∙ unused x (omega arith) (omega arith))
+
+    pub starts : Linked f vs n → Running f n w vs vs r 0
     unfolding initial
-    starts = record {
+    starts linked = record {
       underway = record {
         count = 0;
         state = initial g;
@@ -145,6 +158,7 @@ module _ (f : Flow) (n w : ℕ) (ws us : List ℕ) (entry count : ℕ) (sized : 
         solving = record {
           waits = waits;
           masks = masks;
+          shared = record { held = λ s l is j a b e m. ap (bitOr (masksAt vs n w j a)) (none-sent (getD vs (bodiesAt n + s) 0) a (linked .leaders s l is .below) m) ∙ or-zero-r (masksAt vs n w j a) };
           settled = not-settled;
         };
       };

@@ -73,7 +73,7 @@ module _ (f : Flow) (ws : List ℕ) (w : ℕ) (from : Bool → ℕ) (t a : ℕ) 
       ap (bitOr (cond (eqb (number f (x .to)) t) (maskAt ws w (from (x .continues)) a) 0)) (carried-append xs ys)
       ∙ sym (or-assoc (cond (eqb (number f (x .to)) t) (maskAt ws w (from (x .continues)) a) 0) (carried f ws w from xs t a) (carried f ws w from ys t a))
 
-  carried-same : (vs : List ℕ) → ((b : Bool) → maskAt vs w (from b) a ≡ maskAt ws w (from b) a) → (xs : List Edge) → carried f vs w from xs t a ≡ carried f ws w from xs t a
+  pub carried-same : (vs : List ℕ) → ((b : Bool) → maskAt vs w (from b) a ≡ maskAt ws w (from b) a) → (xs : List Edge) → carried f vs w from xs t a ≡ carried f ws w from xs t a
   unfolding carried
   carried-same vs h [] = refl
   carried-same vs h (x ∷ xs) = ap₂ (λ (y z : ℕ). bitOr (cond (eqb (number f (x .to)) t) y 0) z) (h (x .continues)) (carried-same vs h xs)

@@ -6,7 +6,7 @@ use mathlib.Core.List.{List}
 use mathlib.Core.Path.{_≡_, refl, sym, ap, ap₂, subst, _∙_}
 use native.Mathlib.Nat.{mul-zero}
 use native.Mathlib.Omega.{arith}
-use lib.Bits.{bitOr}
+use lib.Bits.{bitOr, or-self}
 use lib.Dec.{ltb}
 use lib.ListN.{getD}
 use Rattle.masks.specs.declared.Effect.the-variants.{Touched}
@@ -34,8 +34,9 @@ use Rattle.solve.proofs.Masks.{mask-cong, differ-as}
 use Rattle.solve.proofs.Waiting.{waits-kept}
 use Rattle.solve.proofs.Growing.{masks-kept}
 use Rattle.dataflow.specs.contracts.Transfer.{acted, Acted}
-use Rattle.dataflow.specs.contracts.Sent.{edgeRow, masksBelow, Prepared, Sent, Sends}
+use Rattle.dataflow.specs.contracts.Sent.{edgeRow, masksBelow, Prepared, Shared, Goes, Sends}
 use Rattle.dataflow.proofs.EdgeRows.{act-row, back-row, carried-brings}
+use Rattle.dataflow.proofs.Sharing.{shared-stays}
 
 -- the rows of d's edges, by the act of its statement
 module _ (f : Flow) (ws us : List ℕ) (n w d i : ℕ) (stmt : i ≡ node f d .stmt) (row : ℕ) (act : Acted f ws us n w d i row) where
@@ -95,9 +96,12 @@ module _ (ws us : List ℕ) (n w : ℕ) (k : Keeps (setRow n) (maskRowAt n w 0) 
   beside-settled : (t : ℕ) → getD us (settledAt n w t) 0 ≡ getD ws (settledAt n w t) 0
   beside-settled t = k .above (settledAt n w t) (omega (arith, mul-zero w))
 
+  pub beside-shared : {f : Flow} → Shared f ws n w → Shared f us n w
+  beside-shared h = shared-stays n w (keeps-widen (omega arith) (omega (arith, mul-zero w)) k) (λ t a l m. ap (bitOr (masksAt us n w t a)) (sym (beside-masks t a l m)) ∙ or-self (masksAt us n w t a)) h
+
 -- the rows are pushed
 pub sends : {f : Flow} {ws us vs : List ℕ} {n w d i : ℕ} {v : Node} {from : Bool → ℕ} {queue r : Queue} → v ≡ node f d → i ≡ v .stmt → Prepared f ws us n w d from
-    → Sent f us vs n w from queue i (present (slots f v)) r → Sends f ws vs n w queue d r
+    → Goes f us vs n w from queue i (present (slots f v)) r → Sends f ws vs n w queue d r
 unfolding masksBelow
 sends {f} {ws} {us} {vs} {n} {w} {d} {i} {v} {from} {queue} {r} is stmt p x = record {
   waits = λ l h. subst (λ (k : List ℕ). Waits vs n w r k) (enqueue-slots f d l) (s .waits l (beside-waits ws us n w (p .keeps) h));
@@ -107,11 +111,12 @@ sends {f} {ws} {us} {vs} {n} {w} {d} {i} {v} {from} {queue} {r} is stmt p x = re
       ∙ ap₂ (λ (x : Bool) (y : ℕ). cond x 0 y)
       (differ-as (64 * w) (masksAt vs n w t) (masksAt vs n w t) (masksAt us n w t) (masksAt ws n w t) (λ a m. refl) (λ a m. beside-masks ws us n w (p .keeps) t a b m))
       (beside-settled ws us n w (p .keeps) t);
+  shared = s .shared;
   keeps = keeps-trans (keeps-widen (omega arith) (omega (arith, mul-zero w)) (p .keeps)) (s .keeps);
 }
   where
-    s : Sent f us vs n w from queue (node f d .stmt) (present (slots f (node f d))) r
-    s = subst (λ (y : Node). Sent f us vs n w from queue (y .stmt) (present (slots f y)) r) is (subst (λ (j : ℕ). Sent f us vs n w from queue j (present (slots f v)) r) stmt x)
+    s : Goes f us vs n w from queue (node f d .stmt) (present (slots f (node f d))) r
+    s = subst (λ (y : Node). Goes f us vs n w from queue (y .stmt) (present (slots f y)) r) is (subst (λ (j : ℕ). Goes f us vs n w from queue j (present (slots f v)) r) stmt x)
 
     brought : (m : ℕ → ℕ) → ((a : ℕ) → a < 64 * w → masksAt ws n w d a ≡ masksBelow (f .arrays) m a) → (t a : ℕ) → t < 2 * n → a < 64 * w
         → masksAt vs n w t a ≡ bitOr (masksAt ws n w t a) (masksBelow (f .arrays) (λ b. brings t b (m b) (doubled f .arcs d)) a)

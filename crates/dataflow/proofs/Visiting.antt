@@ -8,7 +8,7 @@ use mathlib.Core.Path.{_≡_, refl, sym, ap, ap₂, subst, _∙_}
 use native.Mathlib.Decide.{decLt, ℕ-discrete}
 use native.Mathlib.Omega.{arith}
 use borrow.Author.Tests.{lt-ltb, le-ltb, eq-eqb, ne-eqb}
-use lib.Bits.{bitOr}
+use lib.Bits.{bitOr, or-self}
 use lib.Dec.{eqb, ltb}
 use lib.ListN.{length, getD, set}
 use lib.Seq.{getD-set-same, getD-set-other}
@@ -23,16 +23,18 @@ use Rattle.theory.proofs.Invariant.{WellFormedGraph, Invariant, queue, visited-
 use Rattle.theory.proofs.Ends.{course-keeps}
 use Rattle.theory.proofs.Push.{alike, no-differ, pulled-next, pulled-same, changed-front, changed-other}
 use Rattle.statements.specs.contracts.Ready.{Keeps}
-use Rattle.statements.proofs.Keeps.{keeps-set}
+use Rattle.statements.proofs.Keeps.{keeps-set, keeps-trans, keeps-widen}
 use Rattle.solve.specs.declared.Queue.{Queue}
 use Rattle.solve.specs.contracts.Layout.{maskRowAt, settledAt, waitsAt, nodesEnd}
 use Rattle.solve.specs.contracts.Waiting.{Waits, Taken, restOf}
 use Rattle.solve.specs.contracts.Pushed.{masksAt}
 use Rattle.solve.proofs.Room.{rows-apart, row-from, row-fits, not-waits}
 use Rattle.solve.proofs.Masks.{mask-cong, differ-as}
+use Rattle.solve.proofs.Waiting.{rest-keeps}
 use Rattle.solve.proofs.Growing.{other-word, waits-grown}
-use Rattle.dataflow.specs.contracts.Sent.{masksBelow, Sends}
+use Rattle.dataflow.specs.contracts.Sent.{masksBelow, Shared, Sends}
 use Rattle.dataflow.specs.contracts.Solving.{Underway, VisitsFront}
+use Rattle.dataflow.proofs.Sharing.{shared-stays}
 
 pub nodes-are : (f : Flow) → doubled f .nodes ≡ size f + size f
 unfolding doubled
@@ -124,8 +126,11 @@ module _ {f : Flow} (wf : WellFormed f) {n k : ℕ} (sized : size f ≡ n) (few 
   took-word : (t y : ℕ) → maskRowAt n k t ≤ y → y < waitsAt n k t → getD vs y 0 ≡ getD ws y 0
   took-word t y lo hi = taken .kept .above y (let low = row-from n k t in omega arith) (λ c m. not-waits n k t y lo hi c)
 
+  took-same : (t a : ℕ) → a < 64 * k → masksAt vs n k t a ≡ masksAt ws n k t a
+  took-same t a m = mask-cong ws vs k (maskRowAt n k t) a m (λ y lo hi. took-word t y lo (omega arith))
+
   took-masks : (t a : ℕ) → t < 2 * n → a < 64 * k → masksAt vs n k t a ≡ masksBelow (f .arrays) (pulled g st t) a
-  took-masks t a l m = mask-cong ws vs k (maskRowAt n k t) a m (λ y lo hi. took-word t y lo (omega arith)) ∙ u .solving .masks t a l m
+  took-masks t a l m = took-same t a m ∙ u .solving .masks t a l m
 
   took-settled : (t : ℕ) → t < 2 * n → getD vs (settledAt n k t) 0 ≡ cond (st .visited t && not (changed g st t)) 1 0
   took-settled t l = took-word t (settledAt n k t) (omega arith) (omega arith) ∙ u .solving .settled t l
@@ -160,15 +165,24 @@ module _ {f : Flow} (wf : WellFormed f) {n k : ℕ} (sized : size f ≡ n) (few 
     pub noted-waits : Waits us n k (restOf n q) w
     noted-waits = waits-grown n k d note-keeps rest-waits
 
-    noted-masks : (t a : ℕ) → t < 2 * n → a < 64 * k → masksAt us n k t a ≡ masksBelow (f .arrays) (pulled g st t) a
-    noted-masks t a l m =
+    noted-same : (t a : ℕ) → a < 64 * k → masksAt us n k t a ≡ masksAt vs n k t a
+    noted-same t a m =
         mask-cong vs us k (maskRowAt n k t) a m (λ y lo hi. ap (λ (l : List ℕ). getD l y 0) noted ∙ getD-set-other vs (settledAt n k d) y 1 0 (λ q. apart y lo hi q (decLt t d) (decLt d t)))
-        ∙ took-masks t a l m
       where
         apart : (y : ℕ) → maskRowAt n k t ≤ y → y < maskRowAt n k t + 3 * k → y ≡ settledAt n k d → Dec (t < d) → Dec (d < t) → ⊥
         apart y lo hi q (yes b) c = let far = rows-apart n k b in omega arith
         apart y lo hi q (no b) (yes c) = let far = rows-apart n k c in omega arith
         apart y lo hi q (no b) (no c) = let same : t ≡ d = omega (arith, b, c) in let here : maskRowAt n k t ≡ maskRowAt n k d = rw same in omega arith
+
+    noted-masks : (t a : ℕ) → t < 2 * n → a < 64 * k → masksAt us n k t a ≡ masksBelow (f .arrays) (pulled g st t) a
+    noted-masks t a l m = noted-same t a m ∙ took-masks t a l m
+
+    pub noted-shared : Shared f us n k
+    noted-shared =
+        let low = row-from n k d in
+        let fits = row-fits n k in-area in
+        let keeps = keeps-trans (rest-keeps (taken .kept)) (keeps-widen (omega arith) (omega arith) note-keeps) in
+        shared-stays n k keeps (λ t a l m. ap (bitOr (masksAt us n k t a)) (sym (noted-same t a m ∙ took-same t a m)) ∙ or-self (masksAt us n k t a)) (u .solving .shared)
 
     noted-front : (t : ℕ) → t ≡ x → getD us (settledAt n k t) 0 ≡ 1
     noted-front t e =
@@ -229,6 +243,7 @@ module _ {f : Flow} (wf : WellFormed f) {n k : ℕ} (sized : size f ≡ n) (few 
         solving = record {
           waits = subst (λ (l : List ℕ). Waits us n k (restOf n q) l) (sym (waiting-next g gwf st inv x w front ∙ ap (queue g gwf st inv x w front) still)) noted-waits;
           masks = λ t a l m. noted-masks t a l m ∙ below-as (f .arrays) (pulled g st t) (pulled g next t) a (λ b. sym (same-pulled t a b));
+          shared = noted-shared;
           settled = still-settled;
         };
       }
@@ -289,6 +304,7 @@ module _ {f : Flow} (wf : WellFormed f) {n k : ℕ} (sized : size f ≡ n) (few 
         solving = record {
           waits = subst (λ (l : List ℕ). Waits os n k r l) (ap (λ (y : ℕ). enqueue (g .arcs y) w) is-front ∙ sym (waiting-next g gwf st inv x w front ∙ ap (queue g gwf st inv x w front) new)) (sent .waits w noted-waits);
           masks = next-masks;
+          shared = sent .shared;
           settled = next-settled;
         };
       }

@@ -18,12 +18,13 @@ ghost use Rattle.calls.specs.contracts.Slots.{present, listedSlots, returnSlots
 ghost use Rattle.solve.specs.contracts.Layout.{areaEnd};
 ghost use Rattle.solve.specs.contracts.Waiting.{Waits};
 ghost use Rattle.solve.specs.contracts.Pushed.{Source};
-ghost use Rattle.dataflow.specs.contracts.Sent.{edgeRow, Sent, Sends};
+ghost use Rattle.dataflow.specs.contracts.Sent.{edgeRow, Sent, Shared, MembersHold, Goes, Sends};
 ghost use Rattle.dataflow.specs.contracts.Solving.{Underway, VisitsFront, Unused, RuleResult};
 use crate::held;
 use crate::transfer;
 use calls::edges;
 use calls::edges::Call;
+use calls::leaders;
 use flow::Base;
 use flow::KIND_RETURN;
 use flow::LineEntry;
@@ -93,6 +94,49 @@ fn push_members(
         k = words::next(work, row(n, i), k + 1, n);
     }
     queue
+}
+
+// The continuations of the RETURN i, which all hold what it sends, wait.
+fn join_members(
+    file: &[u8],
+    work: &mut [u64],
+    n: usize,
+    width: usize,
+    first: Queue,
+    i: StmtId,
+    from: usize,
+) -> Queue
+    requires { ⌜ (width ≤ maxWidth) × Ready (now file) (now work) n × Linked (flowOf (now file)) (now work) n × (isReturn (kind (flowOf (now file)) (i .0)) ≡ true) × (i .0 < n) × Source n width from × MembersHold (now work) n width (i .0) from × ((l : List ℕ) × Waits (now work) n width first l) ⌝ }
+    ensures { λ r. ⌜ Sent (flowOf (now (file .entry))) (now (work .entry)) (now (work .exit)) n width (λ _. from) first (i .0) (present (returnSlots (flowOf (now (file .entry))) Zero (i .0))) r ⌝ }
+{
+    let mut queue = first;
+    let mut k = words::next(work, row(n, i), 0, n);
+    while k < n {
+        queue = nodes::join(work, n, width, queue, node(n, Base::Zero, StmtId(k)));
+        k = words::next(work, row(n, i), k + 1, n);
+    }
+    queue
+}
+
+// The row at `from` goes to the continuations of the RETURN i. What the RETURNs with the same continuations have sent stands in the row of their leader, so that
+// a row which brings nothing to that one brings nothing to any of them.
+fn push_return(
+    file: &[u8],
+    work: &mut [u64],
+    n: usize,
+    width: usize,
+    first: Queue,
+    i: StmtId,
+    from: usize,
+) -> Queue
+    requires { ⌜ (width ≤ maxWidth) × Ready (now file) (now work) n × Linked (flowOf (now file)) (now work) n × (isReturn (kind (flowOf (now file)) (i .0)) ≡ true) × (i .0 < n) × Source n width from × Shared (flowOf (now file)) (now work) n width × ((l : List ℕ) × Waits (now work) n width first l) ⌝ }
+    ensures { λ r. ⌜ Goes (flowOf (now (file .entry))) (now (work .entry)) (now (work .exit)) n width (λ _. from) first (i .0) (present (returnSlots (flowOf (now (file .entry))) Zero (i .0))) r ⌝ }
+{
+    let lead = leaders::leader(file, work, n, i);
+    if words::union(work, layout::sent_row(n, width, lead), from, 3 * width) {
+        return push_members(file, work, n, width, first, i, from);
+    }
+    join_members(file, work, n, width, first, i, from)
 }
 
 // The row of the call i goes to the statement that its line l enters, if any.
@@ -266,7 +310,7 @@ fn send_call(
     i: StmtId,
     place: usize,
 ) -> Queue
-    requires { ⌜ (width ≡ setWords (h .arrays)) × Indexed (now file) h (now work) × Linked (flowOf (now file)) (now work) (h .statements) × (d .0 < 2 * h .statements) × RecordOf (now file) (i .0) place × (theory.at base (i .0) ≡ theory.node (flowOf (now file)) (d .0)) × (i .0 < h .statements) × (transparentCall (flowOf (now file)) (i .0) ≡ true) × ((l : List ℕ) × Waits (now work) (h .statements) width first l) ⌝ }
+    requires { ⌜ (width ≡ setWords (h .arrays)) × Indexed (now file) h (now work) × Linked (flowOf (now file)) (now work) (h .statements) × (d .0 < 2 * h .statements) × RecordOf (now file) (i .0) place × (theory.at base (i .0) ≡ theory.node (flowOf (now file)) (d .0)) × (i .0 < h .statements) × (transparentCall (flowOf (now file)) (i .0) ≡ true) × Shared (flowOf (now file)) (now work) (h .statements) width × ((l : List ℕ) × Waits (now work) (h .statements) width first l) ⌝ }
     ensures { λ r. ⌜ Sends (flowOf (now (file .entry))) (now (work .entry)) (now (work .exit)) (h .statements) width first (d .0) r ⌝ }
 {
     transfer::call_rows(file, h, work, width, d, i, place);
@@ -286,14 +330,14 @@ fn push_plain(
     place: usize,
     from: usize,
 ) -> Queue
-    requires { ⌜ (width ≤ maxWidth) × Ready (now file) (now work) n × Linked (flowOf (now file)) (now work) n × RecordOf (now file) (i .0) place × (i .0 < n) × (transparentCall (flowOf (now file)) (i .0) ≡ false) × Source n width from × ((l : List ℕ) × Waits (now work) n width first l) ⌝ }
-    ensures { λ r. ⌜ Sent (flowOf (now (file .entry))) (now (work .entry)) (now (work .exit)) n width (λ _. from) first (i .0) (present (slots (flowOf (now (file .entry))) (theory.at base (i .0)))) r ⌝ }
+    requires { ⌜ (width ≤ maxWidth) × Ready (now file) (now work) n × Linked (flowOf (now file)) (now work) n × RecordOf (now file) (i .0) place × (i .0 < n) × (transparentCall (flowOf (now file)) (i .0) ≡ false) × Source n width from × Shared (flowOf (now file)) (now work) n width × ((l : List ℕ) × Waits (now work) n width first l) ⌝ }
+    ensures { λ r. ⌜ Goes (flowOf (now (file .entry))) (now (work .entry)) (now (work .exit)) n width (λ _. from) first (i .0) (present (slots (flowOf (now (file .entry))) (theory.at base (i .0)))) r ⌝ }
 {
     if records::kind(file, place) != KIND_RETURN {
         return push_listed(file, work, n, width, first, base, i, place, from);
     }
     match base {
-        Base::Zero => push_members(file, work, n, width, first, i, from),
+        Base::Zero => push_return(file, work, n, width, first, i, from),
         // A RETURN of base n goes nowhere.
         Base::N => first,
     }
@@ -308,7 +352,7 @@ fn send(
     first: Queue,
     d: NodeId,
 ) -> Queue
-    requires { ⌜ (width ≡ setWords (h .arrays)) × Indexed (now file) h (now work) × Linked (flowOf (now file)) (now work) (h .statements) × (d .0 < 2 * h .statements) × ((l : List ℕ) × Waits (now work) (h .statements) width first l) ⌝ }
+    requires { ⌜ (width ≡ setWords (h .arrays)) × Indexed (now file) h (now work) × Linked (flowOf (now file)) (now work) (h .statements) × (d .0 < 2 * h .statements) × Shared (flowOf (now file)) (now work) (h .statements) width × ((l : List ℕ) × Waits (now work) (h .statements) width first l) ⌝ }
     ensures { λ r. ⌜ Sends (flowOf (now (file .entry))) (now (work .entry)) (now (work .exit)) (h .statements) width first (d .0) r ⌝ }
 {
     let n = h.statements;

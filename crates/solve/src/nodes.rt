@@ -36,6 +36,17 @@ pub fn waits(work: &[u64], n: usize, width: usize, d: NodeId) -> bool
     work[layout::waits(n, width, d.0)] == 1
 }
 
+// The same as `enqueue`, for numbers of which most wait: nothing is written then.
+pub fn join(work: &mut [u64], n: usize, width: usize, queue: Queue, d: NodeId) -> Queue
+    requires { ⌜ (n ≤ maxStatements) × (width ≤ maxWidth) × (nodesEnd n width ≤ length (now work)) × (d .0 < 2 * n) × ((l : List ℕ) × Waits (now work) n width queue l) ⌝ }
+    ensures { λ r. ⌜ Enqueued (now (work .entry)) (now (work .exit)) n width queue (d .0) r ⌝ }
+{
+    if waits(work, n, width, d) {
+        return queue;
+    }
+    enqueue(work, n, width, queue, d)
+}
+
 // d is settled by its visit. Says whether it was before.
 pub fn settle(work: &mut [u64], n: usize, width: usize, d: NodeId) -> bool
     requires { ⌜ (n ≤ maxStatements) × (width ≤ maxWidth) × (nodesEnd n width ≤ length (now work)) × (d .0 < 2 * n) ⌝ }

@@ -1,7 +1,7 @@
 -- The masks of a number go on along its edges: each edge's row is joined to the masks of its target, which waits afterwards.
 -- In the order of the edges; every other word is as it was.
 use Prim.Native.Nat.{ℕ, _+_, _*_, _<_, _≤_}
-use mathlib.Core.Bool.{Bool, cond}
+use mathlib.Core.Bool.{Bool, true, cond}
 use mathlib.Core.List.{List, [], _∷_, map}
 use mathlib.Core.Logic.{_⊎_}
 use mathlib.Core.Path.{_≡_}
@@ -12,13 +12,14 @@ use Rattle.words.specs.contracts.Row.{has}
 use Rattle.flow.specs.declared.Base.the-variants.{N}
 use Rattle.flow.specs.Flow.{Flow}
 use Rattle.theory.specs.Lists.{In, differ}
+use Rattle.theory.specs.Body.{kind, isReturn}
 use Rattle.theory.specs.Doubled.{Edge, at, node, number, numberIn, edges, edgeEffects, doubled}
 use Rattle.theory.specs.Queue.{enqueue, brings, stepAll}
-use Rattle.statements.specs.contracts.Layout.{queueAt}
+use Rattle.statements.specs.contracts.Layout.{bodiesAt, rowAt, queueAt}
 use Rattle.statements.specs.contracts.Ready.{Keeps}
 use Rattle.calls.specs.contracts.Slots.{toArc}
 use Rattle.solve.specs.declared.Queue.{Queue}
-use Rattle.solve.specs.contracts.Layout.{setRow, outRow, backRow, maskRowAt, settledAt, waitsAt, nodesEnd}
+use Rattle.solve.specs.contracts.Layout.{setRow, outRow, backRow, maskRowAt, settledAt, waitsAt, nodesEnd, sentRowAt, areaEnd}
 use Rattle.solve.specs.contracts.Rows.{maskAt}
 use Rattle.solve.specs.contracts.Waiting.{Waits}
 use Rattle.solve.specs.contracts.Pushed.{masksAt}
@@ -59,13 +60,30 @@ pub record Sent (f : Flow) (ws vs : List ℕ) (n w : ℕ) (from : Bool → ℕ) 
   pub source : (b : Bool) (a : ℕ) → a < 64 * w → maskAt vs w (from b) a ≡ maskAt ws w (from b) a
   pub keeps : Keeps (queueAt n) (nodesEnd n w) ws vs
 
+-- the continuations of the RETURN i have every state that the row at `from` has
+abbrev pub MembersHold : List ℕ → ℕ → ℕ → ℕ → ℕ → Type 0
+MembersHold ws n w i from = (k a : ℕ) → k < n → has ws (rowAt n i) k ≡ 1 → a < 64 * w → bitOr (masksAt ws n w k a) (maskAt ws w from a) ≡ masksAt ws n w k a
+
+-- so it is of what the leader of each RETURN has sent
+pub record Shared (f : Flow) (ws : List ℕ) (n w : ℕ) : Type 0 where
+  pub held : (r : ℕ) → r < n → isReturn (kind f r) ≡ true → MembersHold ws n w r (sentRowAt n w (getD ws (bodiesAt n + r) 0))
+
+-- the same as `Sent`, where what was sent may be noted too
+pub record Goes (f : Flow) (ws vs : List ℕ) (n w : ℕ) (from : Bool → ℕ) (queue : Queue) (i : ℕ) (xs : List Edge) (r : Queue) : Type 0 where
+  pub waits : (l : List ℕ) → Waits ws n w queue l → Waits vs n w r (enqueue (map (toArc f i) xs) l)
+  pub masks : (t a : ℕ) → t < 2 * n → a < 64 * w → masksAt vs n w t a ≡ bitOr (masksAt ws n w t a) (carried f ws w from xs t a)
+  pub settled : SettledSet n w ws vs
+  pub shared : Shared f vs n w
+  pub keeps : Keeps (queueAt n) (areaEnd n w) ws vs
+
 -- what d's edges bring of its masks m is joined to every number's
 pub record Sends (f : Flow) (ws vs : List ℕ) (n w : ℕ) (queue : Queue) (d : ℕ) (r : Queue) : Type 0 where
   pub waits : (l : List ℕ) → Waits ws n w queue l → Waits vs n w r (enqueue (doubled f .arcs d) l)
   pub masks : (m : ℕ → ℕ) → ((a : ℕ) → a < 64 * w → masksAt ws n w d a ≡ masksBelow (f .arrays) m a) → (t a : ℕ) → t < 2 * n → a < 64 * w
       → masksAt vs n w t a ≡ bitOr (masksAt ws n w t a) (masksBelow (f .arrays) (λ b. brings t b (m b) (doubled f .arcs d)) a)
   pub settled : SettledSet n w ws vs
-  pub keeps : Keeps (queueAt n) (nodesEnd n w) ws vs
+  pub shared : Shared f vs n w
+  pub keeps : Keeps (queueAt n) (areaEnd n w) ws vs
 
 -- d waits and has every state that the row at `from` has: pushing that row to it changes nothing
 pub record Held (ws : List ℕ) (n w from d : ℕ) : Type 0 where

@@ -73,7 +73,7 @@ loop-less : tie.Need-loop-less Inv-loop μ-loop
 loop-less c = let low = next-low (since c) (c .before .returns-row2 .ensures) (omega (arith, c .before .before .before .before .before .before .loop-test .taken)) (c .next2 .ensures) in omega (arith, c .before .before .before .before .before .before .loop-test .taken)
 
 loop-again : tie.Need-loop-again Inv-loop μ-loop
-loop-again c = 
+loop-again c =
     let s = c .before .before .before .before .before .before .before .before .before .before .before .before .before in
     leading-more (omega (arith, row-from (s .args .n) (s .args .n), ready-room (ready (c .before .before .before .before .before .before)) (omega (arith, c .before .before .before .before .before .before .loop-test .taken)))) (c .before .before .before .before .before .before .before .loop .inv) (c .before .before .before .before .before .before .loop-test .taken) (c .before .before .before .bodies .ensures) (c .before .before .before .before .leader-of .ensures) (since c) (c .before .returns-row2 .ensures) (c .next2 .ensures)
 

@@ -1,9 +1,8 @@
 -- `same_words` meets its contract. The invariant: the words before k are the same. The measure is how many are left.
 -- Assumes nothing.
-use Prim.Native.Nat.{ℕ, _+_, _-_, _<_, _≤_}
-use mathlib.Core.Bool.{Bool, true, false, _&&_}
-use mathlib.Core.Path.{_≡_, refl, sym, ap, ap₂, _∙_}
-use native.Mathlib.Numerals.{add-one}
+use Prim.Native.Nat.{ℕ, _+_, _-_, _≤_}
+use mathlib.Core.Bool.{true}
+use mathlib.Core.Path.{_≡_, refl, sym, ap, _∙_}
 use native.Mathlib.Omega.{arith}
 use borrow.Author.Tests.{eq-eqb, ne-eqb}
 use borrow.Author.Needs.{needs}
@@ -11,8 +10,7 @@ use denote.Ref.{now}
 use lib.Dec.{eqb}
 use lib.ListN.{getD}
 use Rattle.theory.specs.Lists.{allBelow}
-use Rattle.theory.proofs.Lists.{clash, not-so}
-use Rattle.theory.proofs.Below.{allBelow-at}
+use Rattle.calls.proofs.Leading.{all-more, all-not}
 use Rattle.calls.proofs.leaders.same_words.Statement.{statement}
 use Rattle.calls.proofs.leaders.same_words.Tie as tie
 
@@ -44,17 +42,8 @@ mul-if1-2 c = search needs
 shared-slice-read-if1-2 : tie.Need-shared-slice-read-if1-2 Inv-loop μ-loop
 shared-slice-read-if1-2 c = search needs
 
--- one word more is looked at
-more : (k : ℕ) (p : ℕ → Bool) → allBelow k p ≡ true → p k ≡ true → allBelow (k + 1) p ≡ true
-unfolding allBelow
-more k p all here = ap (λ (m : ℕ). allBelow m p) (add-one k) ∙ ap₂ _&&_ all here
-
--- a word that is another
-not-all : (n k : ℕ) (p : ℕ → Bool) → k < n → p k ≡ false → allBelow n p ≡ false
-not-all n k p l e = not-so (allBelow n p) (λ t. clash (p k) (allBelow-at n p t k l) e)
-
 returns : tie.Need-returns Inv-loop μ-loop
-returns c = let s = c .before .before .before .before .before in let ws = now (s .args .work) in let k = c .before .before .before .before .loop .k in sym (not-all (s .args .width) k (λ j. eqb (getD ws (s .args .a + j) 0) (getD ws (s .args .b + j) 0)) (c .before .before .before .loop-test .taken) (ne-eqb _ _ (c .if1 .taken)))
+returns c = let s = c .before .before .before .before .before in let ws = now (s .args .work) in let k = c .before .before .before .before .loop .k in sym (all-not (s .args .width) k (λ j. eqb (getD ws (s .args .a + j) 0) (getD ws (s .args .b + j) 0)) (c .before .before .before .loop-test .taken) (ne-eqb _ _ (c .if1 .taken)))
 
 add-k : tie.Need-add-k Inv-loop μ-loop
 add-k c = search needs
@@ -63,7 +52,7 @@ loop-less : tie.Need-loop-less Inv-loop μ-loop
 loop-less c = omega (arith, c .before .before .before .loop-test .taken)
 
 loop-again : tie.Need-loop-again Inv-loop μ-loop
-loop-again c = let s = c .before .before .before .before .before in let ws = now (s .args .work) in let k = c .before .before .before .before .loop .k in (omega (arith, c .before .before .before .loop-test .taken), more k (λ j. eqb (getD ws (s .args .a + j) 0) (getD ws (s .args .b + j) 0)) (c .before .before .before .before .loop .inv .1) (eq-eqb _ _ (c .if1 .left)))
+loop-again c = let s = c .before .before .before .before .before in let ws = now (s .args .work) in let k = c .before .before .before .before .loop .k in (omega (arith, c .before .before .before .loop-test .taken), all-more k (λ j. eqb (getD ws (s .args .a + j) 0) (getD ws (s .args .b + j) 0)) (c .before .before .before .before .loop .inv .1) (eq-eqb _ _ (c .if1 .left)))
 
 returns-2 : tie.Need-returns-2 Inv-loop μ-loop
 returns-2 c = let s = c .before .before in let ws = now (s .args .work) in let end : c .before .loop .k ≡ s .args .width = omega (arith, c .loop-test .left, c .before .loop .inv .0) in sym (sym (ap (λ (m : ℕ). allBelow m (λ j. eqb (getD ws (s .args .a + j) 0) (getD ws (s .args .b + j) 0))) end) ∙ c .before .loop .inv .1)

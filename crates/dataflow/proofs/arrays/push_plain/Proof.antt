@@ -13,8 +13,9 @@ use Rattle.theory.specs.Body.{kind, isReturn}
 use Rattle.theory.specs.Doubled.{Edge, at}
 use Rattle.calls.specs.contracts.Slots.{returnSlots, listedSlots, slots, present}
 use Rattle.calls.proofs.Classes.{slots-return, slots-listed, plain-says}
-use Rattle.dataflow.specs.contracts.Sent.{Sent}
+use Rattle.dataflow.specs.contracts.Sent.{Goes}
 use Rattle.dataflow.proofs.Sending.{sent-none}
+use Rattle.dataflow.proofs.Sharing.{goes-sent}
 use borrow.Author.Needs.{needs}
 use Rattle.dataflow.proofs.arrays.push_plain.Statement.{statement}
 use Rattle.dataflow.proofs.arrays.push_plain.Tie as tie
@@ -45,14 +46,14 @@ listed c =
 returns : tie.Need-returns
 returns c =
     let s = c .before .before .before .before .before .before .before .before in
-    subst (λ (xs : List (Option Edge)). Sent (flowOf (now (s .args .file))) (now (s .args .work)) (c .before .before .push-listed .last .1 .0) (s .args .n) (s .args .width) (λ b. s .args .from) (s .args .first) (s .args .i .0) (present xs) (c .before .before .push-listed .result))
-    (sym (listed (c .before .before .before .before))) (c .before .before .push-listed .ensures)
+    subst (λ (xs : List (Option Edge)). Goes (flowOf (now (s .args .file))) (now (s .args .work)) (c .before .before .push-listed .last .1 .0) (s .args .n) (s .args .width) (λ b. s .args .from) (s .args .first) (s .args .i .0) (present xs) (c .before .before .push-listed .result))
+    (sym (listed (c .before .before .before .before))) (goes-sent (s .pre .7) (c .before .before .push-listed .ensures))
 
 enum-told : tie.Need-enum-told
 enum-told c = search needs
 
-push-members-requires : tie.Need-push-members-requires
-push-members-requires c κs = let s = c .before .before .before .before .before .before .before in (s .pre .0, s .pre .1, s .pre .2, returned (c .before .before .before), s .pre .4, s .pre .6, s .pre .7)
+push-return-requires : tie.Need-push-return-requires
+push-return-requires c κs = let s = c .before .before .before .before .before .before .before in (s .pre .0, s .pre .1, s .pre .2, returned (c .before .before .before), s .pre .4, s .pre .6, s .pre .7, s .pre .8)
 
 enum-told-2 : tie.Need-enum-told-2
 enum-told-2 c = search needs
@@ -64,16 +65,16 @@ returns-2 : tie.Need-returns-2
 returns-2 c =
     let s = c .before .before .before .before .before .before .before .before .before .before in
     let f = flowOf (now (s .args .file)) in
-    subst (λ (xs : List (Option Edge)). Sent f (now (s .args .work)) (c .before .before .push-members .last .1 .0) (s .args .n) (s .args .width) (λ b. s .args .from) (s .args .first) (s .args .i .0) (present xs) (c .before .before .push-members .result))
-    (sym (slots-return f (s .args .base) (s .args .i .0) (returned (c .before .before .before .before .before .before)) ∙ ap (λ (b : Base). returnSlots f b (s .args .i .0)) (c .before .before .before .before .enum-told .given .1))) (c .before .before .push-members .ensures)
+    subst (λ (xs : List (Option Edge)). Goes f (now (s .args .work)) (c .before .before .push-return .last .1 .0) (s .args .n) (s .args .width) (λ b. s .args .from) (s .args .first) (s .args .i .0) (present xs) (c .before .before .push-return .result))
+    (sym (slots-return f (s .args .base) (s .args .i .0) (returned (c .before .before .before .before .before .before)) ∙ ap (λ (b : Base). returnSlots f b (s .args .i .0)) (c .before .before .before .before .enum-told .given .1))) (c .before .before .push-return .ensures)
 
 returns-3 : tie.Need-returns-3
 unfolding returnSlots present concatMap
 returns-3 c =
     let s = c .before .before .before .before .before .before in
     let f = flowOf (now (s .args .file)) in
-    subst (λ (xs : List (Option Edge)). Sent f (now (s .args .work)) (now (s .args .work)) (s .args .n) (s .args .width) (λ b. s .args .from) (s .args .first) (s .args .i .0) (present xs) (s .args .first))
-    (sym (slots-return f (s .args .base) (s .args .i .0) (returned (c .before .before)) ∙ ap (λ (b : Base). returnSlots f b (s .args .i .0)) (c .enum-told2 .given .1))) sent-none
+    subst (λ (xs : List (Option Edge)). Goes f (now (s .args .work)) (now (s .args .work)) (s .args .n) (s .args .width) (λ b. s .args .from) (s .args .first) (s .args .i .0) (present xs) (s .args .first))
+    (sym (slots-return f (s .args .base) (s .args .i .0) (returned (c .before .before)) ∙ ap (λ (b : Base). returnSlots f b (s .args .i .0)) (c .enum-told2 .given .1))) (goes-sent (s .pre .7) sent-none)
 
 pub push-plain-spec : {M : Type 1} → statement M
 push-plain-spec =
@@ -84,7 +85,7 @@ push-plain-spec =
     same-length
     returns
     enum-told
-    push-members-requires
+    push-return-requires
     enum-told-2
     same-length-2
     returns-2

@@ -18,7 +18,7 @@ use Rattle.solve.specs.contracts.Layout.{outRow, maskRowAt}
 use Rattle.solve.specs.contracts.Pushed.{Source}
 use Rattle.solve.proofs.Room.{row-first}
 use Rattle.dataflow.proofs.Kept.{ready-stays, linked-stays}
-use Rattle.dataflow.proofs.Sends.{prepared-plain, beside-waits, sends}
+use Rattle.dataflow.proofs.Sends.{prepared-plain, beside-waits, beside-shared, sends}
 use borrow.Author.Needs.{needs}
 use Rattle.dataflow.proofs.arrays.send.Statement.{statement}
 use Rattle.dataflow.proofs.arrays.send.Tie as tie
@@ -45,7 +45,7 @@ is-call-requires c κs = let s = c .before .before .before .before .before .befo
 send-call-requires : tie.Need-send-call-requires
 send-call-requires c κs =
     let s = c .before .before .before .before .before .before .before .before .before .before in
-    (s .pre .0, s .pre .1, s .pre .2, s .pre .3, c .before .before .before .before .offset .ensures, copy-is (c .before .before .before .before .before .before), below (c .before .before .before .before .before .before), sym (c .before .before .is-call .ensures) ∙ c .before .if1 .taken, s .pre .4)
+    (s .pre .0, s .pre .1, s .pre .2, s .pre .3, c .before .before .before .before .offset .ensures, copy-is (c .before .before .before .before .before .before), below (c .before .before .before .before .before .before), sym (c .before .before .is-call .ensures) ∙ c .before .if1 .taken, s .pre .4, s .pre .5)
 
 same-length : tie.Need-same-length
 same-length c = search needs
@@ -80,7 +80,8 @@ push-plain-requires c κs =
       below (c .before .before .before .before .before .before .before .before .before .before),
       sym (c .before .before .before .before .before .before .is-call .ensures) ∙ c .before .before .before .before .before .if1 .left,
       source (c .before .before .before),
-      (_, beside-waits (now (s .args .work)) (c .before .before .before .plain-row .last .1 .1 .0) (s .args .h .statements) (s .args .width) (c .before .before .before .plain-row .ensures .0 .keeps) (s .pre .4 .1)),
+      beside-shared (now (s .args .work)) (c .before .before .before .plain-row .last .1 .1 .0) (s .args .h .statements) (s .args .width) (c .before .before .before .plain-row .ensures .0 .keeps) (s .pre .4),
+      (_, beside-waits (now (s .args .work)) (c .before .before .before .plain-row .last .1 .1 .0) (s .args .h .statements) (s .args .width) (c .before .before .before .plain-row .ensures .0 .keeps) (s .pre .5 .1)),
     )
 
 same-length-2 : tie.Need-same-length-2

@@ -17,7 +17,8 @@ use Rattle.calls.proofs.Classes.{slots-call, call-says}
 use Rattle.solve.specs.contracts.Layout.{maskRowAt}
 use Rattle.dataflow.specs.contracts.Sent.{edgeRow, Sent}
 use Rattle.dataflow.proofs.Kept.{indexed-stays, ready-stays, linked-stays}
-use Rattle.dataflow.proofs.Sends.{beside-waits, sends}
+use Rattle.dataflow.proofs.Sharing.{goes-sent}
+use Rattle.dataflow.proofs.Sends.{beside-waits, beside-shared, sends}
 use borrow.Author.Needs.{needs}
 use Rattle.dataflow.proofs.arrays.send_call.Statement.{statement}
 use Rattle.dataflow.proofs.arrays.send_call.Tie as tie
@@ -45,7 +46,7 @@ push-call-requires c κs =
       s .pre .4,
       s .pre .6,
       c .before .call-of .ensures,
-      (_, beside-waits (now (s .args .work)) (c .before .before .before .before .before .call-rows .last .1 .1 .0) (s .args .h .statements) (s .args .width) (c .before .before .before .before .before .call-rows .ensures .keeps) (s .pre .8 .1)),
+      (_, beside-waits (now (s .args .work)) (c .before .before .before .before .before .call-rows .last .1 .1 .0) (s .args .h .statements) (s .args .width) (c .before .before .before .before .before .call-rows .ensures .keeps) (s .pre .9 .1)),
     )
 
 same-length : tie.Need-same-length
@@ -58,9 +59,11 @@ returns c =
     let n = s .args .h .statements in
     let says = call-says f (s .args .i .0) (s .pre .7) in
     let call = c .before .before .before .before .call-of .ensures in
+    let shared = beside-shared (now (s .args .work)) (c .before .before .before .before .before .before .before .before .call-rows .last .1 .1 .0) n (s .args .width) (c .before .before .before .before .before .before .before .before .call-rows .ensures .keeps) (s .pre .8) in
     sends (s .pre .5) refl (c .before .before .before .before .before .before .before .before .call-rows .ensures)
+    (goes-sent shared
     (subst (λ (xs : List (Option Edge)). Sent f (c .before .before .before .before .before .before .before .before .call-rows .last .1 .1 .0) (c .before .before .push-call .last .1 .1 .0) n (s .args .width) (edgeRow n (s .args .width)) (s .args .first) (s .args .i .0) (present xs) (c .before .before .push-call .result))
-    (sym (slots-call f (s .args .base) (s .args .i .0) (c .before .before .before .before .call-of .result .continuation .0) (call .continues) (says .2))) (c .before .before .push-call .ensures))
+    (sym (slots-call f (s .args .base) (s .args .i .0) (c .before .before .before .before .call-of .result .continuation .0) (call .continues) (says .2))) (c .before .before .push-call .ensures)))
 
 pub send-call-spec : {M : Type 1} → statement M
 send-call-spec =

@@ -19,7 +19,7 @@ use Rattle.solve.proofs.Waiting.{rest-keeps}
 use Rattle.dataflow.specs.contracts.Sent.{Sends}
 use Rattle.dataflow.specs.contracts.Solving.{VisitsFront}
 use Rattle.dataflow.proofs.Kept.{indexed-stays, linked-stays}
-use Rattle.dataflow.proofs.Visiting.{underway-front, is-front, front-in, settled-at, note-keeps, noted-waits, visits-settled, visits-sent}
+use Rattle.dataflow.proofs.Visiting.{underway-front, is-front, front-in, settled-at, note-keeps, noted-waits, noted-shared, visits-settled, visits-sent}
 use borrow.Author.Needs.{needs}
 use Rattle.dataflow.proofs.arrays.visit.Statement.{statement}
 use Rattle.dataflow.proofs.arrays.visit.Tie as tie
@@ -102,6 +102,7 @@ send-requires c κs =
       indexed-stays keeps (s .pre .1),
       linked-stays keeps (s .pre .2),
       below (c .before .before .before .before .before .before .before .before .before),
+      noted-shared wf (ready-size (s .pre .1 .ready)) (few s) u (front .0) (front .1) (front .2) (c .before .before .before .before .before .before .before .before .before .take .ensures) (c .before .before .before .before .settle .ensures .1) (taken-room (c .before .before .before .before .before .before .before .before .before)),
       (
         front .1,
         subst (λ r. Waits (c .before .before .before .before .settle .last .0) (s .args .h .statements) (s .args .width) r (front .1)) (sym (c .before .before .before .before .before .before .rest .ensures))
@@ -125,7 +126,7 @@ returns-2 c =
           let front = underway-front u (s .pre .4) in
           let new = not-false _ (sym (settled-at wf (ready-size (s .pre .1 .ready)) (few s) u (front .0) (front .1) (front .2) taken (c .before .before .before .before .before .before .before .settle .ensures .0)) ∙ c .before .before .before .before .if1 .left) in
           visits-sent wf (ready-size (s .pre .1 .ready)) (few s) u (front .0) (front .1) (front .2) taken (c .before .before .before .before .before .before .before .settle .ensures .1) (taken-room (c .before .before .before .before .before .before .before .before .before .before .before .before)) new sent,
-      keeps-trans (wide (c .before .before .before .before .before .before .before)) (keeps-widen (omega arith) (omega arith) (c .before .before .send .ensures .keeps)),
+      keeps-trans (wide (c .before .before .before .before .before .before .before)) (c .before .before .send .ensures .keeps),
     )
 
 pub visit-spec : {M : Type 1} → statement M
