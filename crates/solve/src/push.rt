@@ -9,7 +9,7 @@ ghost use Rattle.solve.specs.contracts.Waiting.{Waits};
 ghost use Rattle.solve.specs.contracts.Pushed.{Source, Grown, Pushed};
 use crate::Queue;
 use crate::layout;
-use crate::nodes;
+use crate::ring;
 use flow::NodeId;
 
 // The row at `from` is joined to the masks of d; if they grew, d is settled no more.
@@ -18,7 +18,9 @@ pub fn grow(work: &mut [u64], n: usize, width: usize, from: usize, d: NodeId)
     ensures { λ _. ⌜ Grown (now (work .entry)) (now (work .exit)) n width from (d .0) ⌝ }
 {
     if words::union(work, layout::mask_row(n, width, d), from, 3 * width) {
-        work[layout::settled(n, width, d)] = 0;
+        let at = layout::state(n, width, d.0);
+        let old = work[at];
+        work[at] = old % 2;
     }
 }
 
@@ -27,6 +29,6 @@ pub fn push(work: &mut [u64], n: usize, width: usize, queue: Queue, from: usize,
     requires { ⌜ (n ≤ maxStatements) × (width ≤ maxWidth) × (nodesEnd n width ≤ length (now work)) × (d .0 < 2 * n) × Source n width from × ((l : List ℕ) × Waits (now work) n width queue l) ⌝ }
     ensures { λ r. ⌜ Pushed (now (work .entry)) (now (work .exit)) n width queue from (d .0) r ⌝ }
 {
-    grow(work, n, width, from, d);
-    nodes::enqueue(work, n, width, queue, d)
+    let grew = words::union(work, layout::mask_row(n, width, d), from, 3 * width);
+    ring::enqueue(work, n, width, queue, d.0, grew)
 }

@@ -7,7 +7,6 @@ use mathlib.Core.Logic.{_⊎_}
 use mathlib.Core.Path.{_≡_}
 use lib.Bits.{bitOr}
 use lib.Dec.{eqb, ltb}
-use lib.ListN.{getD}
 use Rattle.flow.specs.Flow.{Flow}
 use Rattle.theory.specs.Lists.{In, differ}
 use Rattle.theory.specs.Doubled.{Edge, node, number, edges, edgeEffects, doubled}
@@ -16,7 +15,7 @@ use Rattle.statements.specs.contracts.Layout.{queueAt}
 use Rattle.statements.specs.contracts.Ready.{Keeps}
 use Rattle.calls.specs.contracts.Slots.{toArc}
 use Rattle.solve.specs.declared.Queue.{Queue}
-use Rattle.solve.specs.contracts.Layout.{setRow, outRow, backRow, maskRowAt, settledAt, nodesEnd}
+use Rattle.solve.specs.contracts.Layout.{setRow, outRow, backRow, maskRowAt, settledIn, nodesEnd}
 use Rattle.solve.specs.contracts.Rows.{maskAt}
 use Rattle.solve.specs.contracts.Waiting.{Waits}
 use Rattle.solve.specs.contracts.Pushed.{masksAt}
@@ -47,7 +46,7 @@ carried f ws w from (x ∷ xs) t a = bitOr (cond (eqb (number f (x .to)) t) (mas
 -- a number is settled no more where its masks grew, and else as before
 abbrev pub SettledSet : ℕ → ℕ → List ℕ → List ℕ → Type 0
 SettledSet n w ws vs = (t : ℕ) → t < 2 * n
-    → getD vs (settledAt n w t) 0 ≡ cond (differ (64 * w) (masksAt vs n w t) (masksAt ws n w t)) 0 (getD ws (settledAt n w t) 0)
+    → settledIn vs n w t ≡ cond (differ (64 * w) (masksAt vs n w t) (masksAt ws n w t)) 0 (settledIn ws n w t)
 
 -- the rows of the edges xs of statement i are pushed along them
 pub record Sent (f : Flow) (ws vs : List ℕ) (n w : ℕ) (from : Bool → ℕ) (queue : Queue) (i : ℕ) (xs : List Edge) (r : Queue) : Type 0 where

@@ -1,12 +1,12 @@
 -- `solve::push::grow` meets its contract: the rows are joined, and the number is settled no more where its row grew.
 -- By the union of rows of masks.
-use Prim.Native.Nat.{ℕ}
+use Prim.Native.Nat.{ℕ, _%_}
 use mathlib.Core.List.{List}
 use mathlib.Core.Path.{sym, subst}
 use native.Mathlib.Nat.{le-of-lt}
 use native.Mathlib.Omega.{arith}
 use denote.Ref.{now}
-use lib.ListN.{set}
+use lib.ListN.{getD, set}
 use Rattle.solve.specs.contracts.Pushed.{Grown}
 use Rattle.solve.proofs.Room.{row-fits, node-below}
 use Rattle.solve.proofs.Growing.{source-fits, grown-not, grown-more, union-at}
@@ -23,25 +23,31 @@ mul-union c = search needs
 union-requires : tie.Need-union-requires
 union-requires c κs = let s = c .before .before .before in let at = c .mask-row .ensures in (omega (arith, row-fits (s .args .n) (s .args .width) (s .pre .3), s .pre .2), omega (arith, source-fits (s .args .n) (s .args .width) (s .args .from) (s .pre .4), s .pre .2))
 
-settled-requires : tie.Need-settled-requires
-settled-requires c κs = search needs
+state-requires : tie.Need-state-requires
+state-requires c κs = search needs
+
+mul-old : tie.Need-mul-old
+mul-old c = let s = c .before .before .before .before .before .before .before .before in omega (arith, c .state .ensures, node-below (s .pre .0) (s .pre .1) (le-of-lt (s .pre .3)))
+
+slice-read-old : tie.Need-slice-read-old
+slice-read-old c = let s = c .before .before .before .before .before .before .before .before .before in let long = c .before .before .before .before .before .union .kept .0 in omega (arith, c .before .state .ensures, row-fits (s .args .n) (s .args .width) (s .pre .3), s .pre .2)
 
 mul-work : tie.Need-mul-work
-mul-work c = let s = c .before .before .before .before .before .before .before .before in omega (arith, c .settled .ensures, node-below (s .pre .0) (s .pre .1) (le-of-lt (s .pre .3)))
+mul-work c = mul-old (c .before)
 
 slice-write-work : tie.Need-slice-write-work
-slice-write-work c = let s = c .before .before .before .before .before .before .before .before in let long = c .before .before .before .before .union .kept .0 in omega (arith, c .settled .ensures, row-fits (s .args .n) (s .args .width) (s .pre .3), s .pre .2)
+slice-write-work c = slice-read-old c
 
 same-length : tie.Need-same-length
 same-length c = search needs
 
 returns : tie.Need-returns
 returns c =
-    let s = c .before .before .before .before .before .before .before .before in
-    let u = union-at (c .before .before .before .before .before .mask-row .ensures) (c .before .if1 .taken) (c .before .before .before .before .union .ensures) in
-    let us : List ℕ = c .before .before .before .before .union .last .0 in
-    subst (λ (x : ℕ). Grown (now (s .args .work)) (set us x 0) (s .args .n) (s .args .width) (s .args .from) (s .args .d .0)) (sym (c .settled .ensures))
-    (grown-more (now (s .args .work)) (s .args .n) (s .args .width) (s .args .from) (s .args .d .0) (s .pre .2) (s .pre .3) (s .pre .4) (λ i. c .before .before .before .before .before .before .before .slice-known .given i .fits) u)
+    let s = c .before .before .before .before .before .before .before .before .before in
+    let u = union-at (c .before .before .before .before .before .before .mask-row .ensures) (c .before .before .if1 .taken) (c .before .before .before .before .before .union .ensures) in
+    let us : List ℕ = c .before .before .before .before .before .union .last .0 in
+    subst (λ (x : ℕ). Grown (now (s .args .work)) (set us x (getD us x 0 % 2)) (s .args .n) (s .args .width) (s .args .from) (s .args .d .0)) (sym (c .before .state .ensures))
+    (grown-more (now (s .args .work)) (s .args .n) (s .args .width) (s .args .from) (s .args .d .0) (s .pre .2) (s .pre .3) (s .pre .4) (λ i. c .before .before .before .before .before .before .before .before .slice-known .given i .fits) u)
 
 same-length-2 : tie.Need-same-length-2
 same-length-2 c = search needs
@@ -59,7 +65,9 @@ grow-spec =
     mask-row-requires
     mul-union
     union-requires
-    settled-requires
+    state-requires
+    mul-old
+    slice-read-old
     mul-work
     slice-write-work
     same-length
