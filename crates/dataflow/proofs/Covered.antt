@@ -27,7 +27,7 @@ use Rattle.calls.specs.contracts.Class.{CallOf}
 use Rattle.calls.specs.contracts.Slots.{edgeTo, lineSlots, present}
 use Rattle.calls.proofs.Slots.{present-entered}
 use Rattle.calls.proofs.Found.{same-number}
-use Rattle.solve.specs.contracts.Layout.{maskRowAt, waitsAt, nodesEnd}
+use Rattle.solve.specs.contracts.Layout.{maskRowAt, nodesEnd}
 use Rattle.solve.specs.contracts.Rows.{maskAt}
 use Rattle.solve.specs.contracts.Pushed.{masksAt, Source}
 use Rattle.solve.proofs.Room.{row-fits}

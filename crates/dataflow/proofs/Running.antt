@@ -1,6 +1,6 @@
 -- The solver goes through the states of the queue rule: it starts at the rule's first, each visit leads to the next, and where nothing waits it has come
 -- to what the rule leaves. A number's masks are then what a visit would pull.
-use Prim.Native.Nat.{ℕ, _+_, _*_, _/_, _<_, _≤_}
+use Prim.Native.Nat.{ℕ, _+_, _*_, _/_, _%_, _<_, _≤_}
 use mathlib.Core.Bool.{Bool, false, cond}
 use mathlib.Core.List.{List, [], _∷_}
 use mathlib.Core.Path.{_≡_, refl, sym, ap, ap₂, subst, _∙_}
@@ -28,11 +28,11 @@ use Rattle.statements.proofs.Keeps.{keeps-refl, keeps-trans, keeps-widen}
 use Rattle.statements.proofs.Members.{zero-has}
 use Rattle.calls.specs.contracts.Held.{Linked}
 use Rattle.solve.specs.declared.Queue.{Queue}
-use Rattle.solve.specs.contracts.Layout.{setRow, outRow, maskRowAt, settledAt, waitsAt, sentRowAt, areaEnd}
+use Rattle.solve.specs.contracts.Layout.{setRow, outRow, maskRowAt, stateAt, settledIn, sentRowAt, areaEnd}
 use Rattle.solve.specs.contracts.Rows.{maskAt, stepWhere}
 use Rattle.solve.specs.contracts.Waiting.{Waits, Enqueued}
 use Rattle.solve.specs.contracts.Pushed.{masksAt}
-use Rattle.solve.proofs.Room.{rows-apart, row-from, row-fits, nodes-within, not-waits, sent-from, sent-apart}
+use Rattle.solve.proofs.Room.{rows-apart, row-from, row-fits, nodes-within, not-state, sent-from, sent-apart}
 use Rattle.solve.proofs.Masks.{mask-cong}
 use Rattle.solve.proofs.Waiting.{rest-keeps, waits-none}
 use Rattle.dataflow.specs.contracts.Transfer.{RowSteps}
@@ -74,29 +74,29 @@ module _ (f : Flow) (n w : ℕ) (ws us : List ℕ) (entry count : ℕ) (sized : 
   low : (x : ℕ) → x < setRow n → getD us x 0 ≡ getD ws x 0
   low x l = entered .elsewhere x (λ a b. omega arith) (λ a b. let least = row-from n w entry in omega arith)
 
-  -- the words of the numbers beside their masks
-  flags : (d x : ℕ) → d < 2 * n → settledAt n w d ≤ x → x < waitsAt n w d + 1 → getD us x 0 ≡ 0
-  flags d x l lo hi =
+  -- the numbers have no state yet
+  no-state : (d : ℕ) → d < 2 * n → getD us (stateAt n w d) 0 ≡ 0
+  no-state d l =
       let least = row-from n w d in
       let fits = row-fits n w l in
       let end = nodes-within n w in
-      entered .elsewhere x (λ a b. omega arith) (λ a b. apart a b (decLt d entry) (decLt entry d)) ∙ unused x (omega arith) (omega arith)
+      entered .elsewhere (stateAt n w d) (λ a b. omega arith) (λ a b. apart a b (decLt d entry) (decLt entry d)) ∙ unused (stateAt n w d) (omega arith) (omega arith)
     where
-      apart : maskRowAt n w entry ≤ x → x < maskRowAt n w entry + 3 * w → Dec (d < entry) → Dec (entry < d) → ⊥
+      apart : maskRowAt n w entry ≤ stateAt n w d → stateAt n w d < maskRowAt n w entry + 3 * w → Dec (d < entry) → Dec (entry < d) → ⊥
       apart a b (yes h) c = let far = rows-apart n w h in omega arith
       apart a b (no h) (yes c) = let far = rows-apart n w c in omega arith
       apart a b (no h) (no c) = let same : d ≡ entry = omega (arith, h, c) in let here : maskRowAt n w d ≡ maskRowAt n w entry = rw same in omega arith
 
   pub first-waits : Waits us n w nothing []
-  first-waits = waits-none some (λ d l. flags d (waitsAt n w d) l (omega arith) (omega arith))
+  first-waits = waits-none some (λ d l. ap (λ z. z % 2) (no-state d l))
 
   module _ (vs : List ℕ) (r : Queue) (q : Enqueued us vs n w nothing entry r) where
-    -- joining the queue writes no other word of a number
-    kept-word : (d x : ℕ) → maskRowAt n w d ≤ x → x < waitsAt n w d → getD vs x 0 ≡ getD us x 0
-    kept-word d x lo hi = q .kept .above x (let least = row-from n w d in omega arith) (λ c m. not-waits n w d x lo hi c)
+    -- joining the queue writes no word of a number before its state
+    kept-word : (d x : ℕ) → maskRowAt n w d ≤ x → x < stateAt n w d → getD vs x 0 ≡ getD us x 0
+    kept-word d x lo hi = q .kept .above x (let least = row-from n w d in omega arith) (λ c m. not-state n w d x lo hi c)
 
-    not-settled : (d : ℕ) → d < 2 * n → getD vs (settledAt n w d) 0 ≡ 0
-    not-settled d l = kept-word d (settledAt n w d) (omega arith) (omega arith) ∙ flags d (settledAt n w d) l (omega arith) (omega arith)
+    not-settled : (d : ℕ) → d < 2 * n → settledIn vs n w d ≡ 0
+    not-settled d l = q .kept .settled d l ∙ ap (λ z. z / 2) (no-state d l)
 
     entry-is : g .entry ≡ entry
     unfolding doubled

@@ -10,7 +10,6 @@ use native.Mathlib.Omega.{arith}
 use borrow.Author.Tests.{eq-eqb, ne-eqb}
 use lib.Bits.{bitOr, or-self, or-zero-r}
 use lib.Dec.{eqb}
-use lib.ListN.{getD}
 use Rattle.flow.specs.declared.Base.{Base}
 use Rattle.flow.specs.declared.Base.the-variants.{Zero, N}
 use Rattle.flow.specs.Flow.{Flow, size}
@@ -24,7 +23,7 @@ use Rattle.statements.proofs.Keeps.{keeps-refl, keeps-trans}
 use Rattle.calls.specs.contracts.Slots.{toArc}
 use Rattle.calls.proofs.Slots.{or-assoc}
 use Rattle.solve.specs.declared.Queue.{Queue}
-use Rattle.solve.specs.contracts.Layout.{setRow, outRow, backRow, maskRowAt, settledAt, nodesEnd}
+use Rattle.solve.specs.contracts.Layout.{setRow, outRow, backRow, maskRowAt, settledIn, nodesEnd}
 use Rattle.solve.specs.contracts.Rows.{maskAt}
 use Rattle.solve.specs.contracts.Waiting.{Waits, Enqueued}
 use Rattle.solve.specs.contracts.Pushed.{masksAt, Source, Pushed}
@@ -83,7 +82,7 @@ unfolding carried enqueue
 sent-none {ws = ws} {n = n} {w = w} = record {
   waits = λ l h. h;
   masks = λ t a l m. sym (or-zero-r (masksAt ws n w t a));
-  settled = λ t l. sym (ap (λ (b : Bool). cond b 0 (getD ws (settledAt n w t) 0)) (differ-self (64 * w) (masksAt ws n w t)));
+  settled = λ t l. sym (ap (λ (b : Bool). cond b 0 (settledIn ws n w t)) (differ-self (64 * w) (masksAt ws n w t)));
   source = λ b a l. refl;
   keeps = keeps-refl;
 }
@@ -105,11 +104,11 @@ module _ (f : Flow) {ws vs : List ℕ} {n w : ℕ} {from : Bool → ℕ} {queue 
   one-settled : SettledSet n w ws vs
   one-settled t l = at (ℕ-discrete t (number f (x .to)))
     where
-      at : Dec (t ≡ number f (x .to)) → getD vs (settledAt n w t) 0 ≡ cond (differ (64 * w) (masksAt vs n w t) (masksAt ws n w t)) 0 (getD ws (settledAt n w t) 0)
-      at (yes e) = subst (λ (y : ℕ). getD vs (settledAt n w y) 0 ≡ cond (differ (64 * w) (masksAt vs n w y) (masksAt ws n w y)) 0 (getD ws (settledAt n w y) 0)) (sym e) (p .settled)
+      at : Dec (t ≡ number f (x .to)) → settledIn vs n w t ≡ cond (differ (64 * w) (masksAt vs n w t) (masksAt ws n w t)) 0 (settledIn ws n w t)
+      at (yes e) = subst (λ (y : ℕ). settledIn vs n w y ≡ cond (differ (64 * w) (masksAt vs n w y) (masksAt ws n w y)) 0 (settledIn ws n w y)) (sym e) (p .settled)
       at (no ne) =
           p .others-settled t l ne
-          ∙ sym (ap (λ (b : Bool). cond b 0 (getD ws (settledAt n w t) 0))
+          ∙ sym (ap (λ (b : Bool). cond b 0 (settledIn ws n w t))
           (differ-as (64 * w) (masksAt vs n w t) (masksAt ws n w t) (masksAt ws n w t) (masksAt ws n w t) (λ a m. p .others t a l ne m) (λ a m. refl) ∙ differ-self (64 * w) (masksAt ws n w t)))
 
   pub sent-one : {i : ℕ} → Sent f ws vs n w from queue i (x ∷ []) r
@@ -161,8 +160,8 @@ module _ {f : Flow} {ws us vs : List ℕ} {n w i : ℕ} {from : Bool → ℕ} {f
   both-settled t l =
       p .settled t l
       ∙ ap (cond (differ (64 * w) (masksAt vs n w t) (masksAt us n w t)) 0) (s .settled t l)
-      ∙ cond-or (differ (64 * w) (masksAt us n w t) (masksAt ws n w t)) (differ (64 * w) (masksAt vs n w t) (masksAt us n w t)) 0 (getD ws (settledAt n w t) 0)
-      ∙ sym (ap (λ (b : Bool). cond b 0 (getD ws (settledAt n w t) 0))
+      ∙ cond-or (differ (64 * w) (masksAt us n w t) (masksAt ws n w t)) (differ (64 * w) (masksAt vs n w t) (masksAt us n w t)) 0 (settledIn ws n w t)
+      ∙ sym (ap (λ (b : Bool). cond b 0 (settledIn ws n w t))
       (differ-chain (64 * w) (masksAt ws n w t) (masksAt us n w t) (masksAt vs n w t) (λ a m.
       or-between (masksAt ws n w t a) (masksAt us n w t a) (masksAt vs n w t a) (held (masksAt ws n w t a) _ _ (s .masks t a l m)) (held (masksAt us n w t a) _ _ (p .masks t a l m)))))
 
@@ -212,7 +211,8 @@ held-joined {ws} {vs} {n} {w} {from} {d} {queue} {r} below holds y =
     pushed below
     (record {
       masks = λ a l. sym (holds a l);
-      settled = sym (ap (λ (b : Bool). cond b 0 (getD ws (settledAt n w d) 0)) (differ-self (64 * w) (masksAt ws n w d)));
+      settled = sym (ap (λ (b : Bool). cond b 0 (settledIn ws n w d)) (differ-self (64 * w) (masksAt ws n w d)));
+      waits = refl;
       keeps = keeps-refl;
     })
     y

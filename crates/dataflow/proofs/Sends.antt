@@ -1,6 +1,6 @@
 -- One number sends its masks on: its edges' rows are made and pushed along the edges. The rows stand beside the solver's state, so what was pushed is what the
 -- doubled graph's edges bring.
-use Prim.Native.Nat.{ℕ, _+_, _*_, _≤_, _<_}
+use Prim.Native.Nat.{ℕ, _+_, _*_, _/_, _%_, _≤_, _<_}
 use mathlib.Core.Bool.{Bool, true, false, cond}
 use mathlib.Core.List.{List}
 use mathlib.Core.Path.{_≡_, refl, sym, ap, ap₂, subst, _∙_}
@@ -25,7 +25,7 @@ use Rattle.calls.specs.contracts.Slots.{slots, present}
 use Rattle.calls.proofs.Slots.{slot-edge, brings-slots, enqueue-slots}
 use Rattle.calls.proofs.Next.{plain-edge}
 use Rattle.solve.specs.declared.Queue.{Queue}
-use Rattle.solve.specs.contracts.Layout.{setRow, outRow, backRow, maskRowAt, settledAt, waitsAt}
+use Rattle.solve.specs.contracts.Layout.{setRow, outRow, backRow, maskRowAt, stateAt, settledIn}
 use Rattle.solve.specs.contracts.Rows.{maskAt, RowIs, stepWhere, member}
 use Rattle.solve.specs.contracts.Waiting.{Waits}
 use Rattle.solve.specs.contracts.Pushed.{masksAt}
@@ -87,14 +87,17 @@ call-touches {f} {ws} {n} {i} e l below =
 
 -- where only the rows for edges are written, the solver's state is as it was
 module _ (ws us : List ℕ) (n w : ℕ) (k : Keeps (setRow n) (maskRowAt n w 0) ws us) where
+  beside-state : (t : ℕ) → getD us (stateAt n w t) 0 ≡ getD ws (stateAt n w t) 0
+  beside-state t = k .above (stateAt n w t) (omega (arith, mul-zero w))
+
   pub beside-waits : {queue : Queue} {l : List ℕ} → Waits ws n w queue l → Waits us n w queue l
-  beside-waits h = waits-kept h (λ x l m. k .below x (omega arith)) (λ d m. k .above (waitsAt n w d) (let low = row-from n w d in let first = row-first n w in omega (arith, mul-zero w)))
+  beside-waits h = waits-kept h (λ x l m. k .below x (omega arith)) (λ d m. ap (λ z. z % 2) (beside-state d))
 
   beside-masks : (t a : ℕ) → t < 2 * n → a < 64 * w → masksAt us n w t a ≡ masksAt ws n w t a
   beside-masks = masks-kept ws us n w (λ x l h. k .above x l)
 
-  beside-settled : (t : ℕ) → getD us (settledAt n w t) 0 ≡ getD ws (settledAt n w t) 0
-  beside-settled t = k .above (settledAt n w t) (omega (arith, mul-zero w))
+  beside-settled : (t : ℕ) → settledIn us n w t ≡ settledIn ws n w t
+  beside-settled t = ap (λ z. z / 2) (beside-state t)
 
   pub beside-shared : {f : Flow} → Shared f ws n w → Shared f us n w
   beside-shared h = shared-stays n w (keeps-widen (omega arith) (omega (arith, mul-zero w)) k) (λ t a l m. ap (bitOr (masksAt us n w t a)) (sym (beside-masks t a l m)) ∙ or-self (masksAt us n w t a)) h

@@ -1,6 +1,6 @@
 -- What the RETURNs with one leader have sent, every continuation of theirs holds: it stays so while masks grow, and once more was sent along all edges of one of them.
 -- By the rows of RETURNs, which are that of their leader.
-use Prim.Native.Nat.{ℕ, zero, suc, _+_, _*_, _≤_, _<_}
+use Prim.Native.Nat.{ℕ, zero, suc, _+_, _*_, _/_, _%_, _≤_, _<_}
 use mathlib.Core.Bool.{Bool, true, false, cond}
 use mathlib.Core.List.{List, [], _∷_, List·Memᴰ·head, List·Memᴰ·tail}
 use mathlib.Core.Logic.{_≢_}
@@ -30,7 +30,7 @@ use Rattle.calls.specs.contracts.Slots.{returnSlots, present}
 use Rattle.calls.proofs.Slots.{or-assoc}
 use Rattle.calls.proofs.Found.{member-here}
 use Rattle.solve.specs.declared.Queue.{Queue}
-use Rattle.solve.specs.contracts.Layout.{outRow, maskRowAt, settledAt, waitsAt, nodesEnd, sentRowAt, areaEnd}
+use Rattle.solve.specs.contracts.Layout.{maskRowAt, stateAt, nodesEnd, sentRowAt, areaEnd}
 use Rattle.solve.specs.contracts.Rows.{maskAt}
 use Rattle.solve.specs.contracts.Waiting.{Waits}
 use Rattle.solve.specs.contracts.Pushed.{masksAt, Source}
@@ -141,7 +141,7 @@ module _ {f : Flow} {ws us : List ℕ} {n w i l from : ℕ} {g : Bool} (z : size
   noted-keeps = keeps-widen (sent-from n w l) fits noted
 
   pub noted-waits : {queue : Queue} {q : List ℕ} → Waits ws n w queue q → Waits us n w queue q
-  noted-waits hq = waits-kept hq (λ x lo hi. lower x (let far = row-from n w (2 * n) in omega arith)) (λ d m. lower (waitsAt n w d) (omega (arith, row-fits n w m)))
+  noted-waits hq = waits-kept hq (λ x lo hi. lower x (let far = row-from n w (2 * n) in omega arith)) (λ d m. ap (λ (z : ℕ). z % 2) (lower (stateAt n w d) (omega (arith, row-fits n w m))))
 
   noted-masks : (t a : ℕ) → t < 2 * n → a < 64 * w → masksAt us n w t a ≡ masksAt ws n w t a
   noted-masks t a b m = mask-cong ws us w (maskRowAt n w t) a m (λ x lo hi. lower x (let fit = row-fits n w b in omega arith))
@@ -225,7 +225,7 @@ module _ {f : Flow} {ws us : List ℕ} {n w i l from : ℕ} {g : Bool} (z : size
           s .settled t b
           ∙ ap₂ (λ (x : Bool) (y : ℕ). cond x 0 y)
           (differ-as (64 * w) (masksAt vs n w t) (masksAt vs n w t) (masksAt us n w t) (masksAt ws n w t) (λ a m. refl) (λ a m. noted-masks t a b m))
-          (lower (settledAt n w t) (let fit = row-fits n w b in omega arith));
+          (ap (λ (z : ℕ). z / 2) (lower (stateAt n w t) (let fit = row-fits n w b in omega arith)));
       shared = sent-shared;
       keeps = keeps-trans (keeps-widen (let far = row-from n w (2 * n) in omega arith) (omega arith) noted-keeps) (keeps-widen (omega arith) (nodes-within n w) (s .keeps));
     }

@@ -25,10 +25,10 @@ use Rattle.theory.proofs.Push.{alike, no-differ, pulled-next, pulled-same, chan
 use Rattle.statements.specs.contracts.Ready.{Keeps}
 use Rattle.statements.proofs.Keeps.{keeps-set, keeps-trans, keeps-widen}
 use Rattle.solve.specs.declared.Queue.{Queue}
-use Rattle.solve.specs.contracts.Layout.{maskRowAt, settledAt, waitsAt, nodesEnd}
+use Rattle.solve.specs.contracts.Layout.{maskRowAt, stateAt, waitsIn, settledIn, nodesEnd}
 use Rattle.solve.specs.contracts.Waiting.{Waits, Taken, restOf}
 use Rattle.solve.specs.contracts.Pushed.{masksAt}
-use Rattle.solve.proofs.Room.{rows-apart, row-from, row-fits, not-waits}
+use Rattle.solve.proofs.Room.{rows-apart, row-from, row-fits, not-state}
 use Rattle.solve.proofs.Masks.{mask-cong, differ-as}
 use Rattle.solve.proofs.Waiting.{rest-keeps}
 use Rattle.solve.proofs.Growing.{other-word, waits-grown}
@@ -123,8 +123,8 @@ module _ {f : Flow} (wf : WellFormed f) {n k : ℕ} (sized : size f ≡ n) (few 
 
   -- the area after the front is taken
 
-  took-word : (t y : ℕ) → maskRowAt n k t ≤ y → y < waitsAt n k t → getD vs y 0 ≡ getD ws y 0
-  took-word t y lo hi = taken .kept .above y (let low = row-from n k t in omega arith) (λ c m. not-waits n k t y lo hi c)
+  took-word : (t y : ℕ) → maskRowAt n k t ≤ y → y < stateAt n k t → getD vs y 0 ≡ getD ws y 0
+  took-word t y lo hi = taken .kept .above y (let low = row-from n k t in omega arith) (λ c m. not-state n k t y lo hi c)
 
   took-same : (t a : ℕ) → a < 64 * k → masksAt vs n k t a ≡ masksAt ws n k t a
   took-same t a m = mask-cong ws vs k (maskRowAt n k t) a m (λ y lo hi. took-word t y lo (omega arith))
@@ -132,14 +132,14 @@ module _ {f : Flow} (wf : WellFormed f) {n k : ℕ} (sized : size f ≡ n) (few 
   took-masks : (t a : ℕ) → t < 2 * n → a < 64 * k → masksAt vs n k t a ≡ masksBelow (f .arrays) (pulled g st t) a
   took-masks t a l m = took-same t a m ∙ u .solving .masks t a l m
 
-  took-settled : (t : ℕ) → t < 2 * n → getD vs (settledAt n k t) 0 ≡ cond (st .visited t && not (changed g st t)) 1 0
-  took-settled t l = took-word t (settledAt n k t) (omega arith) (omega arith) ∙ u .solving .settled t l
+  took-settled : (t : ℕ) → t < 2 * n → settledIn vs n k t ≡ cond (st .visited t && not (changed g st t)) 1 0
+  took-settled t l = taken .kept .settled t l ∙ u .solving .settled t l
 
   -- the test at the number taken
-  pub settled-at : {r : Bool} → r ≡ eqb (getD vs (settledAt n k d) 0) 1 → r ≡ not news
+  pub settled-at : {r : Bool} → r ≡ eqb (settledIn vs n k d) 1 → r ≡ not news
   unfolding news
   settled-at e =
-      e ∙ ap (λ (y : ℕ). eqb (getD vs (settledAt n k y) 0) 1) is-front ∙ ap (λ (y : ℕ). eqb y 1) (took-settled x front-in) ∙ is (st .visited x) (changed g st x)
+      e ∙ ap (λ (y : ℕ). eqb (settledIn vs n k y) 1) is-front ∙ ap (λ (y : ℕ). eqb y 1) (took-settled x front-in) ∙ is (st .visited x) (changed g st x)
     where
       is : (v c : Bool) → eqb (cond (v && not c) 1 0) 1 ≡ not (not v || c)
       is true true = refl
@@ -155,21 +155,32 @@ module _ {f : Flow} (wf : WellFormed f) {n k : ℕ} (sized : size f ≡ n) (few 
       at (no e) = visited-other g gwf st inv x w front e ∙ sym (ap (λ (b : Bool). cond b true (st .visited t)) (ne-eqb t x e))
 
   -- the visit is noted: the number is settled
-  module _ {us : List ℕ} (noted : us ≡ set vs (settledAt n k d) 1) (room : nodesEnd n k ≤ length vs) where
+  module _ {us : List ℕ} (noted : us ≡ set vs (stateAt n k d) (waitsIn vs n k d + 2)) (room : nodesEnd n k ≤ length vs) where
     in-area : d < 2 * n
     in-area = subst (λ (y : ℕ). y < 2 * n) (sym is-front) front-in
 
-    pub note-keeps : Keeps (maskRowAt n k d) (waitsAt n k d) vs us
-    note-keeps = subst (Keeps (maskRowAt n k d) (waitsAt n k d) vs) (sym noted) (keeps-set vs (settledAt n k d) 1 (omega arith) (omega arith))
+    pub note-keeps : Keeps (maskRowAt n k d) (stateAt n k d + 1) vs us
+    note-keeps = subst (Keeps (maskRowAt n k d) (stateAt n k d + 1) vs) (sym noted) (keeps-set vs (stateAt n k d) (waitsIn vs n k d + 2) (omega arith) (omega arith))
+
+    note-state : getD us (stateAt n k d) 0 ≡ waitsIn vs n k d + 2
+    note-state =
+        let fits = row-fits n k in-area in
+        ap (λ (l : List ℕ). getD l (stateAt n k d) 0) noted ∙ getD-set-same vs (stateAt n k d) (waitsIn vs n k d + 2) 0 (omega arith)
+
+    note-waits : waitsIn us n k d ≡ waitsIn vs n k d
+    note-waits = omega (arith, note-state)
+
+    note-settled : settledIn us n k d ≡ 1
+    note-settled = omega (arith, note-state)
 
     pub noted-waits : Waits us n k (restOf n q) w
-    noted-waits = waits-grown n k d note-keeps rest-waits
+    noted-waits = waits-grown n k d note-keeps note-waits rest-waits
 
     noted-same : (t a : ℕ) → a < 64 * k → masksAt us n k t a ≡ masksAt vs n k t a
     noted-same t a m =
-        mask-cong vs us k (maskRowAt n k t) a m (λ y lo hi. ap (λ (l : List ℕ). getD l y 0) noted ∙ getD-set-other vs (settledAt n k d) y 1 0 (λ q. apart y lo hi q (decLt t d) (decLt d t)))
+        mask-cong vs us k (maskRowAt n k t) a m (λ y lo hi. ap (λ (l : List ℕ). getD l y 0) noted ∙ getD-set-other vs (stateAt n k d) y (waitsIn vs n k d + 2) 0 (λ q. apart y lo hi q (decLt t d) (decLt d t)))
       where
-        apart : (y : ℕ) → maskRowAt n k t ≤ y → y < maskRowAt n k t + 3 * k → y ≡ settledAt n k d → Dec (t < d) → Dec (d < t) → ⊥
+        apart : (y : ℕ) → maskRowAt n k t ≤ y → y < maskRowAt n k t + 3 * k → y ≡ stateAt n k d → Dec (t < d) → Dec (d < t) → ⊥
         apart y lo hi q (yes b) c = let far = rows-apart n k b in omega arith
         apart y lo hi q (no b) (yes c) = let far = rows-apart n k c in omega arith
         apart y lo hi q (no b) (no c) = let same : t ≡ d = omega (arith, b, c) in let here : maskRowAt n k t ≡ maskRowAt n k d = rw same in omega arith
@@ -184,13 +195,11 @@ module _ {f : Flow} (wf : WellFormed f) {n k : ℕ} (sized : size f ≡ n) (few 
         let keeps = keeps-trans (rest-keeps (taken .kept)) (keeps-widen (omega arith) (omega arith) note-keeps) in
         shared-stays n k keeps (λ t a l m. ap (bitOr (masksAt us n k t a)) (sym (noted-same t a m ∙ took-same t a m)) ∙ or-self (masksAt us n k t a)) (u .solving .shared)
 
-    noted-front : (t : ℕ) → t ≡ x → getD us (settledAt n k t) 0 ≡ 1
-    noted-front t e =
-        let fits = row-fits n k in-area in
-        ap₂ (λ (l : List ℕ) (y : ℕ). getD l (settledAt n k y) 0) noted (e ∙ sym is-front) ∙ getD-set-same vs (settledAt n k d) 1 0 (omega arith)
+    noted-front : (t : ℕ) → t ≡ x → settledIn us n k t ≡ 1
+    noted-front t e = ap (settledIn us n k) (e ∙ sym is-front) ∙ note-settled
 
-    noted-other : (t : ℕ) → t ≢ x → getD us (settledAt n k t) 0 ≡ getD vs (settledAt n k t) 0
-    noted-other t e = other-word n k d note-keeps t (λ q. e (q ∙ is-front)) (settledAt n k t) (omega arith) (omega arith)
+    noted-other : (t : ℕ) → t ≢ x → settledIn us n k t ≡ settledIn vs n k t
+    noted-other t e = ap (λ z. z / 2) (other-word n k d note-keeps t (λ q. e (q ∙ is-front)) (stateAt n k t) (omega arith) (omega arith))
 
     -- a number that was settled before: the area is as it was behind the front
     module _ (still : news ≡ false) where
@@ -225,10 +234,10 @@ module _ {f : Flow} (wf : WellFormed f) {n k : ℕ} (sized : size f ≡ n) (few 
           at (no e) =
               changed-other g gwf st inv x w front t e ∙ ap (λ (b : Bool). changed g st t || b) (same-differ t) ∙ or-false (changed g st t)
 
-      still-settled : (t : ℕ) → t < 2 * n → getD us (settledAt n k t) 0 ≡ cond (next .visited t && not (changed g next t)) 1 0
+      still-settled : (t : ℕ) → t < 2 * n → settledIn us n k t ≡ cond (next .visited t && not (changed g next t)) 1 0
       still-settled t l = at (ℕ-discrete t x)
         where
-          at : Dec (t ≡ x) → getD us (settledAt n k t) 0 ≡ cond (next .visited t && not (changed g next t)) 1 0
+          at : Dec (t ≡ x) → settledIn us n k t ≡ cond (next .visited t && not (changed g next t)) 1 0
           at (yes e) =
               noted-front t e
               ∙ sym (ap₂ (λ (v c : Bool). cond (v && not c) 1 0) (visited-at g gwf st inv x w front e) (ap (changed g next) e ∙ changed-front g gwf st inv x w front ∙ same-differ x))
@@ -264,7 +273,7 @@ module _ {f : Flow} (wf : WellFormed f) {n k : ℕ} (sized : size f ≡ n) (few 
           differ-as (64 * k) (masksAt os n k t) (masksBelow (f .arrays) (pulled g next t)) (masksAt us n k t) (masksBelow (f .arrays) (pulled g st t)) (λ a m. next-masks t a l m) (λ a m. noted-masks t a l m)
           ∙ differ-below (64 * k) (f .arrays) (pulled g next t) (pulled g st t) few
 
-      next-settled : (t : ℕ) → t < 2 * n → getD os (settledAt n k t) 0 ≡ cond (next .visited t && not (changed g next t)) 1 0
+      next-settled : (t : ℕ) → t < 2 * n → settledIn os n k t ≡ cond (next .visited t && not (changed g next t)) 1 0
       next-settled t l = at (ℕ-discrete t x)
         where
           grew : Bool
@@ -282,7 +291,7 @@ module _ {f : Flow} (wf : WellFormed f) {n k : ℕ} (sized : size f ≡ n) (few 
           other-is false c true = refl
           other-is false c false = refl
 
-          at : Dec (t ≡ x) → getD os (settledAt n k t) 0 ≡ cond (next .visited t && not (changed g next t)) 1 0
+          at : Dec (t ≡ x) → settledIn os n k t ≡ cond (next .visited t && not (changed g next t)) 1 0
           at (yes e) =
               sent .settled t l
               ∙ ap₂ (λ (b : Bool) (y : ℕ). cond b 0 y) (added t l) (noted-front t e)

@@ -1,6 +1,6 @@
 -- One more sweep notes the statements from the last down to i in the rows of their successors; the columns below i are still empty. A statement whose live-in
 -- changed waits. One more statement at a time, from words of the worklist that are zero.
-use Prim.Native.Nat.{ℕ, _+_, _/_, _-_, _<_, _≤_}
+use Prim.Native.Nat.{ℕ, _+_, _/_, _%_, _-_, _<_, _≤_}
 use mathlib.Core.Bool.{Bool, true, false, cond}
 use mathlib.Core.List.{List, []}
 use mathlib.Core.Logic.{⊎-elim}
@@ -26,7 +26,7 @@ use Rattle.statements.specs.contracts.Ready.{Keeps}
 use Rattle.statements.proofs.WorkArea.{row-from, row-fits, member-word}
 use Rattle.statements.proofs.Keeps.{keeps-refl, keeps-trans, keeps-widen, keeps-zeroed}
 use Rattle.statements.proofs.Members.{zero-has}
-use Rattle.solve.specs.contracts.Layout.{waitsAt, nodesEnd}
+use Rattle.solve.specs.contracts.Layout.{stateAt, nodesEnd}
 use Rattle.solve.proofs.Room as rows
 use Rattle.solve.specs.declared.Queue.{Queue}
 use Rattle.solve.specs.contracts.Waiting.{Waits}
@@ -66,7 +66,7 @@ module _ (ws : List ℕ) (n : ℕ) {vs : List ℕ} (fits : nodesEnd n 0 ≤ leng
     low = le-refl n;
     noted = λ k l m. absurd (omega arith);
     free = λ k l j m. zero-has vs (rowAt n j) k (cleared-word (rowAt n j + k / 64) (omega (arith, row-from n j)) (omega (arith, row-fits n m, member-word l)));
-    held = ([], waits-none p (λ d m. cleared-word (waitsAt n 0 d) (omega (arith, row-from n n)) (omega (arith, rows.row-fits n 0 m))), solving-none sound);
+    held = ([], waits-none p (λ d m. ap (λ z. z % 2) (cleared-word (stateAt n 0 d) (omega (arith, row-from n n)) (omega (arith, rows.row-fits n 0 m)))), solving-none sound);
     kept = keeps-refl;
     in-area = keeps-refl;
     out-area = keeps-refl;
@@ -78,7 +78,7 @@ beginning-start a k b = start-keeps a (keeps-trans k (b .kept)) (b .in-area) (b 
 
 -- noting writes no word of the queue
 pub noted-waits : {f : Flow} {ws vs w : List ℕ} {n i : ℕ} {q : Queue} → Noted f ws vs n i → Waits ws n 0 q w → Waits vs n 0 q w
-noted-waits s h = waits-kept h (λ x l m. s .kept .above x l) (λ d m. s .kept .above _ (omega arith))
+noted-waits s h = waits-kept h (λ x l m. s .kept .above x l) (λ d m. ap (λ z. z % 2) (s .kept .above _ (omega arith)))
 
 -- the list of those that wait, with the statement in it if it changed
 

@@ -1,11 +1,11 @@
 -- A row of masks joined to another: each mask is united, the number is settled no more where some mask is another, and every other word stays.
 -- By the union of rows of masks, which are one or lie apart.
-use Prim.Native.Nat.{ℕ, _+_, _*_, _≤_, _<_}
+use Prim.Native.Nat.{ℕ, _+_, _*_, _/_, _%_, _≤_, _<_}
 use mathlib.Core.Bool.{Bool, true, false, cond}
 use mathlib.Core.List.{List}
 use mathlib.Core.Logic.{_≢_, _⊎_, inl, inr}
 use mathlib.Core.Path.{_≡_, refl, sym, ap, subst, _∙_}
-use native.Mathlib.Decide.{decLt}
+use native.Mathlib.Decide.{decLt, ℕ-discrete}
 use native.Mathlib.Omega.{arith}
 use lib.Bits.{bitOr}
 use lib.ListN.{length, getD, set}
@@ -19,11 +19,11 @@ use Rattle.statements.specs.contracts.Layout.{queueAt, solverAt}
 use Rattle.statements.specs.contracts.Ready.{Keeps}
 use Rattle.statements.proofs.Keeps.{keeps-set, keeps-unioned, keeps-trans, keeps-refl, keeps-widen}
 use Rattle.solve.specs.declared.Queue.{Queue}
-use Rattle.solve.specs.contracts.Layout.{setRow, maskRowAt, settledAt, waitsAt, nodesEnd}
+use Rattle.solve.specs.contracts.Layout.{setRow, maskRowAt, stateAt, waitsIn, settledIn, nodesEnd}
 use Rattle.solve.specs.contracts.Rows.{maskAt}
-use Rattle.solve.specs.contracts.Waiting.{Waits, Enqueued}
+use Rattle.solve.specs.contracts.Waiting.{Waits, Enqueued, unsettled}
 use Rattle.solve.specs.contracts.Pushed.{masksAt, Source, Grown, Pushed}
-use Rattle.solve.proofs.Room.{rows-apart, row-from, row-first, row-fits, not-waits}
+use Rattle.solve.proofs.Room.{rows-apart, row-from, row-first, row-fits, not-state}
 use Rattle.solve.proofs.Masks.{mask-cong, unioned-mask, differs-masks, differ-as}
 use Rattle.solve.proofs.Waiting.{rest-keeps, waits-kept}
 
@@ -51,25 +51,22 @@ source-fits n w from (inl s) = omega (arith, row-from n w (2 * n), row-first n w
 source-fits n w from (inr s) = omega (arith, row-fits n w (s .1), s .2)
 
 -- what a number's own words are keeps those of another
-module _ (n w d : ℕ) {ws vs : List ℕ} (k : Keeps (maskRowAt n w d) (waitsAt n w d) ws vs) where
-  pub other-word : (e : ℕ) → e ≢ d → (x : ℕ) → maskRowAt n w e ≤ x → x < waitsAt n w e + 1 → getD vs x 0 ≡ getD ws x 0
+module _ (n w d : ℕ) {ws vs : List ℕ} (k : Keeps (maskRowAt n w d) (stateAt n w d + 1) ws vs) where
+  pub other-word : (e : ℕ) → e ≢ d → (x : ℕ) → maskRowAt n w e ≤ x → x < stateAt n w e + 1 → getD vs x 0 ≡ getD ws x 0
   other-word e ne x lo hi = go (decLt e d)
     where
       go : Dec (e < d) → getD vs x 0 ≡ getD ws x 0
       go (yes b) = k .below x (let far = rows-apart n w b in omega arith)
       go (no b) = let less : d < e = omega (arith, b, ne) in let far = rows-apart n w less in k .above x (omega arith)
 
-  pub same-flag : (e : ℕ) → getD vs (waitsAt n w e) 0 ≡ getD ws (waitsAt n w e) 0
-  same-flag e = go (decLt e d) (decLt d e)
-    where
-      go : Dec (e < d) → Dec (d < e) → getD vs (waitsAt n w e) 0 ≡ getD ws (waitsAt n w e) 0
-      go (yes b) c = k .below _ (let far = rows-apart n w b in omega arith)
-      go (no b) (yes c) = k .above _ (let far = rows-apart n w c in omega arith)
-      go (no b) (no c) = let same : e ≡ d = omega (arith, b, c) in k .above _ (let here : waitsAt n w e ≡ waitsAt n w d = rw same in omega arith)
+  -- the queue goes by other words, and by whether the number itself waits
+  module _ (own : waitsIn vs n w d ≡ waitsIn ws n w d) where
+    same-flag : (e : ℕ) → Dec (e ≡ d) → waitsIn vs n w e ≡ waitsIn ws n w e
+    same-flag e (yes q) = ap (waitsIn vs n w) q ∙ own ∙ sym (ap (waitsIn ws n w) q)
+    same-flag e (no q) = ap (λ z. z % 2) (other-word e q (stateAt n w e) (omega arith) (omega arith))
 
-  -- the queue goes by other words
-  pub waits-grown : {queue : Queue} {l : List ℕ} → Waits ws n w queue l → Waits vs n w queue l
-  waits-grown h = waits-kept h (λ x lo hi. k .below x (let low = row-from n w d in omega arith)) (λ e m. same-flag e)
+    pub waits-grown : {queue : Queue} {l : List ℕ} → Waits ws n w queue l → Waits vs n w queue l
+    waits-grown h = waits-kept h (λ x lo hi. k .below x (let low = row-from n w d in omega arith)) (λ e m. same-flag e (ℕ-discrete e d))
 
 module _ (ws : List ℕ) (n w from d : ℕ) (room : nodesEnd n w ≤ length ws) (below : d < 2 * n) (source : Source n w from) (ww : Words ws) where
   abbrev to : ℕ
@@ -89,23 +86,43 @@ module _ (ws : List ℕ) (n w from d : ℕ) (room : nodesEnd n w ≤ length ws) 
       let same : us ≡ ws = union-same u refl in
       record {
         masks = united us (u .slice);
-        settled = ap (λ (l : List ℕ). getD l (settledAt n w d) 0) same ∙ ap (λ (b : Bool). cond b 0 (getD ws (settledAt n w d) 0)) (differ-is u);
-        keeps = subst (Keeps to (waitsAt n w d) ws) (sym same) keeps-refl;
+        settled = ap (λ (l : List ℕ). settledIn l n w d) same ∙ ap (λ (b : Bool). cond b 0 (settledIn ws n w d)) (differ-is u);
+        waits = ap (λ (l : List ℕ). waitsIn l n w d) same;
+        keeps = subst (Keeps to (stateAt n w d + 1) ws) (sym same) keeps-refl;
       }
 
-  pub grown-more : {us : List ℕ} → Unioned ws us to from (3 * w) true → Grown ws (set us (settledAt n w d) 0) n w from d
+  union-keeps : {us : List ℕ} {r : Bool} → Unioned ws us to from (3 * w) r → Keeps to (stateAt n w d) ws us
+  union-keeps u = subst (Keeps to (stateAt n w d) ws) (sym (u .slice)) (keeps-unioned ws to from (3 * w) (omega arith) (omega arith))
+
+  pub grown-more : {us : List ℕ} → Unioned ws us to from (3 * w) true → Grown ws (set us (stateAt n w d) (waitsIn us n w d)) n w from d
   grown-more {us} u =
       let fits = row-fits n w below in
-      let long : length us ≡ length ws = ap length (u .slice) ∙ length-unioned ws to from (3 * w) in
-      let row : (a : ℕ) → a < 64 * w → masksAt (set us (settledAt n w d) 0) n w d a ≡ masksAt us n w d a =
-      λ a l. mask-cong us (set us (settledAt n w d) 0) w to a l (λ x lo hi. getD-set-other us (settledAt n w d) x 0 0 (λ q. omega arith)) in
+      let long : length us ≡ length ws = union-keeps u .size in
+      let vs : List ℕ = set us (stateAt n w d) (waitsIn us n w d) in
+      let state : getD vs (stateAt n w d) 0 ≡ waitsIn us n w d = getD-set-same us (stateAt n w d) (waitsIn us n w d) 0 (omega arith) in
+      let row : (a : ℕ) → a < 64 * w → masksAt vs n w d a ≡ masksAt us n w d a =
+      λ a l. mask-cong us vs w to a l (λ x lo hi. getD-set-other us (stateAt n w d) x (waitsIn us n w d) 0 (λ q. omega arith)) in
       record {
         masks = λ a l. row a l ∙ united us (u .slice) a l;
-        settled = getD-set-same us (settledAt n w d) 0 0 (omega arith)
-            ∙ ap (λ (b : Bool). cond b 0 (getD ws (settledAt n w d) 0)) (differ-is u ∙ differ-as (64 * w) (masksAt us n w d) (masksAt (set us (settledAt n w d) 0) n w d) (masksAt ws n w d) (masksAt ws n w d) (λ a l. sym (row a l)) (λ a l. refl));
-        keeps = keeps-trans (subst (Keeps to (waitsAt n w d) ws) (sym (u .slice)) (keeps-unioned ws to from (3 * w) (omega arith) (omega arith)))
-            (keeps-set us (settledAt n w d) 0 (omega arith) (omega arith));
+        settled = ap (λ z. z / 2) state ∙ bare (getD us (stateAt n w d) 0)
+            ∙ ap (λ (b : Bool). cond b 0 (settledIn ws n w d)) (differ-is u ∙ differ-as (64 * w) (masksAt us n w d) (masksAt vs n w d) (masksAt ws n w d) (masksAt ws n w d) (λ a l. sym (row a l)) (λ a l. refl));
+        waits = ap (λ z. z % 2) state ∙ again (getD us (stateAt n w d) 0) ∙ ap (λ z. z % 2) (union-keeps u .above (stateAt n w d) (omega arith));
+        keeps = keeps-trans (keeps-widen (omega arith) (omega arith) (union-keeps u)) (keeps-set us (stateAt n w d) (waitsIn us n w d) (omega arith) (omega arith));
       }
+    where
+      bare : (x : ℕ) → (x % 2) / 2 ≡ 0
+      bare x = omega arith
+
+      again : (x : ℕ) → (x % 2) % 2 ≡ x % 2
+      again x = omega arith
+
+  pub grown-by : (r : Bool) {us : List ℕ} → Unioned ws us to from (3 * w) r → Grown ws (unsettled r us n w d) n w from d
+  grown-by true u = grown-more u
+  grown-by false u = grown-not u
+
+  -- the queue goes by other words
+  pub waits-unioned : {us : List ℕ} {r : Bool} {queue : Queue} {l : List ℕ} → Unioned ws us to from (3 * w) r → Waits ws n w queue l → Waits us n w queue l
+  waits-unioned u h = waits-grown n w d (keeps-widen (omega arith) (omega arith) (union-keeps u)) (ap (λ z. z % 2) (union-keeps u .above (stateAt n w d) (omega arith))) h
 
 -- a union by the place that was found
 pub union-at : {ws us : List ℕ} {to from to′ width : ℕ} {r r′ : Bool} → to′ ≡ to → r′ ≡ r → Unioned ws us to′ from width r′ → Unioned ws us to from width r
@@ -116,17 +133,17 @@ union-at {ws} {us} {to} {from} {to′} {width} {r} p t u =
 pub pushed : {ws us vs : List ℕ} {n w from d : ℕ} {queue r : Queue} → d < 2 * n → Grown ws us n w from d → Enqueued us vs n w queue d r
     → Pushed ws vs n w queue from d r
 pushed {ws} {us} {vs} {n} {w} {from} {d} {queue} {r} below x y =
-    let word : (e z : ℕ) → maskRowAt n w e ≤ z → z < waitsAt n w e → getD vs z 0 ≡ getD us z 0 =
-    λ e z lo hi. y .kept .above z (let low = row-from n w e in omega arith) (λ c m. not-waits n w e z lo hi c) in
+    let word : (e z : ℕ) → maskRowAt n w e ≤ z → z < stateAt n w e → getD vs z 0 ≡ getD us z 0 =
+    λ e z lo hi. y .kept .above z (let low = row-from n w e in omega arith) (λ c m. not-state n w e z lo hi c) in
     let masks : (e a : ℕ) → a < 64 * w → masksAt vs n w e a ≡ masksAt us n w e a =
     λ e a l. mask-cong us vs w (maskRowAt n w e) a l (λ z lo hi. word e z lo (omega arith)) in
     record {
       masks = λ a l. masks d a l ∙ x .masks a l;
       others = λ e a b ne l. masks e a l ∙ mask-cong ws us w (maskRowAt n w e) a l (λ z lo hi. other-word n w d (x .keeps) e ne z lo (omega arith));
-      settled = word d (settledAt n w d) (omega arith) (omega arith) ∙ x .settled
-          ∙ ap (λ (b : Bool). cond b 0 (getD ws (settledAt n w d) 0)) (differ-as (64 * w) (masksAt us n w d) (masksAt vs n w d) (masksAt ws n w d) (masksAt ws n w d) (λ a l. sym (masks d a l)) (λ a l. refl));
-      others-settled = λ e b ne. word e (settledAt n w e) (omega arith) (omega arith) ∙ other-word n w d (x .keeps) e ne (settledAt n w e) (omega arith) (omega arith);
+      settled = y .kept .settled d below ∙ x .settled
+          ∙ ap (λ (b : Bool). cond b 0 (settledIn ws n w d)) (differ-as (64 * w) (masksAt us n w d) (masksAt vs n w d) (masksAt ws n w d) (masksAt ws n w d) (λ a l. sym (masks d a l)) (λ a l. refl));
+      others-settled = λ e b ne. y .kept .settled e b ∙ ap (λ z. z / 2) (other-word n w d (x .keeps) e ne (stateAt n w e) (omega arith) (omega arith));
       rows = λ z lo hi. y .kept .above z lo (λ c m q. let low = row-from n w c in let first = row-first n w in omega arith) ∙ x .keeps .below z (let low = row-from n w d in let first = row-first n w in omega arith);
-      waits = λ l h. y .waits l (waits-grown n w d (x .keeps) h);
+      waits = λ l h. y .waits l (waits-grown n w d (x .keeps) (x .waits) h);
       keeps = keeps-trans (keeps-widen (let low = row-from n w d in omega arith) (let fits = row-fits n w below in omega arith) (x .keeps)) (rest-keeps (y .kept));
     }

@@ -13,11 +13,11 @@ use Rattle.statements.specs.contracts.Layout.{maxWidth, queueAt}
 use Rattle.statements.specs.contracts.Ready.{Ready}
 use Rattle.statements.proofs.Keeps.{ready-most}
 use Rattle.statements.proofs.WorkArea.{row-below}
-use Rattle.solve.specs.contracts.Layout.{backRow, maskRowAt, waitsAt, nodesEnd, sentRowAt, areaEnd}
+use Rattle.solve.specs.contracts.Layout.{backRow, maskRowAt, stateAt, nodesEnd, sentRowAt, areaEnd}
 
 module _ (n w : ℕ) where
   -- the words of a number end where those of a later one begin, or before
-  pub rows-apart : {d k : ℕ} → d < k → waitsAt n w d + 1 ≤ maskRowAt n w k
+  pub rows-apart : {d k : ℕ} → d < k → stateAt n w d + 1 ≤ maskRowAt n w k
   rows-apart {d} {k} l = omega (arith, mul-suc w d, mul-le-mul-left w l)
 
   -- the first row stands behind those for the edges at hand
@@ -28,20 +28,20 @@ module _ (n w : ℕ) where
   row-from d = omega arith
 
   -- the words of a number end where all of them do, or before
-  pub row-fits : {d : ℕ} → d < 2 * n → waitsAt n w d + 1 ≤ nodesEnd n w
+  pub row-fits : {d : ℕ} → d < 2 * n → stateAt n w d + 1 ≤ nodesEnd n w
   row-fits l = rows-apart l
 
   pub nodes-within : nodesEnd n w ≤ areaEnd n w
   nodes-within = omega arith
 
-  -- a word before the last of a number's says of no number that it waits
-  pub not-waits : (e x : ℕ) → maskRowAt n w e ≤ x → x < waitsAt n w e → (d : ℕ) → x ≢ waitsAt n w d
-  not-waits e x lo hi d q = go (decLt d e) (decLt e d)
+  -- a word of a number before its state is no number's state
+  pub not-state : (e x : ℕ) → maskRowAt n w e ≤ x → x < stateAt n w e → (d : ℕ) → x ≢ stateAt n w d
+  not-state e x lo hi d q = go (decLt d e) (decLt e d)
     where
       go : Dec (d < e) → Dec (e < d) → ⊥
       go (yes l) b = omega (arith, rows-apart l)
       go (no l) (yes m) = omega (arith, rows-apart m)
-      go (no l) (no m) = let same : d ≡ e = omega (arith, l, m) in let here : waitsAt n w d ≡ waitsAt n w e = rw same in omega arith
+      go (no l) (no m) = let same : d ≡ e = omega (arith, l, m) in let here : stateAt n w d ≡ stateAt n w e = rw same in omega arith
 
   -- the rows of what was sent
 

@@ -1,5 +1,5 @@
 // Where the solver's words stand, for a flow of n statements whose sets of arrays have `width` words: behind those of the calls a set and two rows of masks for the statement at hand; then for
-// each doubled number a row of masks, whether it is settled and whether it waits, so that what a visit asks of a number stands together; then a row of masks for each statement that leads RETURNs.
+// each doubled number a row of masks and its state, whether it waits and whether it is settled, so that what a visit asks of a number stands together; then a row of masks for each statement that leads RETURNs.
 ghost use mathlib.Core.Path.{_≡_};
 ghost use Prim.Native.Nat.{_+_, _*_, _<_, _≤_};
 ghost use Rattle.flow.specs.Limits.{maxStatements};
@@ -46,7 +46,7 @@ fn mask_rows_end(n: usize, width: usize, k: usize) -> usize
     requires { ⌜ (n ≤ maxStatements) × (width ≤ maxWidth) × (k ≤ 2 * n) ⌝ }
     ensures { λ r. ⌜ r ≡ at.maskRowsEnd n width k ⌝ }
 {
-    sets_on(n, width, 7) + (3 * (width * k) + 2 * k)
+    sets_on(n, width, 7) + (3 * (width * k) + k)
 }
 
 // The row of masks of a doubled number.
@@ -57,20 +57,12 @@ pub fn mask_row(n: usize, width: usize, d: NodeId) -> usize
     mask_rows_end(n, width, d.0)
 }
 
-// The word that says that it was visited and that its masks have not grown since.
-pub fn settled(n: usize, width: usize, d: NodeId) -> usize
-    requires { ⌜ (n ≤ maxStatements) × (width ≤ maxWidth) × (d .0 < 2 * n) ⌝ }
-    ensures { λ r. ⌜ r ≡ at.settledAt n width (d .0) ⌝ }
-{
-    mask_row(n, width, d) + 3 * width
-}
-
-// The word that says that the number d of the ring waits.
-pub fn waits(n: usize, width: usize, d: usize) -> usize
+// The word that says whether the number d of the ring waits, and whether it was visited and its masks have not grown since.
+pub fn state(n: usize, width: usize, d: usize) -> usize
     requires { ⌜ (n ≤ maxStatements) × (width ≤ maxWidth) × (d < 2 * n) ⌝ }
-    ensures { λ r. ⌜ r ≡ at.waitsAt n width d ⌝ }
+    ensures { λ r. ⌜ r ≡ at.stateAt n width d ⌝ }
 {
-    mask_rows_end(n, width, d) + 3 * width + 1
+    mask_rows_end(n, width, d) + 3 * width
 }
 
 // Where the words of the doubled numbers end.

@@ -6,27 +6,17 @@ ghost use Rattle.flow.specs.Limits.{maxStatements};
 ghost use Rattle.statements.specs.contracts.Layout.{maxWidth};
 ghost use Rattle.solve.specs.contracts.Layout.{nodesEnd};
 ghost use Rattle.solve.specs.contracts.Waiting.{Waits};
-ghost use Rattle.solve.specs.contracts.Pushed.{Source, Grown, Pushed};
+ghost use Rattle.solve.specs.contracts.Pushed.{Source, Pushed};
 use crate::Queue;
 use crate::layout;
-use crate::nodes;
+use crate::ring;
 use flow::NodeId;
-
-// The row at `from` is joined to the masks of d; if they grew, d is settled no more.
-pub fn grow(work: &mut [u64], n: usize, width: usize, from: usize, d: NodeId)
-    requires { ⌜ (n ≤ maxStatements) × (width ≤ maxWidth) × (nodesEnd n width ≤ length (now work)) × (d .0 < 2 * n) × Source n width from ⌝ }
-    ensures { λ _. ⌜ Grown (now (work .entry)) (now (work .exit)) n width from (d .0) ⌝ }
-{
-    if words::union(work, layout::mask_row(n, width, d), from, 3 * width) {
-        work[layout::settled(n, width, d)] = 0;
-    }
-}
 
 // The row at `from` is joined to the masks of d, and d waits afterwards.
 pub fn push(work: &mut [u64], n: usize, width: usize, queue: Queue, from: usize, d: NodeId) -> Queue
     requires { ⌜ (n ≤ maxStatements) × (width ≤ maxWidth) × (nodesEnd n width ≤ length (now work)) × (d .0 < 2 * n) × Source n width from × ((l : List ℕ) × Waits (now work) n width queue l) ⌝ }
     ensures { λ r. ⌜ Pushed (now (work .entry)) (now (work .exit)) n width queue from (d .0) r ⌝ }
 {
-    grow(work, n, width, from, d);
-    nodes::enqueue(work, n, width, queue, d)
+    let grew = words::union(work, layout::mask_row(n, width, d), from, 3 * width);
+    ring::enqueue(work, n, width, queue, d.0, grew)
 }

@@ -14,7 +14,7 @@ pub fn enqueue(work: &mut [u64], n: usize, queue: Queue, i: StmtId) -> Queue
     requires { ⌜ (n ≤ maxStatements) × (nodesEnd n 0 ≤ length (now work)) × (i .0 < 2 * n) × ((w : List ℕ) × Waits (now work) n 0 queue w) ⌝ }
     ensures { λ r. ⌜ Enqueued (now (work .entry)) (now (work .exit)) n 0 queue (i .0) r ⌝ }
 {
-    ring::enqueue(work, n, 0, queue, i.0)
+    ring::enqueue(work, n, 0, queue, i.0, false)
 }
 
 // The front, which waits no more.

@@ -19,7 +19,7 @@ use Rattle.statements.specs.contracts.Layout.{bodiesAt, rowAt, queueAt}
 use Rattle.statements.specs.contracts.Ready.{Keeps}
 use Rattle.calls.specs.contracts.Slots.{toArc}
 use Rattle.solve.specs.declared.Queue.{Queue}
-use Rattle.solve.specs.contracts.Layout.{setRow, outRow, backRow, maskRowAt, settledAt, waitsAt, nodesEnd, sentRowAt, areaEnd}
+use Rattle.solve.specs.contracts.Layout.{setRow, outRow, backRow, maskRowAt, waitsIn, settledIn, nodesEnd, sentRowAt, areaEnd}
 use Rattle.solve.specs.contracts.Rows.{maskAt}
 use Rattle.solve.specs.contracts.Waiting.{Waits}
 use Rattle.solve.specs.contracts.Pushed.{masksAt}
@@ -50,7 +50,7 @@ carried f ws w from (x ∷ xs) t a = bitOr (cond (eqb (number f (x .to)) t) (mas
 -- a number is settled no more where its masks grew, and else as before
 abbrev pub SettledSet : ℕ → ℕ → List ℕ → List ℕ → Type 0
 SettledSet n w ws vs = (t : ℕ) → t < 2 * n
-    → getD vs (settledAt n w t) 0 ≡ cond (differ (64 * w) (masksAt vs n w t) (masksAt ws n w t)) 0 (getD ws (settledAt n w t) 0)
+    → settledIn vs n w t ≡ cond (differ (64 * w) (masksAt vs n w t) (masksAt ws n w t)) 0 (settledIn ws n w t)
 
 -- the rows of the edges xs of statement i are pushed along them
 pub record Sent (f : Flow) (ws vs : List ℕ) (n w : ℕ) (from : Bool → ℕ) (queue : Queue) (i : ℕ) (xs : List Edge) (r : Queue) : Type 0 where
@@ -87,7 +87,7 @@ pub record Sends (f : Flow) (ws vs : List ℕ) (n w : ℕ) (queue : Queue) (d : 
 
 -- d waits and has every state that the row at `from` has: pushing that row to it changes nothing
 pub record Held (ws : List ℕ) (n w from d : ℕ) : Type 0 where
-  pub waits : getD ws (waitsAt n w d) 0 ≡ 1
+  pub waits : waitsIn ws n w d ≡ 1
   pub masks : (a : ℕ) → a < 64 * w → bitOr (masksAt ws n w d a) (maskAt ws w from a) ≡ masksAt ws n w d a
 
 -- every statement that the call's row at `row` holds is held in base n, where the call goes on at the number `back`

@@ -11,7 +11,7 @@ use Rattle.theory.specs.Queue.{Solver, Course, Over, pulled, changed, visit}
 use Rattle.statements.specs.contracts.Layout.{queueAt}
 use Rattle.statements.specs.contracts.Ready.{Keeps}
 use Rattle.solve.specs.declared.Queue.{Queue}
-use Rattle.solve.specs.contracts.Layout.{settledAt, areaEnd}
+use Rattle.solve.specs.contracts.Layout.{settledIn, areaEnd}
 use Rattle.solve.specs.contracts.Waiting.{Waits}
 use Rattle.solve.specs.contracts.Pushed.{masksAt}
 use Rattle.dataflow.specs.contracts.Sent.{masksBelow, Shared}
@@ -20,7 +20,7 @@ pub record Solving (f : Flow) (ws : List ℕ) (n w : ℕ) (queue : Queue) (st : 
   pub waits : Waits ws n w queue (st .waiting)
   pub masks : (d a : ℕ) → d < 2 * n → a < 64 * w → masksAt ws n w d a ≡ masksBelow (f .arrays) (pulled (doubled f) st d) a
   pub shared : Shared f ws n w
-  pub settled : (d : ℕ) → d < 2 * n → getD ws (settledAt n w d) 0 ≡ cond (st .visited d && not (changed (doubled f) st d)) 1 0
+  pub settled : (d : ℕ) → d < 2 * n → settledIn ws n w d ≡ cond (st .visited d && not (changed (doubled f) st d)) 1 0
 
 -- a state that the rule comes to, with its work area
 pub record Underway (f : Flow) (ws : List ℕ) (n w : ℕ) (queue : Queue) : Type 0 where

@@ -1,7 +1,9 @@
 -- The words of the solver in the work area of a flow of n statements whose sets of arrays have w words: a set of arrays and two rows of masks for the statement at hand; then for each doubled
--- number a row of masks, a word that says that the number is settled, and one that says that it waits; then a row of masks for each statement, of what the RETURNs that it leads have sent.
+-- number a row of masks and a word of state, which says whether the number waits and whether it is settled; then a row of masks for each statement, of what the RETURNs that it leads have sent.
 -- A row of masks is three sets of arrays.
-use Prim.Native.Nat.{ℕ, _+_, _*_}
+use Prim.Native.Nat.{ℕ, _+_, _*_, _/_, _%_}
+use mathlib.Core.List.{List}
+use lib.ListN.{getD}
 use Rattle.statements.specs.contracts.Layout.{solverAt}
 
 -- the arrays that take an effect
@@ -18,20 +20,23 @@ backRow n w = outRow n w + 3 * w
 
 -- where the words of the first k doubled numbers end
 abbrev pub maskRowsEnd : ℕ → ℕ → ℕ → ℕ
-maskRowsEnd n w k = backRow n w + 3 * w + (3 * (w * k) + 2 * k)
+maskRowsEnd n w k = backRow n w + 3 * w + (3 * (w * k) + k)
 
--- the row of the doubled number d stands behind the words of the d before it, and is followed by the number's two words. The laws of rows are in proofs/Room
+-- the row of the doubled number d stands behind the words of the d before it, and is followed by the number's state. The laws of rows are in proofs/Room
 
 abbrev pub maskRowAt : ℕ → ℕ → ℕ → ℕ
 maskRowAt n w d = maskRowsEnd n w d
 
--- 1 where d was visited and its masks have not grown since
-abbrev pub settledAt : ℕ → ℕ → ℕ → ℕ
-settledAt n w d = maskRowAt n w d + 3 * w
+abbrev pub stateAt : ℕ → ℕ → ℕ → ℕ
+stateAt n w d = maskRowAt n w d + 3 * w
 
--- 1 where d waits
-abbrev pub waitsAt : ℕ → ℕ → ℕ → ℕ
-waitsAt n w d = maskRowAt n w d + 3 * w + 1
+-- 1 where d waits: the state's last bit
+abbrev pub waitsIn : List ℕ → ℕ → ℕ → ℕ → ℕ
+waitsIn ws n w d = getD ws (stateAt n w d) 0 % 2
+
+-- 1 where d was visited and its masks have not grown since: what stands before that bit
+abbrev pub settledIn : List ℕ → ℕ → ℕ → ℕ → ℕ
+settledIn ws n w d = getD ws (stateAt n w d) 0 / 2
 
 -- where the words of the doubled numbers end
 abbrev pub nodesEnd : ℕ → ℕ → ℕ

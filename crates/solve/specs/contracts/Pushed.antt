@@ -12,7 +12,7 @@ use Rattle.theory.specs.Queue.{join}
 use Rattle.statements.specs.contracts.Layout.{queueAt}
 use Rattle.statements.specs.contracts.Ready.{Keeps}
 use Rattle.solve.specs.declared.Queue.{Queue}
-use Rattle.solve.specs.contracts.Layout.{setRow, outRow, maskRowAt, settledAt, waitsAt, nodesEnd}
+use Rattle.solve.specs.contracts.Layout.{setRow, outRow, maskRowAt, stateAt, waitsIn, settledIn, nodesEnd}
 use Rattle.solve.specs.contracts.Rows.{maskAt}
 use Rattle.solve.specs.contracts.Waiting.{Waits}
 
@@ -27,15 +27,16 @@ Source n w from = ((outRow n w ≤ from) × (from + 3 * w ≤ maskRowAt n w 0)) 
 -- the row at `from` is joined to the masks of d
 pub record Grown (ws vs : List ℕ) (n w from d : ℕ) : Type 0 where
   pub masks : (a : ℕ) → a < 64 * w → masksAt vs n w d a ≡ bitOr (masksAt ws n w d a) (maskAt ws w from a)
-  pub settled : getD vs (settledAt n w d) 0 ≡ cond (differ (64 * w) (masksAt vs n w d) (masksAt ws n w d)) 0 (getD ws (settledAt n w d) 0)
-  pub keeps : Keeps (maskRowAt n w d) (waitsAt n w d) ws vs
+  pub settled : settledIn vs n w d ≡ cond (differ (64 * w) (masksAt vs n w d) (masksAt ws n w d)) 0 (settledIn ws n w d)
+  pub waits : waitsIn vs n w d ≡ waitsIn ws n w d
+  pub keeps : Keeps (maskRowAt n w d) (stateAt n w d + 1) ws vs
 
 -- and d waits
 pub record Pushed (ws vs : List ℕ) (n w : ℕ) (queue : Queue) (from d : ℕ) (r : Queue) : Type 0 where
   pub masks : (a : ℕ) → a < 64 * w → masksAt vs n w d a ≡ bitOr (masksAt ws n w d a) (maskAt ws w from a)
   pub others : (e a : ℕ) → e < 2 * n → e ≢ d → a < 64 * w → masksAt vs n w e a ≡ masksAt ws n w e a
-  pub settled : getD vs (settledAt n w d) 0 ≡ cond (differ (64 * w) (masksAt vs n w d) (masksAt ws n w d)) 0 (getD ws (settledAt n w d) 0)
-  pub others-settled : (e : ℕ) → e < 2 * n → e ≢ d → getD vs (settledAt n w e) 0 ≡ getD ws (settledAt n w e) 0
+  pub settled : settledIn vs n w d ≡ cond (differ (64 * w) (masksAt vs n w d) (masksAt ws n w d)) 0 (settledIn ws n w d)
+  pub others-settled : (e : ℕ) → e < 2 * n → e ≢ d → settledIn vs n w e ≡ settledIn ws n w e
   pub rows : (x : ℕ) → setRow n ≤ x → x < maskRowAt n w 0 → getD vs x 0 ≡ getD ws x 0
   pub waits : (l : List ℕ) → Waits ws n w queue l → Waits vs n w r (join l d)
   pub keeps : Keeps (queueAt n) (nodesEnd n w) ws vs

@@ -16,9 +16,6 @@ mul-result c = omega (arith, mul-le-mul-right (c .before .args .k) (c .before .p
 mul-result-2 : tie.Need-mul-result-2
 mul-result-2 c = omega (arith, mul-le-mul-right (c .before .args .k) (c .before .pre .1))
 
-mul-result-3 : tie.Need-mul-result-3
-mul-result-3 c = search needs
-
 add-result : tie.Need-add-result
 add-result c = omega (arith, node-below (c .before .pre .0) (c .before .pre .1) (c .before .pre .2))
 
@@ -31,4 +28,4 @@ returns c = search needs
 pub mask-rows-end-spec : {M : Type 1} → statement M
 mask-rows-end-spec =
     tie.close
-    (tie.spec sets-on-requires mul-result mul-result-2 mul-result-3 add-result add-result-2 returns)
+    (tie.spec sets-on-requires mul-result mul-result-2 add-result add-result-2 returns)

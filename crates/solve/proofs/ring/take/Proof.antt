@@ -1,11 +1,11 @@
--- `solve::ring::take` meets its contract: the front's word is a number below 2 n, whose own word says that it waits no more.
+-- `solve::ring::take` meets its contract: the front's word is a number below 2 n, whose state says that it waits no more and is else as it was.
 -- Assumes nothing.
 use Prim.Native.Nat.{ℕ, _+_, _*_, _<_}
 use mathlib.Core.Path.{subst, sym}
 use native.Mathlib.Nat.{le-of-lt}
 use native.Mathlib.Omega.{arith}
 use denote.Ref.{now}
-use lib.ListN.{getD}
+use lib.ListN.{length, getD}
 use Rattle.statements.specs.contracts.Layout.{queueAt}
 use Rattle.solve.proofs.Room.{row-fits, node-below}
 use Rattle.solve.proofs.Waiting.{front-below, taken}
@@ -35,20 +35,33 @@ below c =
     let s = c .before .before .before in
     subst (λ z. getD (now (s .args .work)) (z + s .args .queue .head) 0 < 2 * s .args .n) (sym (c .before .queue .ensures)) (small c)
 
-waits-requires : tie.Need-waits-requires
-waits-requires c κs = let s = c .before .before .before in (s .pre .0, s .pre .1, below c)
+state-requires : tie.Need-state-requires
+state-requires c κs = let s = c .before .before .before in (s .pre .0, s .pre .1, below c)
+
+mul-old : tie.Need-mul-old
+mul-old c = let s = c .before .before .before .before in omega (arith, c .state .ensures, node-below (s .pre .0) (s .pre .1) (le-of-lt (below (c .before))))
+
+-- its state lies in the area
+inside : (c : tie.After-state) → c .state .result < length (now (c .before .before .before .before .args .work))
+inside c = let s = c .before .before .before .before in omega (arith, c .state .ensures, row-fits (s .args .n) (s .args .width) (below (c .before)), s .pre .2)
+
+slice-read-old : tie.Need-slice-read-old
+slice-read-old c = inside (c .before)
+
+sub-work : tie.Need-sub-work
+sub-work c = search needs
 
 mul-work : tie.Need-mul-work
-mul-work c = let s = c .before .before .before .before in omega (arith, c .waits .ensures, node-below (s .pre .0) (s .pre .1) (le-of-lt (below (c .before))))
+mul-work c = mul-old (c .before)
 
 slice-write-work : tie.Need-slice-write-work
-slice-write-work c = let s = c .before .before .before .before in omega (arith, c .waits .ensures, row-fits (s .args .n) (s .args .width) (below (c .before)), s .pre .2)
+slice-write-work c = inside (c .before)
 
 same-length : tie.Need-same-length
 same-length c = search needs
 
 returns : tie.Need-returns
-returns c = let s = c .before .before .before .before in taken (s .pre .2) (small (c .before)) (c .before .before .queue .ensures) (c .waits .ensures)
+returns c = let s = c .before .before .before .before .before in taken (s .pre .2) (small (c .before .before)) (c .before .before .before .queue .ensures) (c .before .state .ensures)
 
 pub take-spec : {M : Type 1} → statement M
 take-spec =
@@ -58,7 +71,10 @@ take-spec =
     add-d
     mul-d
     slice-read-d
-    waits-requires
+    state-requires
+    mul-old
+    slice-read-old
+    sub-work
     mul-work
     slice-write-work
     same-length
