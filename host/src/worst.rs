@@ -29,10 +29,18 @@ enum Family {
     Transparent,
     /// A dense graph without calls.
     Dense,
+    /// Many bodies that all walk through the same calls, which have long lists of lines.
+    Shared,
 }
 
-const FAMILIES: [Family; 5] =
-    [Family::Returns, Family::Bodies, Family::Calls, Family::Transparent, Family::Dense];
+const FAMILIES: [Family; 6] = [
+    Family::Returns,
+    Family::Bodies,
+    Family::Calls,
+    Family::Transparent,
+    Family::Dense,
+    Family::Shared,
+];
 
 // ----- Recipes ------------------------------------------------------------
 
@@ -87,6 +95,7 @@ impl Recipe {
             Family::Calls => calls(self.knobs, random),
             Family::Transparent => transparent(self.knobs, random),
             Family::Dense => dense(self.knobs, random),
+            Family::Shared => shared(self.knobs, random),
         }
         .bytes()
     }
@@ -205,19 +214,27 @@ fn ordinary(i: usize) -> Statement {
     Statement::new(line(i), Kind::Other, &[(i + 1).min(N - 1) as u16], &[])
 }
 
-/// Knobs: the share of entered statements, successors, references, and where edges go.
-fn bodies([share, fill, referred, direction]: Knobs, random: &mut Random) -> Flow {
-    let start = CHANGES + N.div_ceil(LONGEST);
-    let entered = part(N - start, share);
+/// Where the statements begin that the main part enters.
+const START: usize = CHANGES + N.div_ceil(LONGEST);
+
+/// The main part: all changes, and calls that enter the `count` statements from `START` on.
+fn entering(count: usize) -> Vec<Statement> {
     let mut statements = changes(CHANGES);
-    for k in CHANGES..start {
-        let first = start + LONGEST * (k - CHANGES);
-        let lines = (first..(first + LONGEST).min(start + entered)).map(line).collect();
+    for k in CHANGES..START {
+        let first = START + LONGEST * (k - CHANGES);
+        let lines = (first..(first + LONGEST).min(START + count)).map(line).collect();
         statements.push(call(k, lines, k + 1));
     }
-    statements.extend((start..N).map(ordinary));
-    let mut flow = flow(statements, (start..start + entered).map(|i| (line(i), i as u16)).collect());
-    densify(&mut flow, start, [fill, referred, direction], random);
+    statements
+}
+
+/// Knobs: the share of entered statements, successors, references, and where edges go.
+fn bodies([share, fill, referred, direction]: Knobs, random: &mut Random) -> Flow {
+    let entered = part(N - START, share);
+    let mut statements = entering(entered);
+    statements.extend((START..N).map(ordinary));
+    let mut flow = flow(statements, (START..START + entered).map(|i| (line(i), i as u16)).collect());
+    densify(&mut flow, START, [fill, referred, direction], random);
     flow
 }
 
@@ -271,6 +288,29 @@ fn dense([fill, referred, direction, _]: Knobs, random: &mut Random) -> Flow {
     let statements = changes(CHANGES).into_iter().chain((CHANGES..N).map(ordinary)).collect();
     let mut flow = flow(statements, Vec::new());
     densify(&mut flow, CHANGES, [fill, referred, direction], random);
+    flow
+}
+
+/// Knobs: the share of bodies, the length of the calls' lists, the share of calls among the rest,
+/// and how many of their lines are of the bodies themselves; the others are of lone RETURNs.
+fn shared([share, fill, walked, again]: Knobs, random: &mut Random) -> Flow {
+    let rest = N - START - 4;
+    let bodies = part(rest, share);
+    let first_call = START + bodies;
+    let end = first_call + part(rest - bodies + 1, walked);
+    let mut statements = entering(bodies);
+    let through = [first_call as u16];
+    statements.extend((START..first_call).map(|i| Statement::new(line(i), Kind::Other, &through, &[])));
+    statements.extend((first_call..end).map(|i| call(i, vec![], i + 1)));
+    statements.push(Statement::new(line(end), Kind::Other, &[end as u16 + 1], &[0]));
+    statements.extend((end + 1..N).map(|i| Statement::new(line(i), Kind::Return, &[], &[])));
+    let entered = (START..first_call).chain(end + 1..N);
+    let mut flow = flow(statements, entered.map(|i| (line(i), i as u16)).collect());
+    let each = room(&flow, end - first_call, 2, fill);
+    more_lines(&mut flow, first_call..end, each, || match random.below(TURNS) < again {
+        true => line(random.within(START, first_call - 1)),
+        false => line(random.within(end + 1, N - 1)),
+    });
     flow
 }
 

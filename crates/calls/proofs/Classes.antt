@@ -1,4 +1,4 @@
--- Which slots a doubled number has, and what they are made from: both go by the kind of statement and by what its call is, in the same cases.
+-- Which slots a doubled number has: by the kind of statement and by what its call is.
 -- A call's row holds the statements that it enters, and where it names one line, the statement that the line enters is the only one.
 use Prim.Native.Nat.{ℕ, _+_, _/_, _≤_, _<_}
 use mathlib.Core.Bool.{Bool, true, false, cond}
@@ -8,30 +8,28 @@ use mathlib.Core.Path.{_≡_, refl, sym, _∙_, ap, subst}
 use native.Mathlib.Omega.{arith}
 use native.Mathlib.Decide.{ℕ-discrete}
 use borrow.Author.Tests.{ne-eqb, eq-eqb}
+use lib.Dec.{eqb}
 use lib.ListN.{length, getD}
 use Rattle.words.specs.contracts.Row.{has, nextMember, First}
 use Rattle.words.proofs.NextMember.{first}
-use Rattle.flow.specs.declared.StmtId.{StmtId}
 use Rattle.flow.specs.declared.Base.{Base}
-use Rattle.flow.specs.declared.Base.the-variants.{Zero, N}
 use Rattle.flow.specs.Flow.{Flow, size, enters}
 use Rattle.theory.specs.Lists.{elem, concatMap, optionList}
 use Rattle.theory.specs.Body.{kind, successors, callLines, continuationOf, entered, isReturn, opaqueCall}
 use Rattle.theory.specs.Doubled.{at}
-use Rattle.statements.specs.contracts.Layout.{rowAt}
+use Rattle.theory.proofs.Lists.{clash}
+use Rattle.statements.specs.contracts.Layout.{callsAt, rowAt}
 use Rattle.calls.specs.contracts.Held.{Linked, transparent, opaque}
 use Rattle.calls.specs.contracts.Slots.{byKind, callSlots, returnSlots, listedSlots, slotsOf, slots}
-use Rattle.calls.specs.contracts.Class.{returnClass, callOf, class, CallOf}
+use Rattle.calls.specs.contracts.Class.{transparentCall, CallOf}
 use Rattle.calls.specs.declared.edges.Call.{Call}
-use Rattle.calls.specs.declared.edges.EdgeClass.{EdgeClass}
-use Rattle.calls.specs.declared.edges.EdgeClass as C
 use Rattle.calls.proofs.BodySummary.{return-ordinary}
 
 -- no call that is not opaque: whatever the statement is, its edges carry no touched step
 abbrev pub Plain : Flow → ℕ → Type 0
 Plain f i = (k : ℕ) → continuationOf (kind f i) ≡ some k → opaqueCall f i ≡ true
 
-none-some : {P : Type 0} {k : ℕ} → _≡_ {A = Option ℕ} none (some k) → P
+pub none-some : {P : Type 0} {k : ℕ} → _≡_ {A = Option ℕ} none (some k) → P
 none-some e = let z : _≡_ {A = ℕ} 0 1 = cc in absurd (omega arith)
 
 module _ {A : Type 0} (f : Flow) (i : ℕ) (r l : A) (c : ℕ → A) where
@@ -61,68 +59,63 @@ module _ {A : Type 0} (f : Flow) (i : ℕ) (r l : A) (c : ℕ → A) where
       go (some k) e false h false q = rw (e, q) (z k e q)
 
 module _ (f : Flow) (b : Base) (i : ℕ) where
-  slots-return : isReturn (kind f i) ≡ true → slots f (at b i) ≡ returnSlots f b i
+  pub slots-return : isReturn (kind f i) ≡ true → slots f (at b i) ≡ returnSlots f b i
   unfolding slots slotsOf
   slots-return h = by-return f i _ _ _ h
 
-  slots-call : (k : ℕ) → continuationOf (kind f i) ≡ some k → opaqueCall f i ≡ false → slots f (at b i) ≡ callSlots f b i k
+  pub slots-call : (k : ℕ) → continuationOf (kind f i) ≡ some k → opaqueCall f i ≡ false → slots f (at b i) ≡ callSlots f b i k
   unfolding slots slotsOf
   slots-call k e h = by-call f i _ _ _ k e h
 
-  slots-listed : isReturn (kind f i) ≡ false → Plain f i → slots f (at b i) ≡ listedSlots f b i
+  pub slots-listed : isReturn (kind f i) ≡ false → Plain f i → slots f (at b i) ≡ listedSlots f b i
   unfolding slots slotsOf
   slots-listed h op = by-listed f i _ _ _ h op
 
-  pub class-return : isReturn (kind f i) ≡ true → class f (at b i) ≡ returnClass (rowAt (size f) i) b
-  unfolding class
-  class-return h = by-return f i _ _ _ h
+-- What it says of a statement that it is a call, not opaque, or is not
 
-  pub class-call : {k : StmtId} {l m r : ℕ} → continuationOf (kind f i) ≡ some (k .0) → opaqueCall f i ≡ false → l ≡ length (callLines (kind f i)) → m ≡ length (successors f i) → r ≡ rowAt (size f) i
-      → C.the-variants.Call (record { continuation = k; lines = l; successors = m; row = r }) ≡ class f (at b i)
-  unfolding class
-  class-call {k} e h p q s = rw (p, q, s) (sym (by-call f i _ _ _ (k .0) e h))
+pub call-says : (f : Flow) (i : ℕ) → transparentCall f i ≡ true → (k : ℕ) × (continuationOf (kind f i) ≡ some k) × (opaqueCall f i ≡ false)
+unfolding transparentCall
+call-says f i = by-cases f i _ _ _ (λ (t : Bool). t ≡ true → (k : ℕ) × (continuationOf (kind f i) ≡ some k) × (opaqueCall f i ≡ false))
+    (λ h p e. clash false e refl) (λ h p e. clash false e refl) (λ k q o e. (k, q, o))
 
-  pub class-listed : isReturn (kind f i) ≡ false → Plain f i → class f (at b i) ≡ C.the-variants.Listed (length (successors f i))
-  unfolding class
-  class-listed h op = by-listed f i _ _ _ h op
+pub plain-says : (f : Flow) (i : ℕ) → transparentCall f i ≡ false → Plain f i
+unfolding transparentCall
+plain-says f i = by-cases f i _ _ _ (λ (t : Bool). t ≡ false → Plain f i) (λ h p e. p) (λ h p e. p) (λ k q o e. clash true refl e)
 
--- What a class says of the slots
-
-abbrev pub Says : Flow → Base → ℕ → EdgeClass → Type 0
-Says f b i (C.the-variants.Listed m) = (m ≡ length (successors f i)) × (slots f (at b i) ≡ listedSlots f b i)
-Says f b i (C.the-variants.Return row) = (row ≡ rowAt (size f) i) × (isReturn (kind f i) ≡ true) × (slots f (at b i) ≡ returnSlots f Zero i)
-Says f b i C.the-variants.Nowhere = slots f (at b i) ≡ returnSlots f N i
-Says f b i (C.the-variants.Call x) =
-    (x ≡ callOf f i (x .continuation .0)) × (continuationOf (kind f i) ≡ some (x .continuation .0)) × (opaqueCall f i ≡ false)
-    × (slots f (at b i) ≡ callSlots f b i (x .continuation .0))
-
-pub class-says : (f : Flow) (b : Base) (i : ℕ) {x : EdgeClass} → x ≡ class f (at b i) → Says f b i x
-unfolding class
-class-says f b i e = subst (Says f b i) (sym e) (by-cases f i _ _ _ (Says f b i) (λ h p. return b h (slots-return f b i h)) (λ h p. (refl, slots-listed f b i h p)) (λ k q o. (refl, q, o, slots-call f b i k q o)))
+pub no-call : (f : Flow) (i : ℕ) → continuationOf (kind f i) ≡ none → transparentCall f i ≡ false
+unfolding transparentCall
+no-call f i e = go (isReturn (kind f i)) refl
   where
-    return : (b : Base) → isReturn (kind f i) ≡ true → slots f (at b i) ≡ returnSlots f b i → Says f b i (returnClass (rowAt (size f) i) b)
-    return Zero h e = (refl, h, e)
-    return N h e = e
+    go : (t : Bool) → isReturn (kind f i) ≡ t → byKind f i false false (λ k. true) (continuationOf (kind f i)) ≡ false
+    go true h = rw (e, h) refl
+    go false h = rw (e, h) refl
 
--- where the class is no call, no edge carries the touched step
-pub class-plain : (f : Flow) (b : Base) (i : ℕ) → ((x : Call) → class f (at b i) ≡ C.the-variants.Call x → ⊥) → Plain f i
-unfolding class
-class-plain f b i = by-cases f i _ _ _ (λ (c : EdgeClass). ((x : Call) → c ≡ C.the-variants.Call x → ⊥) → Plain f i) (λ h p no. p) (λ h p no. p) (λ k q o no. absurd (no (callOf f i k) refl))
+-- the state of the call says so
+pub call-state : {f : Flow} {ws : List ℕ} {n i : ℕ} → Linked f ws n → i < n → eqb (getD ws (callsAt n + i) 0) transparent ≡ transparentCall f i
+unfolding transparentCall
+call-state {f} {ws} {n} {i} h l = go (continuationOf (kind f i)) refl
+  where
+    go : (o : Option ℕ) → continuationOf (kind f i) ≡ o → eqb (getD ws (callsAt n + i) 0) transparent ≡ transparentCall f i
+    go none e = let free : getD ws (callsAt n + i) 0 ≡ 0 = h .calls .ordinary i l e in ne-eqb (getD ws (callsAt n + i) 0) transparent (λ q. omega arith) ∙ sym (no-call f i e)
+    go (some k) e = at (opaqueCall f i) refl
+      where
+        at : (t : Bool) → opaqueCall f i ≡ t → eqb (getD ws (callsAt n + i) 0) transparent ≡ byKind f i false false (λ k. true) (continuationOf (kind f i))
+        at true q = ne-eqb (getD ws (callsAt n + i) 0) transparent (λ s. let is : getD ws (callsAt n + i) 0 ≡ opaque = h .calls .call i k l e ∙ ap (λ (t : Bool). cond t opaque transparent) q in omega arith) ∙ sym (rw (e, q) refl)
+        at false q = eq-eqb _ transparent (h .calls .call i k l e ∙ ap (λ (t : Bool). cond t opaque transparent) q) ∙ sym (rw (e, q) refl)
 
 -- What a call's row holds
 
 pub call-row : {f : Flow} {ws : List ℕ} {n i : ℕ} {x : Call} → size f ≡ n → Linked f ws n → i < n → rowAt n i + (n + 63) / 64 ≤ length ws
-    → x ≡ callOf f i (x .continuation .0) → continuationOf (kind f i) ≡ some (x .continuation .0) → opaqueCall f i ≡ false → CallOf f ws i x
-call-row {f} {ws} {n} {i} {x} z h l room e q o = record {
+    → continuationOf (kind f i) ≡ some (x .continuation .0) → opaqueCall f i ≡ false
+    → x .lines ≡ length (callLines (kind f i)) → x .successors ≡ length (successors f i) → x .row ≡ rowAt n i → CallOf f ws i x
+call-row {f} {ws} {n} {i} {x} z h l room q o lines successors row = record {
   continues = q;
-  lines = ap (λ (y : Call). y .lines) e;
-  successors = ap (λ (y : Call). y .successors) e;
+  lines = lines;
+  successors = successors;
+  place = row ∙ ap (λ (m : ℕ). rowAt m i) (sym z);
   room = rw (row, z) room;
   entered = λ j m. rw row (h .bodies i j l (rw z at m) (h .calls .call i (x .continuation .0) l q ∙ ap (λ (t : Bool). cond t opaque transparent) o));
 }
-  where
-    row : x .row ≡ rowAt n i
-    row = ap (λ (y : Call). y .row) e ∙ ap (λ (m : ℕ). rowAt m i) z
 
 -- of a call that names one line, the row holds the statement that the line enters
 

@@ -1,136 +1,86 @@
--- The slot at a cursor, by the kind of statement: the next edge is the one in it, or that from the next slot on. The slots of a RETURN are the members
--- of its row. By the list that the slots are made from.
+-- The slots from one on, by the list that they are made from: the edge in the first of them, and those behind it. The slots of a RETURN are the members of its row.
+-- By the list that the slots are made from.
 use Prim.Native.Nat.{ℕ, zero, suc, _+_, _-_, _≤_, _<_}
 use mathlib.Core.Bool.{Bool, true, false, cond, not, _||_, or-comm}
 use mathlib.Core.List.{List, [], _∷_, _++_, map}
 use mathlib.Core.Option.{Option, none, some}
 use mathlib.Core.Path.{_≡_, refl, sym, _∙_, ap}
 use native.Mathlib.Decide.{decLt}
-use native.Mathlib.Nat.{zero-add}
 use native.Mathlib.Numerals.{add-one}
 use native.Mathlib.Omega.{arith}
-use borrow.Author.Tests.{lt-ltb, le-ltb, eq-eqb, ne-eqb, eqb-true}
+use borrow.Author.Tests.{eq-eqb, ne-eqb, eqb-true}
 use lib.Dec.{eqb}
-use lib.ListN.{length, getD, drop, length-append, length-map, List·getD-append, List·getD-map, drop-of-length-le}
-use lib.Seq.{drop-cons, drop-nil, drop-append-add, drop-at, getD-at}
+use lib.ListN.{length, getD, drop, length-map, List·getD-append, List·getD-map, drop-of-length-le}
+use lib.Seq.{drop-cons, getD-at}
 use Rattle.words.specs.contracts.Row as row
-use Rattle.words.specs.contracts.Row.{seek, nextMember}
-use Rattle.flow.specs.declared.NodeId.{NodeId}
 use Rattle.flow.specs.declared.Base.{Base}
 use Rattle.flow.specs.declared.Base.the-variants.{Zero, N}
-use Rattle.flow.specs.Flow.{Flow, size, enters}
-use Rattle.theory.specs.Lists.{any, elem, upTo}
-use Rattle.theory.specs.Body.{kind, successors, callLines, continuationOf, entered, opaqueCall}
-use Rattle.theory.specs.Doubled.{Node, Edge, at, plain, number, numberIn, sameNode, returnsTo}
+use Rattle.flow.specs.Flow.{Flow, size}
+use Rattle.theory.specs.Lists.{any, elem, concatMap, optionList, upTo}
+use Rattle.theory.specs.Body.{kind, successors, callLines, entered}
+use Rattle.theory.specs.Doubled.{Node, Edge, at, plain, numberIn, sameNode, returnsTo}
 use Rattle.theory.proofs.Lists.{same-test, or-second, says-one, length-upTo}
-use Rattle.theory.proofs.Edges.{node-same}
-use Rattle.statements.specs.contracts.Layout.{callsAt}
-use Rattle.calls.specs.contracts.Held.{Linked, transparent, opaque}
-use Rattle.calls.specs.contracts.Slots.{edgeTo, ifEntered, otherSlots, callSlots, returnSlots, listedSlots, edgeFrom, memberEdge}
+use Rattle.calls.specs.contracts.Slots.{lineSlot, lineSlots, otherSlot, otherSlots, returnSlots, listedSlots, present}
 use Rattle.calls.specs.contracts.Class.{CallOf}
 use Rattle.calls.specs.declared.edges.Call.{Call}
-use Rattle.calls.specs.declared.Edge as E
 
-abbrev pub to : Flow → Node → Bool → ℕ → E.Edge
-to f v c next = E.the-variants.To (record { 0 = number f v }) c next
-
-pub past : (f : Flow) (xs : List (Option Edge)) (c p : ℕ) → length xs ≤ c → edgeFrom f (drop c xs) p ≡ E.the-variants.End
-unfolding edgeFrom
-past f xs c p l = rw (drop-of-length-le xs l)
+-- the edges in the slots from c on
+abbrev pub leftFrom : ℕ → List (Option Edge) → List Edge
+leftFrom c xs = present (drop c xs)
 
 -- slots made from a list, one from each element
-mapped : {A : Type 0} (f : Flow) (g : A → Option Edge) (l : List A) (d : A) (c p : ℕ) → c < length l
-    → edgeFrom f (drop c (map g l)) p ≡ edgeFrom f (g (getD l c d) ∷ drop (c + 1) (map g l)) p
-mapped f g l d c p h =
-    let fits : c < length (map g l) = omega (arith, length-map l g) in
-    ap (λ xs. edgeFrom f xs p) (drop-cons (map g l) c (g d) fits)
-    ∙ ap (λ x. edgeFrom f (x ∷ drop (suc c) (map g l)) p) (List·getD-map g l c d)
-    ∙ ap (λ (k : ℕ). edgeFrom f (g (getD l c d) ∷ drop k (map g l)) p) (sym (add-one c))
+module _ {A : Type 0} (g : A → Option Edge) (l : List A) (d : A) (c : ℕ) where
+  mapped : c < length l → leftFrom c (map g l) ≡ optionList (g (getD l c d)) ++ leftFrom (c + 1) (map g l)
+  unfolding present concatMap
+  mapped h =
+      let fits : c < length (map g l) = omega (arith, length-map l g) in
+      ap present (drop-cons (map g l) c (g d) fits)
+      ∙ ap (λ x. present (x ∷ drop (suc c) (map g l))) (List·getD-map g l c d)
+      ∙ ap (λ (k : ℕ). present (g (getD l c d) ∷ drop k (map g l))) (sym (add-one c))
 
-module _ (f : Flow) (b : Base) (i c p : ℕ) where
-  pub listed-here : c < length (successors f i)
-      → edgeFrom f (drop c (listedSlots f b i)) p ≡ to f (at b (getD (successors f i) c 0)) false (p + 1)
-  unfolding listedSlots edgeFrom
-  listed-here h = mapped f (λ j. some (plain (at b j))) (successors f i) 0 c p h
+  here : c < length l → {x : Edge} → g (getD l c d) ≡ some x → leftFrom c (map g l) ≡ x ∷ leftFrom (c + 1) (map g l)
+  unfolding optionList
+  here h e = mapped h ∙ ap (λ (o : Option Edge). optionList o ++ leftFrom (c + 1) (map g l)) e
 
-  pub listed-end : length (successors f i) ≤ c → edgeFrom f (drop c (listedSlots f b i)) p ≡ E.the-variants.End
+  skip : c < length l → g (getD l c d) ≡ none → leftFrom c (map g l) ≡ leftFrom (c + 1) (map g l)
+  unfolding optionList
+  skip h e = mapped h ∙ ap (λ (o : Option Edge). optionList o ++ leftFrom (c + 1) (map g l)) e
+
+  past : length l ≤ c → leftFrom c (map g l) ≡ []
+  unfolding present concatMap
+  past h = let all : length (map g l) ≤ c = omega (arith, length-map l g) in ap present (drop-of-length-le (map g l) all)
+
+module _ (f : Flow) (b : Base) (i c : ℕ) where
+  pub listed-here : c < length (successors f i) → leftFrom c (listedSlots f b i) ≡ plain (at b (getD (successors f i) c 0)) ∷ leftFrom (c + 1) (listedSlots f b i)
   unfolding listedSlots
-  listed-end h = past f (map (λ j. some (plain (at b j))) (successors f i)) c p (omega (arith, length-map (successors f i) (λ j. some (plain (at b j)))))
+  listed-here h = here (λ j. some (plain (at b j))) (successors f i) 0 c h refl
+
+  pub listed-end : length (successors f i) ≤ c → leftFrom c (listedSlots f b i) ≡ []
+  unfolding listedSlots
+  listed-end h = past (λ j. some (plain (at b j))) (successors f i) 0 c h
 
 -- a call with the continuation k
+module _ (f : Flow) (b : Base) (i k c : ℕ) where
+  pub line-slot : c < length (callLines (kind f i)) → leftFrom c (lineSlots f b i k) ≡ optionList (lineSlot f b k (getD (callLines (kind f i)) c 0)) ++ leftFrom (c + 1) (lineSlots f b i k)
+  unfolding lineSlots
+  line-slot h = mapped (lineSlot f b k) (callLines (kind f i)) 0 c h
 
-not-back : (b : Base) (j k : ℕ) → eqb j k ≡ false → sameNode (at b j) (at b k) ≡ false
-not-back Zero j k e = e
-not-back N j k e = e
+  pub line-end : length (callLines (kind f i)) ≤ c → leftFrom c (lineSlots f b i k) ≡ []
+  unfolding lineSlots
+  line-end h = past (lineSlot f b k) (callLines (kind f i)) 0 c h
 
-module _ (f : Flow) (b : Base) (i k c p : ℕ) where
-  other : ℕ → Option Edge
-  other j = cond (not (elem j (entered f i) || eqb j k)) (some (edgeTo (at b k) (at b j))) none
+  pub other-slot : c < length (successors f i) → leftFrom c (otherSlots f b i k) ≡ optionList (otherSlot f b i k (getD (successors f i) c 0)) ++ leftFrom (c + 1) (otherSlots f b i k)
+  unfolding otherSlots
+  other-slot h = mapped (otherSlot f b i k) (successors f i) 0 c h
 
-  pub other-here : c < length (successors f i) → (elem (getD (successors f i) c 0) (entered f i) || eqb (getD (successors f i) c 0) k) ≡ false
-      → edgeFrom f (drop c (otherSlots f b i k)) p ≡ to f (at b (getD (successors f i) c 0)) false (p + 1)
-  unfolding otherSlots edgeFrom other
-  other-here h e =
-      let j = getD (successors f i) c 0 in
-      mapped f other (successors f i) 0 c p h ∙ simp (e, not-back b j k (or-second (elem j (entered f i)) (eqb j k) e))
+  pub other-end : length (successors f i) ≤ c → leftFrom c (otherSlots f b i k) ≡ []
+  unfolding otherSlots
+  other-end h = past (otherSlot f b i k) (successors f i) 0 c h
 
-  pub other-skip : c < length (successors f i) → (elem (getD (successors f i) c 0) (entered f i) || eqb (getD (successors f i) c 0) k) ≡ true
-      → edgeFrom f (drop c (otherSlots f b i k)) p ≡ edgeFrom f (drop (c + 1) (otherSlots f b i k)) (p + 1)
-  unfolding otherSlots edgeFrom other
-  other-skip h e = mapped f other (successors f i) 0 c p h ∙ simp e
-
-  pub other-end : length (successors f i) ≤ c → edgeFrom f (drop c (otherSlots f b i k)) p ≡ E.the-variants.End
-  unfolding otherSlots other
-  other-end h = past f (map other (successors f i)) c p (omega (arith, length-map (successors f i) other))
-
-module _ (f : Flow) (b : Base) (i k c p : ℕ) where
-  line : ℕ → Option Edge
-  line l = ifEntered (at b k) (enters f l)
-
-  -- the slots of the lines
-  lines : List (Option Edge)
-  lines = map line (callLines (kind f i))
-
-  rest : List (Option Edge)
-  rest = some (edgeTo (at b k) (at b k)) ∷ otherSlots f b i k
-
-  in-lines : c < length (callLines (kind f i)) → (o : Option ℕ) → enters f (getD (callLines (kind f i)) c 0) ≡ o
-      → edgeFrom f (drop c (callSlots f b i k)) p ≡ edgeFrom f (ifEntered (at b k) o ∷ drop (c + 1) (callSlots f b i k)) p
-  unfolding callSlots line lines rest
-  in-lines h o e =
-      let size : length lines ≡ length (callLines (kind f i)) = length-map (callLines (kind f i)) line in
-      let here : c < length lines = omega arith in
-      let fits : c < length (lines ++ rest) = omega (arith, length-append lines rest) in
-      let slot : getD (lines ++ rest) c (line 0) ≡ ifEntered (at b k) o =
-      List·getD-append lines rest (line 0) c here ∙ List·getD-map line (callLines (kind f i)) c 0 ∙ ap (ifEntered (at b k)) e
-      in
-      ap (λ xs. edgeFrom f xs p) (drop-cons (lines ++ rest) c (line 0) fits)
-      ∙ ap (λ x. edgeFrom f (x ∷ drop (suc c) (lines ++ rest)) p) slot
-      ∙ ap (λ (j : ℕ). edgeFrom f (ifEntered (at b k) o ∷ drop j (lines ++ rest)) p) (sym (add-one c))
-
-  pub line-here : c < length (callLines (kind f i)) → (e : ℕ) → enters f (getD (callLines (kind f i)) c 0) ≡ some e
-      → edgeFrom f (drop c (callSlots f b i k)) p ≡ to f (at N e) (sameNode (at N e) (at b k)) (p + 1)
-  unfolding edgeFrom
-  line-here h e q = in-lines h (some e) q
-
-  pub line-skip : c < length (callLines (kind f i)) → enters f (getD (callLines (kind f i)) c 0) ≡ none
-      → edgeFrom f (drop c (callSlots f b i k)) p ≡ edgeFrom f (drop (c + 1) (callSlots f b i k)) (p + 1)
-  unfolding edgeFrom
-  line-skip h q = in-lines h none q
-
-  pub back-here : c ≡ length (callLines (kind f i)) → edgeFrom f (drop c (callSlots f b i k)) p ≡ to f (at b k) true (p + 1)
-  unfolding callSlots edgeFrom line lines rest
-  back-here e =
-      ap (λ xs. edgeFrom f xs p) (drop-at lines rest c (length-map (callLines (kind f i)) line ∙ sym e))
-      ∙ ap (λ (t : Bool). to f (at b k) t (p + 1)) (node-same (at b k))
-
-  pub then-others : length (callLines (kind f i)) < c
-      → edgeFrom f (drop c (callSlots f b i k)) p ≡ edgeFrom f (drop (c - (length (callLines (kind f i)) + 1)) (otherSlots f b i k)) p
-  unfolding callSlots line lines rest
-  then-others h =
-      let m : ℕ = c - (length (callLines (kind f i)) + 1) in
-      let place : c ≡ length lines + suc m = omega (arith, length-map (callLines (kind f i)) line) in
-      ap (λ (j : ℕ). edgeFrom f (drop j (lines ++ rest)) p) place ∙ ap (λ xs. edgeFrom f xs p) (drop-append-add lines rest (suc m))
+-- no other successor is the continuation
+pub not-back : (b : Base) (l : Bool) (j k : ℕ) → (l || eqb j k) ≡ false → sameNode (at b j) (at b k) ≡ false
+not-back Zero l j k e = or-second l (eqb j k) e
+not-back N l j k e = or-second l (eqb j k) e
 
 -- a RETURN
 
@@ -143,51 +93,36 @@ getD-upTo (suc n) c l = go (decLt c n) (getD-upTo n c)
     go (yes h) ih = List·getD-append (upTo n) (n ∷ []) 0 c (omega (arith, length-upTo n)) ∙ ih h
     go (no h) ih = let e : c ≡ n = omega (arith, h) in getD-at (upTo n) n [] 0 c (length-upTo n ∙ sym e) ∙ sym e
 
-module _ (f : Flow) (r : ℕ) (ws : List ℕ) (base : ℕ) (h : (k : ℕ) → k < size f → row.has ws base k ≡ cond (any (returnsTo f r k) (upTo (size f))) 1 0) where
+module _ (f : Flow) (r : ℕ) where
   slot : ℕ → Option Edge
   slot k = cond (any (returnsTo f r k) (upTo (size f))) (some (plain (at Zero k))) none
 
-  none-left : (c : ℕ) → size f ≤ c → edgeFrom f (drop c (map slot (upTo (size f)))) c ≡ memberEdge (size f) c
-  none-left c l =
-      past f (map slot (upTo (size f))) c c (omega (arith, length-map (upTo (size f)) slot, length-upTo (size f)))
-      ∙ sym (ap (λ (t : Bool). cond t (E.the-variants.To (record { 0 = c }) false (c + 1)) E.the-variants.End) (le-ltb c (size f) l))
+  at-slot : (c : ℕ) → c < size f → (t : Bool) → any (returnsTo f r c) (upTo (size f)) ≡ t → slot (getD (upTo (size f)) c 0) ≡ cond t (some (plain (at Zero c))) none
+  unfolding slot
+  at-slot c l t e = ap slot (getD-upTo (size f) c l) ∙ ap (λ (b : Bool). cond b (some (plain (at Zero c))) none) e
 
-  member-from : (d c : ℕ) → c + d ≡ size f → edgeFrom f (drop c (map slot (upTo (size f)))) c ≡ memberEdge (size f) (seek ws base c d)
-  unfolding seek edgeFrom slot
-  member-from zero c e = none-left c (omega arith)
-  member-from (suc d) c e = here ∙ go (any (returnsTo f r c) (upTo (size f))) (h c l) (member-from d (c + 1) (omega arith))
+  pub member-here : (c : ℕ) → c < size f → any (returnsTo f r c) (upTo (size f)) ≡ true
+      → leftFrom c (returnSlots f Zero r) ≡ plain (at Zero c) ∷ leftFrom (c + 1) (returnSlots f Zero r)
+  unfolding returnSlots slot
+  member-here c l e = here slot (upTo (size f)) 0 c (omega (arith, length-upTo (size f))) (at-slot c l true e)
+
+  pub member-end : (c : ℕ) → size f ≤ c → leftFrom c (returnSlots f Zero r) ≡ []
+  unfolding returnSlots slot
+  member-end c l = past slot (upTo (size f)) 0 c (omega (arith, length-upTo (size f)))
+
+  -- those that are no members are passed
+  pub member-next : (c d : ℕ) → c ≤ d → d ≤ size f → ((k : ℕ) → c ≤ k → k < d → any (returnsTo f r k) (upTo (size f)) ≡ false)
+      → leftFrom c (returnSlots f Zero r) ≡ leftFrom d (returnSlots f Zero r)
+  unfolding returnSlots slot
+  member-next c d l m none-of = go (d - c) c (omega arith) none-of
     where
-      l : c < size f
-      l = omega arith
-
-      left : List (Option Edge)
-      left = drop (c + 1) (map slot (upTo (size f)))
-
-      here : edgeFrom f (drop c (map slot (upTo (size f)))) c ≡ edgeFrom f (slot c ∷ left) c
-      here =
-          mapped f slot (upTo (size f)) 0 c c (omega (arith, length-upTo (size f)))
-          ∙ ap (λ (k : ℕ). edgeFrom f (slot k ∷ left) c) (getD-upTo (size f) c l)
-
-      go : (t : Bool) → row.has ws base c ≡ cond t 1 0 → edgeFrom f left (c + 1) ≡ memberEdge (size f) (seek ws base (c + 1) d)
-          → edgeFrom f (cond t (some (plain (at Zero c))) none ∷ left) c ≡ memberEdge (size f) (cond (eqb (row.has ws base c) 1) c (seek ws base (c + 1) d))
-      go true q ih = rw (q, lt-ltb c (size f) l) (ap (λ (k : ℕ). E.the-variants.To (record { 0 = k }) false (c + 1)) (zero-add c))
-      go false q ih = rw q ih
-
--- a RETURN goes to the next member of its row
-pub return-edge : (f : Flow) (r c : ℕ) (ws : List ℕ) (base : ℕ) → ((k : ℕ) → k < size f → row.has ws base k ≡ cond (any (returnsTo f r k) (upTo (size f))) 1 0)
-    → edgeFrom f (drop c (returnSlots f Zero r)) c ≡ memberEdge (size f) (nextMember ws base c (size f))
-unfolding returnSlots nextMember slot seek
-return-edge f r c ws base h = go (decLt c (size f))
-  where
-    go : Dec (c < size f) → edgeFrom f (drop c (map (slot f r ws base h) (upTo (size f)))) c ≡ memberEdge (size f) (seek ws base c (size f - c))
-    go (yes l) = member-from f r ws base h (size f - c) c (omega arith)
-    go (no l) = let d : size f - c ≡ 0 = omega (arith, l) in rw d (none-left f r ws base h c (omega (arith, l)))
+      go : (k c : ℕ) → c + k ≡ d → ((j : ℕ) → c ≤ j → j < d → any (returnsTo f r j) (upTo (size f)) ≡ false) → leftFrom c (map slot (upTo (size f))) ≡ leftFrom d (map slot (upTo (size f)))
+      go zero c e h = let same : c ≡ d = omega arith in ap (λ (j : ℕ). leftFrom j (map slot (upTo (size f)))) same
+      go (suc k) c e h =
+          skip slot (upTo (size f)) 0 c (omega (arith, length-upTo (size f))) (at-slot c (omega arith) false (h c (omega arith) (omega arith)))
+          ∙ go k (c + 1) (omega arith) (λ j a b. h j (omega arith) b)
 
 -- The doubled numbers of copies, of n statements
-
--- an edge to statement j of the copy
-pub to-copy : (f : Flow) {n : ℕ} (b : Base) (j : ℕ) (c : Bool) (next : ℕ) {t : NodeId} → size f ≡ n → t .0 ≡ numberIn n (at b j) → E.the-variants.To t c next ≡ to f (at b j) c next
-to-copy f b j c next z e = ap (λ (x : ℕ). E.the-variants.To (record { 0 = x }) c next) (e ∙ sym (ap (λ (m : ℕ). numberIn m (at b j)) z))
 
 -- an entered statement is the continuation when their numbers are one
 pub same-number : {n : ℕ} (b : Base) (e k : ℕ) → k < n → eqb (numberIn n (at N e)) (numberIn n (at b k)) ≡ sameNode (at N e) (at b k)
@@ -203,26 +138,3 @@ pub left-out-is : (f : Flow) (ws : List ℕ) {i : ℕ} {x : Call} (s : ℕ) → 
 left-out-is f ws {i} {x} s r l =
     let k = x .continuation .0 in
     ap (λ (y : ℕ). eqb s k || eqb y 1) (r .entered s l) ∙ ap (λ (b : Bool). eqb s k || b) (says-one (elem s (entered f i))) ∙ or-comm (eqb s k) (elem s (entered f i))
-
--- the state of a call as its summary says it
-
-pub call-opaque : {f : Flow} {ws : List ℕ} {n i k : ℕ} → Linked f ws n → i < n → (getD ws (callsAt n + i) 0 ≡ transparent → ⊥) → continuationOf (kind f i) ≡ some k
-    → opaqueCall f i ≡ true
-call-opaque {f} {ws} {n} {i} {k} h l other e = go (opaqueCall f i) (h .calls .call i k l e)
-  where
-    go : (b : Bool) → getD ws (callsAt n + i) 0 ≡ cond b opaque transparent → b ≡ true
-    go true q = refl
-    go false q = absurd (other q)
-
-pub call-transparent : {f : Flow} {ws : List ℕ} {n i k : ℕ} → Linked f ws n → i < n → getD ws (callsAt n + i) 0 ≡ transparent → continuationOf (kind f i) ≡ some k
-    → opaqueCall f i ≡ false
-call-transparent {f} {ws} {n} {i} {k} h l is e = go (opaqueCall f i) (sym (h .calls .call i k l e) ∙ is)
-  where
-    go : (b : Bool) → cond b opaque transparent ≡ transparent → b ≡ false
-    go true q = absurd (omega arith)
-    go false q = refl
-
--- a RETURN in base n goes nowhere
-pub return-end : (f : Flow) (i c : ℕ) → edgeFrom f (drop c (returnSlots f N i)) c ≡ E.the-variants.End
-unfolding returnSlots edgeFrom
-return-end f i c = rw (drop-nil {A = Option Edge} c) refl

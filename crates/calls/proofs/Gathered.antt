@@ -1,18 +1,21 @@
 -- Where the RETURNs of a call's bodies go, gathered member by member of the row that the walks were joined in, and call by call.
 -- Each step adds what its part gives, so that the whole is what the definitions say.
-use Prim.Native.Nat.{ℕ, _+_, _≤_, _<_, max}
-use mathlib.Core.Bool.{Bool, true, false, cond, not, _&&_, _||_, or-false, and-comm, and-false, and-or-distrib-right}
+use Prim.Native.Nat.{ℕ, _+_, _≤_, _<_, min, max}
+use mathlib.Core.Bool.{Bool, true, false, cond, not, _&&_, _||_, or-false, and-comm, and-false}
 use mathlib.Core.List.{List, [], _∷_, _++_, append-nil}
 use mathlib.Core.Option.{Option, none, some}
-use mathlib.Core.Path.{_≡_, refl, sym, _∙_, ap, subst}
+use mathlib.Core.Path.{_≡_, refl, sym, _∙_, ap, ap₂, subst}
 use native.Mathlib.Numerals.{add-one}
 use native.Mathlib.Omega.{arith}
 use borrow.Author.Tests.{eqb-true, eq-eqb, lt-ltb}
 use lib.Dec.{eqb, ltb}
-use lib.ListN.{getD}
+use lib.ListN.{length, getD}
 use Rattle.words.specs.contracts.Row as row
+use Rattle.words.specs.contracts.Row.{has}
 use Rattle.words.specs.contracts.Row.{nextMember, First}
+use Rattle.words.specs.contracts.Change.{Inserted, ReadFirst, intersected}
 use Rattle.words.proofs.Row.{has-lt}
+use Rattle.words.proofs.Intersected.{intersected-has}
 use Rattle.words.proofs.NextMember.{first}
 use Rattle.flow.specs.Flow.{Flow, size}
 use Rattle.theory.specs.Lists.{any, elem, concatMap, upTo}
@@ -22,31 +25,29 @@ use Rattle.theory.specs.contracts.WellFormed.{WellFormed}
 use Rattle.theory.specs.Doubled.{returnsTo, isSome}
 use Rattle.theory.proofs.Lists.{clash, same-test, not-so, eqb-sym, says-one, any-append, In-elem, elem-In, elem-not, elem-append, concatMap-append}
 use Rattle.theory.proofs.Body.{entered-below, walked-sound, walked-complete}
-use Rattle.statements.specs.contracts.Layout.{callsAt, callTouchedAt, matrixAt, rowAt, queueAt, enteredRowAt, solverAt}
+use Rattle.statements.specs.contracts.Layout.{callsAt, callTouchedAt, bodiesAt, matrixAt, rowAt, rowWords, queueAt, enteredRowAt, solverAt, returnsRowAt}
 use Rattle.statements.specs.contracts.Ready.{Keeps, MembersWord}
-use Rattle.statements.proofs.Keeps.{keeps-has}
+use Rattle.statements.proofs.WorkArea.{row-holds, row-words-le, row-from}
+use Rattle.statements.proofs.Keeps.{keeps-trans, keeps-has, keeps-intersected}
 use Rattle.statements.proofs.Members.{first-as, members-none, members-next}
-use Rattle.calls.specs.contracts.Held.{WalkRow, Empty, CallSummaries, Summarized, Linked, transparent, opaque}
-use Rattle.calls.specs.contracts.Joins.{Joins, Adds, Notes, Summary, BodyRows, bodyOf, bodiesOf, fromReturn, fromEntered, fromBodies}
-use Rattle.calls.proofs.Joined.{joins-none, joins-then, joins-same, row-stays, adds-same, adds-all}
+use Rattle.calls.specs.contracts.Held.{WalkRow, Empty, CallSummaries, Summarized, Leaders, Linked, transparent, opaque}
+use Rattle.calls.specs.contracts.Joins.{Joins, Gains, Gathers, Adds, Notes, Summary, BodyRows, ReturnSet, isEntered, bodyOf, bodiesOf, fromBodies}
+use Rattle.calls.proofs.Joined.{joins-none, joins-then, joins-same, gains-none, gains-same, gains-more, gains-after, gains-joins, row-stays, adds-same, adds-all}
 use Rattle.calls.proofs.Summing.{walk-low, walk-kept}
 use Rattle.calls.proofs.BodySummary.{return-stays, return-ordinary}
 
 -- The row of entered statements, member by member
 
-abbrev pub isEntered : List ℕ → ℕ → ℕ → Bool
-isEntered ws n s = eqb (row.has ws (enteredRowAt n) s) 1
-
--- the RETURNs below r that the row has go to k, and r is its next member
-pub record Noting (f : Flow) (ws₀ ws : List ℕ) (n k r : ℕ) : Type 0 where
-  pub joins : Joins f ws₀ ws n (queueAt n) (λ s j. (ltb s r && isEntered ws₀ n s) && eqb j k)
+-- the rows of the members below r have k, and r is the next member
+pub record Noting (ws₀ ws : List ℕ) (n k r : ℕ) : Type 0 where
+  pub gains : Gains ws₀ ws n (queueAt n) (λ s. ltb s r && isEntered ws₀ n s) k
   pub below : r ≤ n
   pub member : r < n → row.has ws₀ (enteredRowAt n) r ≡ 1
 
-module _ {f : Flow} {ws₀ : List ℕ} {n : ℕ} (k : ℕ) where
-  pub noting-start : Noting f ws₀ ws₀ n k (nextMember ws₀ (enteredRowAt n) 0 n)
+module _ {ws₀ : List ℕ} {n : ℕ} (k : ℕ) where
+  pub noting-start : Noting ws₀ ws₀ n k (nextMember ws₀ (enteredRowAt n) 0 n)
   noting-start = record {
-    joins = joins-same joins-none (λ s j ls lj is. sym (ap (λ (t : Bool). t && eqb j k) (members-none found s)));
+    gains = gains-same gains-none (λ s l. sym (members-none found s));
     below = found .high;
     member = found .member;
   }
@@ -54,25 +55,24 @@ module _ {f : Flow} {ws₀ : List ℕ} {n : ℕ} (k : ℕ) where
       found : First ws₀ (enteredRowAt n) 0 n (nextMember ws₀ (enteredRowAt n) 0 n)
       found = first ws₀ (enteredRowAt n) 0 n (omega arith)
 
-  -- the rows of RETURNs lie below the row of entered statements
-  pub noting-on : {ws vs : List ℕ} {r : ℕ} → Noting f ws₀ ws n k r → r < n → Joins f ws vs n (queueAt n) (fromReturn r k)
-      → Noting f ws₀ vs n k (nextMember vs (enteredRowAt n) (r + 1) n)
-  noting-on {ws} {vs} {r} inv lr js = record {
-    joins = joins-same both
-        (λ s j ls lj is. sym (and-or-distrib-right (ltb s r && isEntered ws₀ n s) (eqb s r) (eqb j k)) ∙ ap (λ (t : Bool). t && eqb j k) (members-next r (inv .member lr) found s));
+  -- the rows of the matrix lie below the row of entered statements
+  pub noting-on : {ws vs : List ℕ} {r : ℕ} {b : Bool} → Noting ws₀ ws n k r → r < n → k < n → queueAt n ≤ length ws₀ → Inserted ws vs (rowAt n r) k b
+      → Noting ws₀ vs n k (nextMember vs (enteredRowAt n) (r + 1) n)
+  noting-on {ws} {vs} {r} inv lr lk room i = record {
+    gains = gains-same more (λ s l. members-next r (inv .member lr) found s);
     below = found .high;
     member = found .member;
   }
     where
-      both : Joins f ws₀ vs n (queueAt n) (λ s j. ((ltb s r && isEntered ws₀ n s) && eqb j k) || fromReturn r k s j)
-      both = joins-then (inv .joins) js
+      more : Gains ws₀ vs n (queueAt n) (λ s. (ltb s r && isEntered ws₀ n s) || eqb s r) k
+      more = gains-more (inv .gains) i lr lk room
 
       found : First ws₀ (enteredRowAt n) (r + 1) n (nextMember vs (enteredRowAt n) (r + 1) n)
-      found = first-as (first vs (enteredRowAt n) (r + 1) n (omega arith)) (λ j l. keeps-has (both .kept) (enteredRowAt n) j (λ a b. omega arith))
+      found = first-as (first vs (enteredRowAt n) (r + 1) n (omega arith)) (λ j l. keeps-has (more .kept) (enteredRowAt n) j (λ a b. omega arith))
 
-pub noting-done : {f : Flow} {ws₀ ws : List ℕ} {n k r : ℕ} → Noting f ws₀ ws n k r → n ≤ r → Joins f ws₀ ws n (queueAt n) (fromEntered ws₀ n k)
-noting-done {ws₀ = ws₀} {n = n} {k = k} {r = r} inv l =
-    joins-same (inv .joins) (λ s j ls lj is. ap (λ (t : Bool). (t && isEntered ws₀ n s) && eqb j k) (lt-ltb s r (omega arith)))
+pub noting-done : {ws₀ ws : List ℕ} {n k r : ℕ} → Noting ws₀ ws n k r → n ≤ r → Gains ws₀ ws n (queueAt n) (isEntered ws₀ n) k
+noting-done {ws₀ = ws₀} {n = n} {r = r} inv l =
+    gains-same (inv .gains) (λ s ls. ap (λ (t : Bool). t && isEntered ws₀ n s) (lt-ltb s r (omega arith)))
 
 -- A body's walk
 
@@ -135,10 +135,42 @@ module _ (f : Flow) where
   elem-walks s [] = refl
   elem-walks s (b ∷ bs) = elem-append s (walked f b) (bodiesOf f true bs) ∙ ap (λ (t : Bool). elem s (walked f b) || t) (elem-walks s bs)
 
-  -- once the row has the bodies' walks and no more, its RETURNs are those of the bodies
-  pub bodies-noted : {ws us vs : List ℕ} {n : ℕ} (k : ℕ) (bs : List ℕ) → Empty ws n (enteredRowAt n) → Adds (enteredRowAt n) ws us n (bodiesOf f true bs)
-      → Joins f us vs n (queueAt n) (fromEntered us n k) → Joins f us vs n (queueAt n) (fromBodies f bs k)
-  bodies-noted k bs empty a js = joins-same js (λ s j ls lj is. ap (λ (t : Bool). t && eqb j k) (ap (λ (x : ℕ). eqb x 1) (adds-all empty a s ls) ∙ says-one (elem s (bodiesOf f true bs)) ∙ elem-walks s bs))
+  -- the row of entered statements becomes what a row that has the bodies' walks, and no more, shares with that of RETURNs
+  pub gathers : {ws us vs : List ℕ} (n at : ℕ) (bs : List ℕ) → Keeps (enteredRowAt n) (solverAt n) ws us → ReturnSet f us n → solverAt n ≤ length us
+      → ReadFirst (enteredRowAt n) at (rowWords n) → vs ≡ intersected us (enteredRowAt n) at (returnsRowAt n) (rowWords n)
+      → ((s : ℕ) → s < n → row.has us at s ≡ cond (any (λ e. elem s (walked f e)) bs) 1 0) → Gathers f ws vs n bs
+  gathers {ws} {us} {vs} n at bs kept rs room apart cut has = record {
+    kept = keeps-trans kept (subst (λ (xs : List ℕ). Keeps (enteredRowAt n) (solverAt n) us xs) (sym cut) (keeps-intersected us (enteredRowAt n) at (returnsRowAt n) (rowWords n) (omega arith) inside));
+    holds = λ s l.
+        ap (λ (xs : List ℕ). row.has xs (enteredRowAt n) s) cut
+        ∙ intersected-has us (enteredRowAt n) at (returnsRowAt n) (rowWords n) (omega (arith, inside)) apart (λ i j a b e. omega (arith, inside)) s (omega (arith, row-holds n))
+        ∙ ap₂ min (has s l) (rs .holds s l) ∙ both (any (λ e. elem s (walked f e)) bs) (isReturn (kind f s));
+  }
+    where
+      inside : enteredRowAt n + rowWords n ≤ solverAt n
+      inside = omega (arith, row-words-le n)
+
+      both : (a b : Bool) → min (cond a 1 0) (cond b 1 0) ≡ cond (a && b) 1 0
+      both true true = omega arith
+      both true false = omega arith
+      both false b = omega arith
+
+  -- from the row of a body's walk, and line by line
+
+  pub body-gathered : {ws : List ℕ} {n b : ℕ} → WellFormed f → size f ≡ n → b < n → WalkRow f ws n b → (s : ℕ) → s < n → row.has ws (rowAt n b) s ≡ cond (any (λ e. elem s (walked f e)) (b ∷ [])) 1 0
+  unfolding any
+  body-gathered {b = b} w z lb r s l = row-walked w z lb r s l ∙ ap (λ (t : Bool). cond t 1 0) (sym (or-false (elem s (walked f b))))
+
+  pub lines-gathered : {ws us : List ℕ} {n : ℕ} (bs : List ℕ) → Empty ws n (enteredRowAt n) → Adds (enteredRowAt n) ws us n (bodiesOf f true bs)
+      → (s : ℕ) → s < n → row.has us (enteredRowAt n) s ≡ cond (any (λ e. elem s (walked f e)) bs) 1 0
+  lines-gathered bs empty a s l = adds-all empty a s l ∙ ap (λ (t : Bool). cond t 1 0) (elem-walks s bs)
+
+  -- its members, which are the RETURNs of the bodies, go to k
+  pub bodies-noted : {ws us vs : List ℕ} {n : ℕ} (k : ℕ) (bs : List ℕ) → Gathers f ws us n bs → Gains us vs n (queueAt n) (isEntered us n) k
+      → Joins f ws vs n (solverAt n) (fromBodies f bs k)
+  bodies-noted k bs g gains =
+      let walks : ℕ → Bool = λ s. any (λ e. elem s (walked f e)) bs in
+      gains-joins walks (gains-after (g .kept) (omega arith) gains) (λ s l. ap (λ (x : ℕ). eqb x 1) (g .holds s l) ∙ says-one (walks s && isReturn (kind f s)))
 
 -- Call by call
 
@@ -193,7 +225,7 @@ calling-on {f} {c = c} inv l js = record {
 
 -- what the calls' summaries say stays
 
-pub summaries-kept : {f : Flow} {ws vs : List ℕ} {n lo hi : ℕ} → matrixAt n ≤ lo → Keeps lo hi ws vs → CallSummaries f ws n → CallSummaries f vs n
+pub summaries-kept : {f : Flow} {ws vs : List ℕ} {n lo hi : ℕ} → bodiesAt n ≤ lo → Keeps lo hi ws vs → CallSummaries f ws n → CallSummaries f vs n
 summaries-kept {f} {ws} {vs} {n} m k s = record {
   ordinary = λ c l e. same c l ∙ s .ordinary c l e;
   call = λ c j l e. same c l ∙ s .call c j l e;
@@ -210,17 +242,23 @@ summary-kept {f} {n = n} {c = c} w z s js l = record {
   bodies = λ k e. rows-kept c w z js (λ b m other. s .walks c b l (rw e m) other);
 }
 
-pub linked : {f : Flow} {ws us vs : List ℕ} {n hi : ℕ} → size f ≡ n → Summarized f ws n → Joins f ws us n hi (λ r k. any (returnsTo f r k) (upTo n)) → Notes f us vs n 0 n → Linked f vs n
-linked {f} {ws} {us} {vs} {n} z s js ns = record {
-  calls = summaries-kept (omega arith) (ns .kept) (summaries-kept (omega arith) (js .kept) (s .calls));
-  bodies = λ c j l lj e. ns .noted c j (omega arith) l lj (sym (ns .kept .below (callsAt n + c) (omega arith)) ∙ e);
-  returns = λ r k lr lk is.
-      let goes : ℕ → ℕ = λ m. cond (any (returnsTo f r k) (upTo m)) 1 0 in
+-- the edges are known once the leaders are noted too, which writes words of the bodies only
+pub linked : {f : Flow} {ws us vs ts : List ℕ} {n hi : ℕ} → size f ≡ n → Summarized f ws n → Joins f ws us n hi (λ r k. any (returnsTo f r k) (upTo n)) → Notes f us vs n 0 n
+    → Keeps (bodiesAt n) (matrixAt n) vs ts → Leaders f ts n → Linked f ts n
+linked {f} {ws} {us} {vs} {ts} {n} z s js ns k ls = record {
+  calls = summaries-kept (omega arith) k (summaries-kept (omega arith) (ns .kept) (summaries-kept (omega arith) (js .kept) (s .calls)));
+  bodies = λ c j l lj e. row c j ∙ ns .noted c j (omega arith) l lj (sym (k .below (callsAt n + c) (omega arith) ∙ ns .kept .below (callsAt n + c) (omega arith)) ∙ e);
+  returns = λ r j lr lj is.
+      let goes : ℕ → ℕ = λ m. cond (any (returnsTo f r j) (upTo m)) 1 0 in
       let only : max 0 (goes n) ≡ goes n = omega arith in
-      ns .others r k lr lk (λ a b e. no-call r lr is e)
-      ∙ js .joined r k lr lk is ∙ ap (λ (x : ℕ). max x (goes n)) (s .free r lr is k lk) ∙ only ∙ ap goes (sym z);
+      row r j ∙ ns .others r j lr lj (λ a b e. no-call r lr is e)
+      ∙ js .joined r j lr lj is ∙ ap (λ (x : ℕ). max x (goes n)) (s .free r lr is j lj) ∙ only ∙ ap goes (sym z);
+  leaders = ls;
 }
   where
+    row : (e j : ℕ) → has ts (rowAt n e) j ≡ has vs (rowAt n e) j
+    row e j = keeps-has k (rowAt n e) j (λ a b. omega (arith, row-from n e))
+
     -- a RETURN is no transparent call
     no-call : (r : ℕ) → r < n → isReturn (kind f r) ≡ true → getD us (callsAt n + r) 0 ≡ transparent → ⊥
     no-call r l is e = omega (arith, e, js .kept .below (callsAt n + r) (omega arith), s .calls .ordinary r l (return-ordinary (kind f r) is))

@@ -1,7 +1,7 @@
--- Laws of `Joins`, what noting changes in the rows of RETURNs: nothing, one insertion, one change after another, and the same test in other words;
--- and of `Adds`, the same for a row that bodies are joined to. By the laws of rows.
+-- Laws of `Joins`, what noting changes in the rows of RETURNs: nothing, one change after another, and the same test in other words; of `Gains`, where k joins
+-- rows of the matrix, one insertion after the other; and of `Adds`, the same for a row that bodies are joined to. By the laws of rows.
 use Prim.Native.Nat.{ℕ, _+_, _/_, _≤_, _<_, max}
-use mathlib.Core.Bool.{Bool, true, false, cond, _&&_, _||_, or-false}
+use mathlib.Core.Bool.{Bool, true, false, cond, _&&_, _||_, or-false, and-true, and-false, and-or-distrib-right}
 use mathlib.Core.List.{List, [], _∷_, _++_}
 use mathlib.Core.Path.{_≡_, refl, sym, _∙_, ap, ap₂, subst}
 use native.Mathlib.Omega.{arith}
@@ -16,13 +16,13 @@ use Rattle.words.proofs.Unioned.{unioned-has}
 use Rattle.flow.specs.Flow.{Flow}
 use Rattle.theory.specs.Lists as lists
 use Rattle.theory.specs.Body.{kind, isReturn}
-use Rattle.theory.proofs.Lists.{clash, not-so, elem-append}
+use Rattle.theory.proofs.Lists.{elem-append}
 use Rattle.statements.specs.contracts.Layout.{rowAt, rowWords, queueAt, enteredRowAt, solverAt}
 use Rattle.statements.specs.contracts.Ready.{Keeps}
 use Rattle.statements.proofs.WorkArea.{member-word, row-holds, row-from, row-fits, insert-row}
 use Rattle.statements.proofs.Keeps.{keeps-refl, keeps-trans, keeps-widen, keeps-has, keeps-inserted, keeps-unioned}
 use Rattle.calls.specs.contracts.Held.{Empty}
-use Rattle.calls.specs.contracts.Joins.{Joins, Adds, Target, fromReturn}
+use Rattle.calls.specs.contracts.Joins.{Joins, Gains, Adds, Target}
 
 max-or : (a : ℕ) (p q : Bool) → max (max a (cond p 1 0)) (cond q 1 0) ≡ max a (cond (p || q) 1 0)
 max-or a true true = omega arith
@@ -60,38 +60,56 @@ joins-same {ws = ws} {n = n} a e = record {
   joined = λ r k l m h. a .joined r k l m h ∙ ap (λ (t : Bool). max (has ws (rowAt n r) k) (cond t 1 0)) (e r k l m h);
 }
 
--- k joins the row of the RETURN r
-pub joins-insert : {f : Flow} {ws vs : List ℕ} {n r k : ℕ} {b : Bool} → Inserted ws vs (rowAt n r) k b → r < n → k < n → queueAt n ≤ length ws
-    → isReturn (kind f r) ≡ true → Joins f ws vs n (queueAt n) (fromReturn r k)
-joins-insert {f} {ws} {vs} {n} {r} {k} i lr lk room is = subst (λ (us : List ℕ). Joins f ws us n (queueAt n) (fromReturn r k)) (sym (i .slice)) (record {
-  kept = keeps-inserted ws (rowAt n r) k (row-from n r) (omega (arith, row-fits n lr, member-word lk));
-  others = λ e j le lj no. insert-row ws (λ same. clash (isReturn (kind f r)) is (subst (λ (x : ℕ). isReturn (kind f x) ≡ false) same no)) lk lj;
-  joined = at;
+-- Rows of the matrix that k joins
+
+pub gains-none : {ws : List ℕ} {n hi k : ℕ} → Gains ws ws n hi (λ r. false) k
+gains-none = record { kept = keeps-refl; rows = λ r j l m. omega arith }
+
+pub gains-same : {ws vs : List ℕ} {n hi k : ℕ} {p q : ℕ → Bool} → Gains ws vs n hi p k → ((r : ℕ) → r < n → p r ≡ q r) → Gains ws vs n hi q k
+gains-same {ws = ws} {n = n} {k = k} g e = record {
+  kept = g .kept;
+  rows = λ r j l m. g .rows r j l m ∙ ap (λ (t : Bool). max (has ws (rowAt n r) j) (cond (t && eqb j k) 1 0)) (e r l);
+}
+
+-- one row more
+pub gains-more : {ws vs us : List ℕ} {n r k : ℕ} {p : ℕ → Bool} {b : Bool} → Gains ws vs n (queueAt n) p k → Inserted vs us (rowAt n r) k b → r < n → k < n
+    → queueAt n ≤ length ws → Gains ws us n (queueAt n) (λ s. p s || eqb s r) k
+gains-more {ws} {vs} {us} {n} {r} {k} {p} g i lr lk room = subst (λ (xs : List ℕ). Gains ws xs n (queueAt n) (λ s. p s || eqb s r) k) (sym (i .slice)) (record {
+  kept = keeps-trans (g .kept) (keeps-inserted vs (rowAt n r) k (row-from n r) inside);
+  rows = λ s j ls lj.
+      at s j ls lj ∙ ap (λ (x : ℕ). max x (cond (eqb s r && eqb j k) 1 0)) (g .rows s j ls lj) ∙ max-or (has ws (rowAt n s) j) (p s && eqb j k) (eqb s r && eqb j k)
+      ∙ ap (λ (t : Bool). max (has ws (rowAt n s) j) (cond t 1 0)) (sym (and-or-distrib-right (p s) (eqb s r) (eqb j k)));
 })
   where
-    at : (s j : ℕ) → s < n → j < n → isReturn (kind f s) ≡ true
-        → has (inserted ws (rowAt n r) k) (rowAt n s) j ≡ max (has ws (rowAt n s) j) (cond (eqb s r && eqb j k) 1 0)
-    at s j ls lj h = go (eqb s r) refl
-      where
-        go : (t : Bool) → eqb s r ≡ t → has (inserted ws (rowAt n r) k) (rowAt n s) j ≡ max (has ws (rowAt n s) j) (cond (t && eqb j k) 1 0)
-        go true e = rw (eqb-true s r e) (inserted-bit ws (rowAt n r) k (omega (arith, row-fits n lr, member-word lk)) j)
-        go false e = insert-row ws (eqb-false s r e) lk lj ∙ omega arith
+    inside : rowAt n r + k / 64 < queueAt n
+    inside = omega (arith, row-fits n lr, member-word lk)
 
--- a statement that is no RETURN has no such row
-pub joins-skip : {f : Flow} {ws : List ℕ} {n hi : ℕ} (r k : ℕ) → isReturn (kind f r) ≡ false → Joins f ws ws n hi (fromReturn r k)
-joins-skip {f} r k other = joins-same joins-none (λ s j ls lj is. sym (ap (λ (t : Bool). t && eqb j k) (apart s is)))
-  where
-    apart : (s : ℕ) → isReturn (kind f s) ≡ true → eqb s r ≡ false
-    apart s is = not-so (eqb s r) (λ e. clash (isReturn (kind f r)) (subst (λ (x : ℕ). isReturn (kind f x) ≡ true) (eqb-true s r e) is) other)
+    at : (s j : ℕ) → s < n → j < n → has (inserted vs (rowAt n r) k) (rowAt n s) j ≡ max (has vs (rowAt n s) j) (cond (eqb s r && eqb j k) 1 0)
+    at s j ls lj = go (eqb s r) refl
+      where
+        go : (t : Bool) → eqb s r ≡ t → has (inserted vs (rowAt n r) k) (rowAt n s) j ≡ max (has vs (rowAt n s) j) (cond (t && eqb j k) 1 0)
+        go true e = rw (eqb-true s r e) (inserted-bit vs (rowAt n r) k (omega (arith, inside, g .kept .size)) j)
+        go false e = insert-row vs (eqb-false s r e) lk lj ∙ omega arith
 
 -- a change of the row of entered statements may come before
-pub joins-after : {f : Flow} {ws vs us : List ℕ} {n : ℕ} {q : ℕ → ℕ → Bool} → Keeps (enteredRowAt n) (solverAt n) ws vs → Joins f vs us n (queueAt n) q
-    → Joins f ws us n (solverAt n) q
-joins-after {ws = ws} {vs = vs} {n = n} {q = q} a js = record {
-  kept = keeps-trans (keeps-widen (omega (arith, row-from n n)) (omega arith) a) (keeps-widen (omega arith) (omega arith) (js .kept));
-  others = λ e i l m h. js .others e i l m h ∙ row-stays a (omega arith) l m;
-  joined = λ r k l m h. js .joined r k l m h ∙ ap (λ (x : ℕ). max x (cond (q r k) 1 0)) (row-stays a (omega arith) l m);
+pub gains-after : {ws vs us : List ℕ} {n hi k : ℕ} {p : ℕ → Bool} → Keeps (enteredRowAt n) (solverAt n) ws vs → hi ≤ solverAt n → Gains vs us n hi p k
+    → Gains ws us n (solverAt n) p k
+gains-after {n = n} {k = k} {p = p} a h g = record {
+  kept = keeps-trans (keeps-widen (omega (arith, row-from n n)) (omega arith) a) (keeps-widen (omega arith) h (g .kept));
+  rows = λ r j l m. g .rows r j l m ∙ ap (λ (x : ℕ). max x (cond (p r && eqb j k) 1 0)) (row-stays a (omega arith) l m);
 }
+
+-- where only RETURNs pass the test, only their rows change
+pub gains-joins : {f : Flow} {ws vs : List ℕ} {n hi k : ℕ} {p : ℕ → Bool} (q : ℕ → Bool) → Gains ws vs n hi p k → ((r : ℕ) → r < n → p r ≡ (q r && isReturn (kind f r)))
+    → Joins f ws vs n hi (λ r j. q r && eqb j k)
+gains-joins {f} {ws} {vs} {n} {hi} {k} {p} q g e = record {
+  kept = g .kept;
+  others = λ r j l m no. row r j l m (e r l ∙ ap (λ (t : Bool). q r && t) no ∙ and-false (q r)) ∙ omega arith;
+  joined = λ r j l m is. row r j l m (e r l ∙ ap (λ (t : Bool). q r && t) is ∙ and-true (q r));
+}
+  where
+    row : (r j : ℕ) → r < n → j < n → {t : Bool} → p r ≡ t → has vs (rowAt n r) j ≡ max (has ws (rowAt n r) j) (cond (t && eqb j k) 1 0)
+    row r j l m same = g .rows r j l m ∙ ap (λ (t : Bool). max (has ws (rowAt n r) j) (cond (t && eqb j k) 1 0)) same
 
 -- A row that bodies are joined to
 

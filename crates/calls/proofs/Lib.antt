@@ -5,11 +5,12 @@ pub mod BodySummary
 pub mod CallSummary
 pub mod Summaries
 pub mod Slots
-pub mod Cursor
 pub mod Found
 pub mod Classes
 pub mod Joined
 pub mod Lines
 pub mod CallRows
 pub mod Gathered
+pub mod ReturnSet
+pub mod Leading
 pub mod Next

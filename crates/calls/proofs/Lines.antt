@@ -5,6 +5,7 @@ use mathlib.Core.List.{List, [], _∷_, _++_, append-nil}
 use mathlib.Core.Option.{Option, some}
 use mathlib.Core.Path.{_≡_, sym, _∙_, ap, subst}
 use native.Mathlib.Numerals.{add-one}
+use native.Mathlib.Omega.{arith}
 use lib.ListN.{length, getD, take}
 use lib.Seq.{take-suc, take-all}
 use Rattle.flow.specs.Flow.{Flow, enters}
@@ -37,6 +38,11 @@ pub entered-line : (f : Flow) (c l b : ℕ) → l < length (callLines (kind f c)
 unfolding entered
 entered-line f c l b h e =
     concatMap-In (λ x. optionList (enters f x)) (getD-In (callLines (kind f c)) l 0 h) (optionList-In (enters f (getD (callLines (kind f c)) l 0)) b e)
+
+-- a call of one line enters what that line does
+pub entered-one : (f : Flow) (c b : ℕ) → length (callLines (kind f c)) ≡ 1 → enters f (getD (callLines (kind f c)) 0 0) ≡ some b → entered f c ≡ b ∷ []
+unfolding concatMap optionList
+entered-one f c b one e = sym (entered-all f c 1 (omega arith)) ∙ sym (entered-more f (callLines (kind f c)) 0 (omega arith)) ∙ ap optionList e
 
 -- A row that bodies are joined to, where g says what they add to it
 

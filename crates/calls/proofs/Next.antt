@@ -1,46 +1,16 @@
--- What holds of the edge that a cursor finds: its target is a doubled number, and it carries the touched step only where the call is not opaque.
--- By the slots of each kind of statement.
-use Prim.Native.Nat.{ℕ, zero, suc, _+_, _≤_, _<_}
+-- An edge carries the touched step only where the call is not opaque. By the edges of each kind of statement.
+use Prim.Native.Nat.{ℕ}
 use mathlib.Core.Bool.{Bool, true, false, cond}
 use mathlib.Core.List.{List, [], _∷_, map, List·Memᴰ·head, List·Memᴰ·tail, List·Memᴰ·not-nil}
 use mathlib.Core.Option.{Option, none, some}
 use mathlib.Core.Path.{_≡_, refl, sym, ap, subst}
-use native.Mathlib.Omega.{arith}
-use lib.ListN.{drop}
 use Rattle.flow.specs.declared.Base.{Base}
 use Rattle.flow.specs.declared.Base.the-variants.{Zero, N}
-use Rattle.flow.specs.declared.NodeId.{NodeId}
 use Rattle.flow.specs.Flow.{Flow, size}
 use Rattle.theory.specs.Lists.{In, any, concatMap, optionList, select, upTo}
 use Rattle.theory.specs.Body.{kind, successors, continuationOf, isReturn, opaqueCall}
-use Rattle.theory.specs.contracts.WellFormed.{WellFormed}
 use Rattle.theory.specs.Doubled.{Node, Edge, at, plain, offset, returnsTo, returnEdges, listedEdges, edgesOf, edges}
 use Rattle.theory.proofs.Lists.{In-map}
-use Rattle.theory.proofs.Edges.{edge-below}
-use Rattle.calls.specs.contracts.Slots.{slots, present}
-use Rattle.calls.proofs.Slots.{slot-edge}
-use Rattle.calls.proofs.Cursor.{NextEdge}
-
--- a slot that is left is a slot
-left-In : {x : Edge} (c : ℕ) (xs : List (Option Edge)) → In x (present (drop c xs)) → In x (present xs)
-unfolding present concatMap optionList
-left-In zero xs m = m
-left-In (suc c) [] m = m
-left-In (suc c) (none ∷ xs) m = left-In c xs m
-left-In (suc c) (some y ∷ xs) m = List·Memᴰ·tail (left-In c xs m)
-
-module _ {f : Flow} (v : Node) {cursor : ℕ} {t : NodeId} {c : Bool} {next : ℕ} (x : NextEdge f (slots f v) cursor t c next) where
-  -- it is an edge of the doubled number
-  pub next-edge : In (x .edge) (edges f v)
-  next-edge =
-      slot-edge f v (left-In cursor (slots f v) (subst (λ (es : List Edge). In (x .edge) es) (sym (x .first)) (List·Memᴰ·head refl)))
-
-  pub next-below : WellFormed f → t .0 < size f + size f
-  next-below w = let h = x .target in omega (arith, edge-below f w v next-edge, offset-most f (x .edge .to .base))
-    where
-      offset-most : (f : Flow) (b : Base) → offset f b ≤ size f
-      offset-most f Zero = omega arith
-      offset-most f N = omega arith
 
 -- a statement that is no call, and an opaque call, have no edge that carries the touched step
 

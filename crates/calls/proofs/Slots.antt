@@ -19,11 +19,11 @@ use Rattle.theory.specs.Queue.{Arc, brings, join, enqueue, stepAll}
 use Rattle.theory.proofs.Lists.{In-elem, In-map, select-In, concatMap-append}
 use Rattle.theory.proofs.Edges.{same-node, in-once}
 use Rattle.theory.proofs.Enqueue.{join-keeps, join-adds}
-use Rattle.calls.specs.contracts.Slots.{edgeTo, ifEntered, otherSlots, callSlots, returnSlots, listedSlots, slotsOf, slots, present, toArc}
+use Rattle.calls.specs.contracts.Slots.{edgeTo, ifEntered, lineSlots, otherSlots, callSlots, returnSlots, listedSlots, slotsOf, slots, present, toArc}
 
 -- Present slots
 
-present-append : (xs ys : List (Option Edge)) → present (xs ++ ys) ≡ present xs ++ present ys
+pub present-append : (xs ys : List (Option Edge)) → present (xs ++ ys) ≡ present xs ++ present ys
 unfolding present
 present-append xs ys = concatMap-append optionList xs ys
 
@@ -42,7 +42,7 @@ present-select {A} p g (x ∷ l) = go (p x) (present-select p g l)
     go true e = ap (λ (es : List Edge). g x ∷ es) e
     go false e = e
 
-present-entered : (f : Flow) (back : Node) (ls : List ℕ)
+pub present-entered : (f : Flow) (back : Node) (ls : List ℕ)
     → present (map (λ l. ifEntered back (enters f l)) ls) ≡ map (edgeTo back) (map (at N) (concatMap (λ l. optionList (enters f l)) ls))
 unfolding present concatMap optionList
 present-entered f back [] = refl
@@ -65,7 +65,7 @@ map-map g h [] = refl
 map-map g h (x ∷ l) = ap (λ r. g (h x) ∷ r) (map-map g h l)
 
 call-present : (f : Flow) (b : Base) (i k : ℕ) → present (callSlots f b i k) ≡ map (edgeTo (at b k)) (targets f b i k)
-unfolding callSlots otherSlots targets entered present concatMap optionList
+unfolding callSlots lineSlots otherSlots targets entered present concatMap optionList
 call-present f b i k =
     let back = at b k in
     let first = map (λ l. ifEntered back (enters f l)) (callLines (kind f i)) in

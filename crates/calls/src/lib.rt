@@ -1,11 +1,4 @@
 // Body walks, call summaries and the edges of the doubled graph, kept in the work area.
-// What stands at or after a cursor among the edges of a doubled number.
-pub enum Edge {
-    // An edge to a number, whether it carries the touched step, and the cursor behind it.
-    To(flow::NodeId, bool, usize),
-    End,
-}
-
 // The states of a body and of a call. An open body is being walked: whoever calls it then lies on a cycle of calls with it.
 pub const UNENTERED: u64 = 0;
 
@@ -17,6 +10,7 @@ pub const TRANSPARENT: u64 = 2;
 pub const OPAQUE: u64 = 3;
 
 pub mod edges;
+pub mod leaders;
 pub mod returns;
 mod rows;
 pub mod summary;

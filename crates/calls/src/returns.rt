@@ -1,57 +1,107 @@
 // The edges of each RETURN in base 0: its row of the matrix holds the continuations of opaque calls that enter a body whose
 // walk meets it. A RETURN's own body walk is just itself, so its row is free for this. The walks of the bodies that a call enters
-// are first joined in the row of entered statements, so that a call goes through its RETURNs once, however many lines it names.
-ghost use Prim.Native.Nat.{_<_};
+// are first joined in the row of entered statements, so that a call goes through its RETURNs once, however many lines it names; and
+// the RETURNs are noted as a row of their own, to which that row is cut, so that no other statement of a walk is looked at.
+ghost use Prim.Native.Nat.{_+_, _<_};
 ghost use Rattle.flow.specs.Format.{flowOf};
 ghost use Rattle.theory.specs.Body.{entered};
 ghost use Rattle.theory.specs.Doubled.{returnsTo};
-ghost use Rattle.statements.specs.contracts.Layout.{matrixAt, queueAt, solverAt};
+ghost use Rattle.statements.specs.contracts.Layout.{rowWords, bodiesAt, queueAt, solverAt, returnsRowAt};
 ghost use Rattle.statements.specs.contracts.Ready.{Ready, Indexed, Keeps};
-ghost use Rattle.calls.specs.contracts.Held.{Summarized, Linked};
-ghost use Rattle.calls.specs.contracts.Joins.{Joins, Summary, BodyRows, fromReturn, fromEntered, fromBodies};
+ghost use Rattle.calls.specs.contracts.Held.{Area, Summarized, Linked};
+ghost use Rattle.calls.specs.contracts.Joins.{Joins, Gains, Gathers, Adds, Summary, BodyRows, ReturnSet, ifReturn, isEntered, fromBodies};
 use crate::OPAQUE;
+use crate::leaders;
 use crate::rows;
 use flow::StmtId;
 use statements::fields;
 use statements::layout;
 
-fn note_return(file: &[u8], work: &mut [u64], n: usize, r: StmtId, k: StmtId)
-    requires { ⌜ Ready (now file) (now work) n × (r .0 < n) × (k .0 < n) ⌝ }
-    ensures { λ _. ⌜ Joins (flowOf (now (file .entry))) (now (work .entry)) (now (work .exit)) n (queueAt n) (fromReturn (r .0) (k .0)) ⌝ }
+// Statement r, if it is a RETURN, joins the row of RETURNs.
+fn note_return(file: &[u8], work: &mut [u64], n: usize, r: StmtId)
+    requires { ⌜ Ready (now file) (now work) n × (r .0 < n) ⌝ }
+    ensures { λ _. ⌜ Adds (returnsRowAt n) (now (work .entry)) (now (work .exit)) n (ifReturn (flowOf (now (file .entry))) (r .0)) ⌝ }
 {
     if fields::is_return(file, work, n, r) {
-        words::insert(work, layout::row(n, r), k.0);
+        words::insert(work, layout::returns_row(n), r.0);
     }
 }
 
-// The RETURNs in the row of entered statements go to k.
-fn note_members(file: &[u8], work: &mut [u64], n: usize, k: StmtId)
-    requires { ⌜ Ready (now file) (now work) n × (k .0 < n) ⌝ }
-    ensures { λ _. ⌜ Joins (flowOf (now (file .entry))) (now (work .entry)) (now (work .exit)) n (queueAt n) (fromEntered (now (work .entry)) n (k .0)) ⌝ }
+// The row of RETURNs.
+fn note_returns(file: &[u8], work: &mut [u64], n: usize)
+    requires { ⌜ Ready (now file) (now work) n ⌝ }
+    ensures { λ _. ⌜ ReturnSet (flowOf (now (file .entry))) (now (work .exit)) n × Keeps (returnsRowAt n) (returnsRowAt n + rowWords n) (now (work .entry)) (now (work .exit)) ⌝ }
+{
+    rows::zero_row(work, n, layout::returns_row(n));
+    let mut r = 0;
+    while r < n {
+        note_return(file, work, n, StmtId(r));
+        r += 1;
+    }
+}
+
+// The RETURNs on the walks of the bodies that the call c enters, joined in the row of entered statements line by line.
+fn gather_lines(file: &[u8], h: flow::Header, work: &mut [u64], c: StmtId)
+    requires { ⌜ Indexed (now file) h (now work) × (c .0 < h .statements) × BodyRows (flowOf (now file)) (now work) (h .statements) (c .0) × ReturnSet (flowOf (now file)) (now work) (h .statements) ⌝ }
+    ensures { λ _. ⌜ Gathers (flowOf (now (file .entry))) (now (work .entry)) (now (work .exit)) (h .statements) (entered (flowOf (now (file .entry))) (c .0)) ⌝ }
+{
+    let n = h.statements;
+    let row = layout::entered_row(n);
+    rows::zero_row(work, n, row);
+    rows::add_lines(file, h, work, row, c, true);
+    words::intersect(work, row, row, layout::returns_row(n), layout::row_words(n));
+}
+
+// The same. A call of one line mostly enters a body whose walk stands in a row already: nothing is joined.
+fn gather(file: &[u8], h: flow::Header, work: &mut [u64], c: StmtId)
+    requires { ⌜ Indexed (now file) h (now work) × (c .0 < h .statements) × BodyRows (flowOf (now file)) (now work) (h .statements) (c .0) × ReturnSet (flowOf (now file)) (now work) (h .statements) ⌝ }
+    ensures { λ _. ⌜ Gathers (flowOf (now (file .entry))) (now (work .entry)) (now (work .exit)) (h .statements) (entered (flowOf (now (file .entry))) (c .0)) ⌝ }
+{
+    let n = h.statements;
+    if fields::line_count(file, work, n, c) == 1 {
+        if let flow::LineEntry::At(b) = fields::entered(file, h, work, c, 0) {
+            if !fields::is_return(file, work, n, b) {
+                let row = layout::entered_row(n);
+                words::intersect(
+                    work,
+                    row,
+                    layout::row(n, b),
+                    layout::returns_row(n),
+                    layout::row_words(n),
+                );
+                return;
+            }
+        }
+    }
+    gather_lines(file, h, work, c);
+}
+
+// The statements in the row of entered statements go to k.
+fn note_members(work: &mut [u64], n: usize, k: StmtId)
+    requires { ⌜ Area (now work) n × (k .0 < n) ⌝ }
+    ensures { λ _. ⌜ Gains (now (work .entry)) (now (work .exit)) n (queueAt n) (isEntered (now (work .entry)) n) (k .0) ⌝ }
 {
     let row = layout::entered_row(n);
     let mut r = words::next(work, row, 0, n);
     while r < n {
-        note_return(file, work, n, StmtId(r), k);
+        words::insert(work, layout::row(n, StmtId(r)), k.0);
         r = words::next(work, row, r + 1, n);
     }
 }
 
 // The RETURNs on the walks of the bodies that the call c enters go to k.
 fn note_bodies(file: &[u8], h: flow::Header, work: &mut [u64], c: StmtId, k: StmtId)
-    requires { ⌜ Indexed (now file) h (now work) × (c .0 < h .statements) × (k .0 < h .statements) × BodyRows (flowOf (now file)) (now work) (h .statements) (c .0) ⌝ }
+    requires { ⌜ Indexed (now file) h (now work) × (c .0 < h .statements) × (k .0 < h .statements) × BodyRows (flowOf (now file)) (now work) (h .statements) (c .0) × ReturnSet (flowOf (now file)) (now work) (h .statements) ⌝ }
     ensures { λ _. ⌜ Joins (flowOf (now (file .entry))) (now (work .entry)) (now (work .exit)) (h .statements) (solverAt (h .statements)) (fromBodies (flowOf (now (file .entry))) (entered (flowOf (now (file .entry))) (c .0)) (k .0)) ⌝ }
 {
     let n = h.statements;
-    let row = layout::entered_row(n);
-    rows::zero_row(work, n, row);
-    rows::add_lines(file, h, work, row, c, true);
-    note_members(file, work, n, k);
+    gather(file, h, work, c);
+    note_members(work, n, k);
 }
 
 // Statement c, if it is an opaque call with a continuation.
 fn note_call(file: &[u8], h: flow::Header, work: &mut [u64], c: StmtId)
-    requires { ⌜ Indexed (now file) h (now work) × (c .0 < h .statements) × Summary (flowOf (now file)) (now work) (h .statements) (c .0) ⌝ }
+    requires { ⌜ Indexed (now file) h (now work) × (c .0 < h .statements) × Summary (flowOf (now file)) (now work) (h .statements) (c .0) × ReturnSet (flowOf (now file)) (now work) (h .statements) ⌝ }
     ensures { λ _. ⌜ Joins (flowOf (now (file .entry))) (now (work .entry)) (now (work .exit)) (h .statements) (solverAt (h .statements)) (λ r k. returnsTo (flowOf (now (file .entry))) r k (c .0)) ⌝ }
 {
     let n = h.statements;
@@ -65,17 +115,19 @@ fn note_call(file: &[u8], h: flow::Header, work: &mut [u64], c: StmtId)
 }
 
 // Notes what the edges are made from: first where each RETURN goes, then, since no walk is needed any more, in the row of each call that is not
-// opaque the statements that it enters.
+// opaque the statements that it enters, and which RETURNs go to the same continuations.
 pub fn note_edges(file: &[u8], h: flow::Header, work: &mut [u64])
     requires { ⌜ Indexed (now file) h (now work) × Summarized (flowOf (now file)) (now work) (h .statements) ⌝ }
     ensures { λ _. ⌜ Linked (flowOf (now (file .entry))) (now (work .exit)) (h .statements) ⌝ }
-    ensures { λ _. ⌜ Keeps (matrixAt (h .statements)) (solverAt (h .statements)) (now (work .entry)) (now (work .exit)) ⌝ }
+    ensures { λ _. ⌜ Keeps (bodiesAt (h .statements)) (returnsRowAt (h .statements) + rowWords (h .statements)) (now (work .entry)) (now (work .exit)) ⌝ }
 {
     let n = h.statements;
+    note_returns(file, work, n);
     let mut c = 0;
     while c < n {
         note_call(file, h, work, StmtId(c));
         c += 1;
     }
     rows::note_rows(file, h, work);
+    leaders::note_leaders(file, work, n);
 }

@@ -3,7 +3,7 @@
 use Prim.Native.Nat.{ℕ, _*_, _≤_, _<_}
 use mathlib.Core.Bool.{Bool, true, false, cond}
 use mathlib.Core.List.{List, [], _∷_, _++_}
-use mathlib.Core.Path.{_≡_, refl, sym, ap, subst, _∙_}
+use mathlib.Core.Path.{_≡_, refl, sym, ap, ap₂, subst, _∙_}
 use native.Mathlib.Decide.{decLt}
 use native.Mathlib.Omega.{arith}
 use borrow.Author.Tests.{lt-ltb, le-ltb, eqb-true}
@@ -20,6 +20,7 @@ use Rattle.theory.specs.Queue.{stepAll}
 use Rattle.theory.specs.contracts.WellFormed.{WellFormed}
 use Rattle.theory.proofs.Lists.{clash, not-so, elem-In, any-find, and-both}
 use Rattle.statements.specs.contracts.Ready.{Keeps}
+use Rattle.statements.proofs.Keeps.{keeps-refl}
 use Rattle.solve.specs.contracts.Layout.{setRow, outRow, backRow, maskRowAt}
 use Rattle.solve.specs.contracts.Rows.{stepWhere}
 use Rattle.solve.specs.contracts.Pushed.{masksAt}
@@ -121,7 +122,7 @@ module _ {f : Flow} (wf : WellFormed f) (n w d i : ℕ) (below : d < 2 * n) {ws 
   around : length vs ≡ length ws → ((x : ℕ) → (setRow n ≤ x → x < maskRowAt n w 0 → ⊥) → getD vs x 0 ≡ getD ws x 0) → Keeps (setRow n) (maskRowAt n w 0) ws vs
   around size h = record { size = size; below = λ x l. h x (λ a b. omega arith); above = λ x l. h x (λ a b. omega arith) }
 
-  pub acts-plain : resets (kind f i) ≡ false → items (kind f i) ≡ [] → RowSteps ws vs w (setRow n) (outRow n w) (maskRowAt n w d) (λ a. elem a (references f i)) Reference → Acted f ws vs n w d i
+  pub acts-plain : resets (kind f i) ≡ false → items (kind f i) ≡ [] → RowSteps ws vs w (setRow n) (outRow n w) (maskRowAt n w d) (λ a. elem a (references f i)) Reference → Acted f ws vs n w d i (outRow n w)
   unfolding any stepWhere
   acts-plain e none x =
       let first = row-first n w in
@@ -132,7 +133,7 @@ module _ {f : Flow} (wf : WellFormed f) (n w d i : ℕ) (below : d < 2 * n) {ws 
             ∙ acted-stays wf i (masksAt ws n w d) a e;
       }
 
-  pub acts-resets : {count : ℕ} → count ≡ f .arrays → resets (kind f i) ≡ true → RowSteps ws vs w (setRow n) (outRow n w) (maskRowAt n w d) (λ a. ltb a count) Reset → Acted f ws vs n w d i
+  pub acts-resets : {count : ℕ} → count ≡ f .arrays → resets (kind f i) ≡ true → RowSteps ws vs w (setRow n) (outRow n w) (maskRowAt n w d) (λ a. ltb a count) Reset → Acted f ws vs n w d i (outRow n w)
   unfolding stepWhere
   acts-resets {count} all e x =
       let first = row-first n w in
@@ -146,7 +147,7 @@ module _ {f : Flow} (wf : WellFormed f) (n w d i : ℕ) (below : d < 2 * n) {ws 
 
   pub acts-dims : {us : List ℕ} → resets (kind f i) ≡ false
       → RowSteps ws us w (setRow n) (backRow n w) (maskRowAt n w d) (λ a. elem a (references f i)) Reference
-      → RowSteps us vs w (setRow n) (outRow n w) (backRow n w) (λ a. any (dims a) (items (kind f i))) Dim → Acted f ws vs n w d i
+      → RowSteps us vs w (setRow n) (outRow n w) (backRow n w) (λ a. any (dims a) (items (kind f i))) Dim → Acted f ws vs n w d i (outRow n w)
   unfolding stepWhere
   acts-dims {us} e x y =
       let first = row-first n w in
@@ -157,3 +158,13 @@ module _ {f : Flow} (wf : WellFormed f) (n w d i : ℕ) (below : d < 2 * n) {ws 
             ∙ ap (λ (m : ℕ). cond (any (dims a) (items (kind f i))) (stepOf Dim m) m) (x .masks a l)
             ∙ acted-stays wf i (masksAt ws n w d) a e;
       }
+
+-- a statement that does nothing to masks: the number's own row serves
+pub acts-not : {f : Flow} → WellFormed f → (n w d i : ℕ) {ws : List ℕ} → resets (kind f i) ≡ false → items (kind f i) ≡ [] → references f i ≡ [] → Acted f ws ws n w d i (maskRowAt n w d)
+unfolding any elem stepWhere
+acts-not {f} wf n w d i {ws} e none refs = record {
+  keeps = keeps-refl;
+  masks = λ a l.
+      sym (ap₂ (λ (its : List Item) (rs : List ℕ). stepWhere (λ b. any (dims b) its) Dim (stepWhere (λ b. elem b rs) Reference (masksAt ws n w d)) a) none refs)
+      ∙ acted-stays wf i (masksAt ws n w d) a e;
+}

@@ -22,7 +22,7 @@ use Rattle.statements.specs.contracts.Ready.{MembersWord}
 use Rattle.calls.specs.contracts.Slots.{toArc}
 use Rattle.solve.specs.contracts.Rows.{maskAt, stepWhere, member}
 use Rattle.dataflow.specs.contracts.Transfer.{acted}
-use Rattle.dataflow.specs.contracts.Sent.{edgeRow, carried, masksBelow}
+use Rattle.dataflow.specs.contracts.Sent.{carried, masksBelow}
 use Rattle.dataflow.proofs.Unions.{cond-zero}
 use Rattle.dataflow.proofs.Acted.{stepAll-append, stepAll-if}
 
@@ -72,11 +72,11 @@ back-row f ws i count set m row x a l is e touched = at (ltb a count) is
         ∙ stepAll-if (callTouches f i a) Touched (stepAll (statementEffects f i a) (m a)))
     at false q = ap (λ (v : ℕ). cond (eqb (bits.has ws set a) 1) (stepOf Touched v) v) q ∙ sym (cond-zero (eqb (bits.has ws set a) 1))
 
-module _ (f : Flow) (ws : List ℕ) (n w i : ℕ) (m : ℕ → ℕ) (t : ℕ) where
+module _ (f : Flow) (ws : List ℕ) (w : ℕ) (from : Bool → ℕ) (i : ℕ) (m : ℕ → ℕ) (t : ℕ) where
   -- what the edges carry is what they bring of the masks
   pub carried-brings : (es : List Edge)
-      → ((x : Edge) → In x es → (a : ℕ) → a < 64 * w → maskAt ws w (edgeRow n w (x .continues)) a ≡ masksBelow (f .arrays) (λ b. stepAll (edgeEffects f i x b) (m b)) a)
-      → (a : ℕ) → a < 64 * w → carried f ws n w es t a ≡ masksBelow (f .arrays) (λ b. brings t b (m b) (map (toArc f i) es)) a
+      → ((x : Edge) → In x es → (a : ℕ) → a < 64 * w → maskAt ws w (from (x .continues)) a ≡ masksBelow (f .arrays) (λ b. stepAll (edgeEffects f i x b) (m b)) a)
+      → (a : ℕ) → a < 64 * w → carried f ws w from es t a ≡ masksBelow (f .arrays) (λ b. brings t b (m b) (map (toArc f i) es)) a
   unfolding carried brings masksBelow
   carried-brings [] h a l = cond-zero (ltb a (f .arrays))
   carried-brings (x ∷ xs) h a l =

@@ -1,18 +1,20 @@
 -- What the solver leaves alone: the calls' summaries and the rows of the RETURNs and of the calls lie outside the words that it writes.
 -- By the layout of the work area.
-use Prim.Native.Nat.{ℕ, _+_, _<_, _≤_}
+use Prim.Native.Nat.{ℕ, _+_, _/_, _<_, _≤_}
 use mathlib.Core.List.{List}
-use mathlib.Core.Path.{_≡_, sym, _∙_}
+use mathlib.Core.Path.{_≡_, sym, ap, subst, _∙_}
 use native.Mathlib.Omega.{arith}
-use lib.ListN.{getD}
+use lib.ListN.{length, getD}
 use Rattle.words.specs.contracts.Row.{has}
 use Rattle.flow.specs.declared.Header.{Header}
-use Rattle.flow.specs.Flow.{Flow}
-use Rattle.statements.specs.contracts.Layout.{callsAt, rowAt, queueAt}
-use Rattle.statements.specs.contracts.Ready.{Indexed, Keeps}
+use Rattle.flow.specs.Flow.{Flow, size}
+use Rattle.statements.specs.contracts.Layout.{callsAt, bodiesAt, rowAt, queueAt}
+use Rattle.statements.specs.contracts.Ready.{Ready, Indexed, Keeps}
 use Rattle.statements.proofs.WorkArea.{row-from, row-fits, member-word}
-use Rattle.statements.proofs.Keeps.{keeps-has, indexed-keeps}
-use Rattle.calls.specs.contracts.Held.{Linked}
+use Rattle.statements.proofs.Keeps.{keeps-has, ready-keeps, indexed-keeps}
+use Rattle.calls.specs.declared.edges.Call.{Call}
+use Rattle.calls.specs.contracts.Class.{CallOf}
+use Rattle.calls.specs.contracts.Held.{Leads, Linked}
 use Rattle.calls.proofs.Gathered.{summaries-kept}
 
 -- the words from the queue on are the solver's
@@ -32,4 +34,23 @@ module _ {ws vs : List ℕ} {n hi : ℕ} (k : Keeps (queueAt n) hi ws vs) where
         calls = summaries-kept (omega arith) k (x .calls);
         bodies = λ c j l m e. row c j l m ∙ x .bodies c j l m (sym (call c l) ∙ e);
         returns = λ r j l m e. row r j l m ∙ x .returns r j l m e;
+        leaders = λ r l e.
+            let y = x .leaders r l e in
+            subst (λ (z : ℕ). Leads vs n r z) (sym (k .below (bodiesAt n + r) (omega arith)))
+            (record { below = y .below; same = λ j m. row (getD ws (bodiesAt n + r) 0) j (y .below) m ∙ y .same j m ∙ sym (row r j l m) });
       }
+
+  pub ready-stays : {s : List ℕ} → Ready s ws n → Ready s vs n
+  ready-stays r = let above = queue-above n in ready-keeps r k (omega arith)
+
+  pub call-stays : {f : Flow} {i : ℕ} {x : Call} → size f ≡ n → i < n → CallOf f ws i x → CallOf f vs i x
+  call-stays {f} {i} {x} z l c = record {
+    continues = c .continues;
+    lines = c .lines;
+    successors = c .successors;
+    place = c .place;
+    room = subst (λ (m : ℕ). x .row + (size f + 63) / 64 ≤ m) (sym (k .size)) (c .room);
+    entered = λ j m.
+        keeps-has k (x .row) j (λ p q. let at : x .row ≡ rowAt n i = c .place ∙ ap (λ (m : ℕ). rowAt m i) z in let fits = row-fits n l in let word = member-word (subst (λ (m : ℕ). j < m) z m) in omega arith)
+        ∙ c .entered j m;
+  }

@@ -4,12 +4,15 @@ pub mod Unions
 pub mod Kept
 pub mod Sending
 pub mod EdgeRows
+pub mod Sharing
 pub mod Sends
 pub mod Visiting
 pub mod Few
 pub mod Running
 pub mod NotedRows
 pub mod MaskBytes
+pub mod Members
+pub mod Covered
 pub mod Phases
 pub mod Promised
 pub mod Told

@@ -1,9 +1,9 @@
 -- From sets of arrays to bytes: eight bits spread to the bytes of a word, a test that antt computes at the 256 values of the bits; the masks that three such words
--- sum up to; and the masks of a word of each set, joined over two rows, or from some array on. Assumes nothing.
-use Prim.Native.Nat.{ℕ, zero, suc, _+_, _*_, _/_, _^_, _<_, _≤_, max}
+-- sum up to; and the masks of a word of each set, joined over two rows, or from some array on; the same sets make the same masks. Assumes nothing.
+use Prim.Native.Nat.{ℕ, zero, suc, _+_, _*_, _/_, _%_, _^_, _<_, _≤_, max}
 use native.Mathlib.Omega.{arith}
 use mathlib.Core.List.{List}
-use mathlib.Core.Path.{_≡_, refl, sym, ap₂, _∙_}
+use mathlib.Core.Path.{_≡_, refl, sym, ap, ap₂, _∙_}
 use lib.Bits.{bitAnd, bitOr}
 use lib.Dec.{eqb, eqb→eq}
 use lib.ListN.{getD}
@@ -13,8 +13,9 @@ use Rattle.words.proofs.Bit.{bit-lt, bit-or, bit-shr}
 use Rattle.words.proofs.Row.{has-lt, has-word}
 use Rattle.masks.proofs.Finite.{at-below}
 use Rattle.masks.proofs.Sets.{mask-or}
+use Rattle.solve.specs.contracts.Layout.{maskRowAt}
 use Rattle.solve.specs.contracts.Rows.{maskAt}
-use Rattle.dataflow.specs.contracts.Bytes.{maskIn, joinedWord, joinedMask}
+use Rattle.dataflow.specs.contracts.Bytes.{maskIn, joinedWord, joinedMask, bothWords, bothCopies, SameSets}
 
 -- what `spread` computes
 abbrev pub spread : ℕ → ℕ
@@ -58,6 +59,22 @@ joined-mask ws w x y k j l =
         ap₂ (λ (c d : ℕ). bit (bitOr (getD ws c 0) (getD ws d 0)) j) (sym p) (sym q)
         ∙ bit-or (getD ws (u + k) 0) (getD ws (v + k) 0) j
         ∙ sym (ap₂ max (has-word ws u k j l) (has-word ws v k j l))
+
+-- in the rows of a statement
+module _ (ws : List ℕ) (n w : ℕ) where
+  pub both-masks : (i k j : ℕ) → j < 64 → maskIn (bothWords ws n w i k) (bothWords ws n w i (w + k)) (bothWords ws n w i (2 * w + k)) j ≡ bothCopies ws n w i (64 * k + j)
+  unfolding bothWords bothCopies
+  both-masks i k j l = joined-mask ws w (maskRowAt n w i) (maskRowAt n w (n + i)) k j l
+
+  -- the same sets make the same masks
+  pub same-masks : (i j a : ℕ) → SameSets ws n w i j → a < 64 * w → bothCopies ws n w i a ≡ bothCopies ws n w j a
+  same-masks i j a same l =
+      let k = a / 64 in
+      let whole : a ≡ 64 * k + a % 64 = omega arith in
+      ap (bothCopies ws n w i) whole
+      ∙ sym (both-masks i k (a % 64) (omega arith))
+      ∙ rw (same k (omega arith), same (w + k) (omega arith), same (2 * w + k) (omega arith)) (both-masks j k (a % 64) (omega arith))
+      ∙ ap (bothCopies ws n w j) (sym whole)
 
 -- the masks of a word of each set from array s on
 pub mask-shr : (none auto dimmed s j : ℕ) → maskIn (none / 2 ^ s) (auto / 2 ^ s) (dimmed / 2 ^ s) j ≡ maskIn none auto dimmed (s + j)

@@ -22,6 +22,13 @@ noted-on ws base k (suc m) f g same =
     ∙ ap₂ (λ (x v : ℕ). set (noted ws base (k + m) f) x v) place (same m (omega arith))
     ∙ ap (λ (x : ℕ). noted ws base x f) (sym (add-suc k m))
 
+-- what is noted is told by the first m values
+pub noted-same : (ws : List ℕ) (base m : ℕ) (f g : ℕ → ℕ) → ((j : ℕ) → j < m → g j ≡ f j) → noted ws base m g ≡ noted ws base m f
+unfolding noted
+noted-same ws base zero f g same = refl
+noted-same ws base (suc m) f g same =
+    ap₂ (λ (l : List ℕ) (v : ℕ). set l (base + m) v) (noted-same ws base m f g (λ j l. same j (omega arith))) (same m (omega arith))
+
 module _ (ws : List ℕ) (w : ℕ) (f : ℕ → ℕ → ℕ) where
   pub length-rows : (k : ℕ) → length (notedRows ws w f k) ≡ length ws
   unfolding notedRows

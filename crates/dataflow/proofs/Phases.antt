@@ -19,7 +19,7 @@ use Rattle.records.proofs.Noting.{noted-other}
 use Rattle.records.proofs.Statements.{size-is}
 use Rattle.theory.specs.Masks.{maskLeft}
 use Rattle.theory.specs.Live.{liveInWord, liveOutWord}
-use Rattle.statements.specs.contracts.Layout.{callsAt, matrixAt, queueAt, enteredRowAt, solverAt, setWords}
+use Rattle.statements.specs.contracts.Layout.{rowWords, callsAt, bodiesAt, matrixAt, queueAt, enteredRowAt, returnsRowAt, setWords}
 use Rattle.statements.specs.contracts.Ready.{Ready, Indexed, Keeps}
 use Rattle.statements.proofs.Noted.{ready-noted}
 use Rattle.statements.proofs.Keeps.{keeps-zeroed, ready-keeps, ready-room, indexed-keeps}
@@ -62,31 +62,45 @@ module _ {s : List ℕ} {h : Header} where
       zero = λ x l b. k .above x l ∙ ap (λ v. getD v x 0) e ∙ past x (omega (arith, area.row-from (h .statements) (h .statements))) b;
     }
 
--- with the words of the queue and of the row of entered statements zeroed, the forward solver can begin
+-- where the words end that finding the edges uses
+
+abbrev pub usedEnd : ℕ → ℕ
+usedEnd n = returnsRowAt n + rowWords n
+
+pub used-room : {s ws : List ℕ} {n : ℕ} → Ready s ws n → 0 < n → usedEnd n ≤ length ws
+used-room {n = n} r p = omega (arith, ready-room r p, area.row-words-le n)
+
+-- with the words of the queue and of the rows of entered statements and of RETURNs zeroed, the forward solver can begin
 pub linked : {s : List ℕ} {h : Header} {ws vs us : List ℕ} → SummariesMade s h ws → 0 < h .statements
-    → Linked (flowOf s) vs (h .statements) → Keeps (matrixAt (h .statements)) (solverAt (h .statements)) ws vs
-    → us ≡ zeroed vs (queueAt (h .statements)) (solverAt (h .statements) - queueAt (h .statements)) → SolverStart s h us
+    → Linked (flowOf s) vs (h .statements) → Keeps (bodiesAt (h .statements)) (usedEnd (h .statements)) ws vs
+    → us ≡ zeroed vs (queueAt (h .statements)) (usedEnd (h .statements) - queueAt (h .statements)) → SolverStart s h us
 linked {s} {h} {ws} {vs} {us} begun some l k c =
     subst (SolverStart s h) (sym c)
     (record {
       indexed = indexed-stays resets indexed′;
       linked = linked-stays resets l;
       some = some;
-      zero = λ x a b. zeros x a b (decLt x (solverAt (h .statements)));
+      zero = λ x a b. zeros x a b (decLt x end);
     })
   where
+    queue : ℕ
+    queue = queueAt (h .statements)
+
+    end : ℕ
+    end = usedEnd (h .statements)
+
     indexed′ : Indexed s h vs
     indexed′ = indexed-keeps (begun .indexed) k (omega arith)
 
-    resets : Keeps (queueAt (h .statements)) (solverAt (h .statements)) vs (zeroed vs (queueAt (h .statements)) (solverAt (h .statements) - queueAt (h .statements)))
-    resets = keeps-zeroed vs (queueAt (h .statements)) (solverAt (h .statements) - queueAt (h .statements)) (omega arith) (omega arith)
+    resets : Keeps queue end vs (zeroed vs queue (end - queue))
+    resets = keeps-zeroed vs queue (end - queue) (omega arith) (omega arith)
 
-    zeros : (x : ℕ) → queueAt (h .statements) ≤ x → x < areaEnd (h .statements) (setWords (h .arrays)) → Dec (x < solverAt (h .statements)) → getD (zeroed vs (queueAt (h .statements)) (solverAt (h .statements) - queueAt (h .statements))) x 0 ≡ 0
+    zeros : (x : ℕ) → queue ≤ x → x < areaEnd (h .statements) (setWords (h .arrays)) → Dec (x < end) → getD (zeroed vs queue (end - queue)) x 0 ≡ 0
     zeros x a b (yes m) =
-        subst (λ y. getD (zeroed vs (queueAt (h .statements)) (solverAt (h .statements) - queueAt (h .statements))) y 0 ≡ 0) (omega arith)
-        (zeroed-word vs (queueAt (h .statements)) (solverAt (h .statements) - queueAt (h .statements)) (omega (arith, ready-room (indexed′ .ready) some)) (x - queueAt (h .statements)) (omega arith))
+        subst (λ y. getD (zeroed vs queue (end - queue)) y 0 ≡ 0) (omega arith)
+        (zeroed-word vs queue (end - queue) (omega (arith, used-room (indexed′ .ready) some)) (x - queue) (omega arith))
     zeros x a b (no m) =
-        zeroed-other vs (queueAt (h .statements)) (solverAt (h .statements) - queueAt (h .statements)) x (λ j y z. m (omega arith)) ∙ k .above x (omega (arith, m)) ∙ begun .zero x (omega (arith, m)) b
+        zeroed-other vs queue (end - queue) x (λ j y z. m (omega arith)) ∙ k .above x (omega (arith, m)) ∙ begun .zero x (omega (arith, m)) b
 
 -- the rows of the two copies are the masks of the statement
 pub masked : {s : List ℕ} {h : Header} {ws vs masks masks′ : List ℕ} {visits : ℕ} → SolverStart s h ws

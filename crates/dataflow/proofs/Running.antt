@@ -1,6 +1,6 @@
 -- The solver goes through the states of the queue rule: it starts at the rule's first, each visit leads to the next, and where nothing waits it has come
 -- to what the rule leaves. A number's masks are then what a visit would pull.
-use Prim.Native.Nat.{ℕ, _+_, _*_, _/_, _<_, _≤_}
+use Prim.Native.Nat.{ℕ, _+_, _*_, _/_, _%_, _<_, _≤_}
 use mathlib.Core.Bool.{Bool, false, cond}
 use mathlib.Core.List.{List, [], _∷_}
 use mathlib.Core.Path.{_≡_, refl, sym, ap, ap₂, subst, _∙_}
@@ -8,9 +8,9 @@ use native.Mathlib.Decide.{decLt, ℕ-discrete}
 use native.Mathlib.Nat.{zero-add}
 use native.Mathlib.Omega.{arith}
 use borrow.Author.Tests.{eq-eqb, ne-eqb}
+use lib.Bits.{bitOr, or-zero-r}
 use lib.Dec.{eqb, ltb}
 use lib.ListN.{length, getD}
-use Rattle.words.specs.contracts.Row.{has}
 use Rattle.masks.specs.declared.Effect.the-variants.{Reset}
 use Rattle.flow.specs.Flow.{Flow, size}
 use Rattle.theory.specs.Lists.{elem}
@@ -22,19 +22,19 @@ use Rattle.theory.proofs.Terms.{doubled-well-formed}
 use Rattle.theory.proofs.Ends.{course-keeps, course-bound, potential}
 use Rattle.theory.proofs.Exact.{pulled-held}
 use Rattle.theory.proofs.Push.{pulled-first}
-use Rattle.statements.specs.contracts.Layout.{queueAt}
+use Rattle.statements.specs.contracts.Layout.{bodiesAt, queueAt}
 use Rattle.statements.specs.contracts.Ready.{Keeps}
 use Rattle.statements.proofs.Keeps.{keeps-refl, keeps-trans, keeps-widen}
 use Rattle.statements.proofs.Members.{zero-has}
+use Rattle.calls.specs.contracts.Held.{Linked}
 use Rattle.solve.specs.declared.Queue.{Queue}
-use Rattle.solve.specs.contracts.Layout.{visitedAt, setRow, outRow, backRow, maskRowAt, areaEnd}
+use Rattle.solve.specs.contracts.Layout.{setRow, outRow, maskRowAt, stateAt, settledIn, sentRowAt, areaEnd}
 use Rattle.solve.specs.contracts.Rows.{maskAt, stepWhere}
 use Rattle.solve.specs.contracts.Waiting.{Waits, Enqueued}
 use Rattle.solve.specs.contracts.Pushed.{masksAt}
-use Rattle.solve.proofs.Room.{rows-apart, row-from, row-fits}
+use Rattle.solve.proofs.Room.{rows-apart, row-from, row-fits, nodes-within, not-state, sent-from, sent-apart}
 use Rattle.solve.proofs.Masks.{mask-cong}
 use Rattle.solve.proofs.Waiting.{rest-keeps, waits-none}
-use Rattle.solve.proofs.Growing.{masks-kept}
 use Rattle.dataflow.specs.contracts.Transfer.{RowSteps}
 use Rattle.dataflow.specs.contracts.Sent.{masksBelow}
 use Rattle.dataflow.specs.contracts.Solving.{Underway, VisitsFront, Unused, RuleResult}
@@ -74,29 +74,43 @@ module _ (f : Flow) (n w : ℕ) (ws us : List ℕ) (entry count : ℕ) (sized : 
   low : (x : ℕ) → x < setRow n → getD us x 0 ≡ getD ws x 0
   low x l = entered .elsewhere x (λ a b. omega arith) (λ a b. let least = row-from n w entry in omega arith)
 
-  pub first-waits : Waits us n nothing []
-  first-waits = let least = row-from n w (2 * n) in waits-none some (λ x l h. low x (omega arith) ∙ unused x (omega arith) (omega arith))
+  -- the numbers have no state yet
+  no-state : (d : ℕ) → d < 2 * n → getD us (stateAt n w d) 0 ≡ 0
+  no-state d l =
+      let least = row-from n w d in
+      let fits = row-fits n w l in
+      let end = nodes-within n w in
+      entered .elsewhere (stateAt n w d) (λ a b. omega arith) (λ a b. apart a b (decLt d entry) (decLt entry d)) ∙ unused (stateAt n w d) (omega arith) (omega arith)
+    where
+      apart : maskRowAt n w entry ≤ stateAt n w d → stateAt n w d < maskRowAt n w entry + 3 * w → Dec (d < entry) → Dec (entry < d) → ⊥
+      apart a b (yes h) c = let far = rows-apart n w h in omega arith
+      apart a b (no h) (yes c) = let far = rows-apart n w c in omega arith
+      apart a b (no h) (no c) = let same : d ≡ entry = omega (arith, h, c) in let here : maskRowAt n w d ≡ maskRowAt n w entry = rw same in omega arith
 
-  module _ (vs : List ℕ) (r : Queue) (q : Enqueued us vs n nothing entry r) where
-    not-visited : (d : ℕ) → d < 2 * n → has vs (visitedAt n) d ≡ 0
-    not-visited d l =
-        let least = row-from n w (2 * n) in
-        zero-has vs (visitedAt n) d
-        (q .kept .above (visitedAt n + d / 64) (omega arith) ∙ low (visitedAt n + d / 64) (omega arith) ∙ unused (visitedAt n + d / 64) (omega arith) (omega arith))
+  pub first-waits : Waits us n w nothing []
+  first-waits = waits-none some (λ d l. ap (λ z. z % 2) (no-state d l))
+
+  module _ (vs : List ℕ) (r : Queue) (q : Enqueued us vs n w nothing entry r) where
+    -- joining the queue writes no word of a number before its state
+    kept-word : (d x : ℕ) → maskRowAt n w d ≤ x → x < stateAt n w d → getD vs x 0 ≡ getD us x 0
+    kept-word d x lo hi = q .kept .above x (let least = row-from n w d in omega arith) (λ c m. not-state n w d x lo hi c)
+
+    not-settled : (d : ℕ) → d < 2 * n → settledIn vs n w d ≡ 0
+    not-settled d l = q .kept .settled d l ∙ ap (λ z. z / 2) (no-state d l)
 
     entry-is : g .entry ≡ entry
     unfolding doubled
     entry-is = zero-add (f .entry) ∙ sym first
 
-    waits : Waits vs n r (initial g .waiting)
+    waits : Waits vs n w r (initial g .waiting)
     unfolding initial doubled elem
     waits =
-        subst (λ (l : List ℕ). Waits vs n r l)
+        subst (λ (l : List ℕ). Waits vs n w r l)
         (ap (λ (e : ℕ). e ∷ []) (sym entry-is) ∙ sym (ap (λ (b : Bool). cond b [] (g .entry ∷ [])) (ne-eqb (size f + size f) 0 (λ e. omega arith))))
         (q .waits [] first-waits)
 
     same-masks : (d a : ℕ) → d < 2 * n → a < 64 * w → masksAt vs n w d a ≡ masksAt us n w d a
-    same-masks = masks-kept us vs n w (λ x l h. q .kept .above x (let least = row-from n w 0 in omega arith))
+    same-masks d a l m = mask-cong us vs w (maskRowAt n w d) a m (λ x lo hi. kept-word d x lo (omega arith))
 
     -- at the entry every array below the count is NONE, and elsewhere nothing is
     first-mask : (d a : ℕ) → masksBelow (f .arrays) (pulled g (initial g) d) a ≡ cond (ltb a count) (cond (eqb d entry) 1 0) 0
@@ -113,28 +127,39 @@ module _ (f : Flow) (n w : ℕ) (ws us : List ℕ) (entry count : ℕ) (sized : 
         at (yes e) =
             ap (λ (y : ℕ). masksAt us n w y a) e ∙ entered .masks a m
             ∙ ap₂ (λ (v k : ℕ). cond (ltb a count) v k) (sym (ap (λ (b : Bool). cond b 1 0) (eq-eqb d entry e)))
-            (zero-mask ws w (outRow n w) a m (λ x lo hi. let least = row-from n w (2 * n) in unused x (omega arith) (omega arith)))
+            (zero-mask ws w (outRow n w) a m (λ x lo hi. let least = row-from n w (2 * n) in let end = nodes-within n w in unused x (omega arith) (omega arith)))
         at (no e) =
             mask-cong ws us w (maskRowAt n w d) a m (λ x lo hi. entered .elsewhere x (λ c b. let least = row-from n w d in omega arith) (λ c b. apart x lo hi c b (decLt d entry)))
-            ∙ zero-mask ws w (maskRowAt n w d) a m (λ x lo hi. let least = row-from n w d in let fits = row-fits n w l in unused x (omega arith) (omega arith))
+            ∙ zero-mask ws w (maskRowAt n w d) a m (λ x lo hi. let least = row-from n w d in let fits = row-fits n w l in let end = nodes-within n w in unused x (omega arith) (omega arith))
             ∙ cond-zero (ltb a count) ∙ ap (λ (v : ℕ). cond (ltb a count) v 0) (sym (ap (λ (b : Bool). cond b 1 0) (ne-eqb d entry e)))
           where
             apart : (x : ℕ) → maskRowAt n w d ≤ x → x < maskRowAt n w d + 3 * w → maskRowAt n w entry ≤ x → x < maskRowAt n w entry + 3 * w → Dec (d < entry) → ⊥
             apart x lo hi c b (yes h) = let far = rows-apart n w h in omega arith
             apart x lo hi c b (no h) = let less : entry < d = omega (arith, h, e) in let far = rows-apart n w less in omega arith
 
-    pub starts : Running f n w vs vs r 0
+    -- nothing was sent
+    none-sent : (y a : ℕ) → y < n → a < 64 * w → maskAt vs w (sentRowAt n w y) a ≡ 0
+    none-sent y a l m =
+        let far = sent-from n w y in
+        let least = row-from n w (2 * n) in
+        let fits = row-fits n w {d = entry} (omega arith) in
+        let end = sent-apart n w l in
+        zero-mask vs w (sentRowAt n w y) a m (λ x lo hi.
+        q .kept .above x (omega arith) (λ c b z. let fit = row-fits n w b in omega arith)
+        ∙ entered .elsewhere x (λ c b. omega arith) (λ c b. omega arith) ∙ unused x (omega arith) (omega arith))
+
+    pub starts : Linked f vs n → Running f n w vs vs r 0
     unfolding initial
-    starts = record {
+    starts linked = record {
       underway = record {
         count = 0;
         state = initial g;
         course = begins;
         solving = record {
           waits = waits;
-          visited = not-visited;
           masks = masks;
-          grown = λ d l v. clash false v refl;
+          shared = record { held = λ s l is j a b e m. ap (bitOr (masksAt vs n w j a)) (none-sent (getD vs (bodiesAt n + s) 0) a (linked .leaders s l is .below) m) ∙ or-zero-r (masksAt vs n w j a) };
+          settled = not-settled;
         };
       };
       counted = refl;
@@ -145,6 +170,7 @@ module _ (f : Flow) (n w : ℕ) (ws us : List ℕ) (entry count : ℕ) (sized : 
     starts-keeps =
         let least = row-from n w entry in
         let fits = row-fits n w {d = entry} (omega arith) in
+        let end = nodes-within n w in
         keeps-trans
         (record {
           size = entered .size;

@@ -1,167 +1,228 @@
--- The edges of a number gone through one after the other: what is left to push, with what was pushed, is what there was to push.
--- A union taken edge by edge is the union of all; the rows of the edges are not written on the way.
+-- Edges gone through one after the other: what is sent along some and then along others is sent along all of them. A union taken edge by edge is the union of all,
+-- and the rows of the edges stay as they are on the way. A target that holds the row of its edge needs only to wait.
 use Prim.Native.Nat.{ℕ, _+_, _*_, _≤_, _<_}
 use mathlib.Core.Bool.{Bool, true, false, cond}
-use mathlib.Core.List.{List, [], map}
+use mathlib.Core.List.{List, [], _∷_, _++_, map, map-append, append-nil, append-assoc, List·Memᴰ·head, List·Memᴰ·tail}
+use mathlib.Core.Logic.{_≢_, _⊎_, inl, inr}
 use mathlib.Core.Path.{_≡_, refl, sym, ap, ap₂, subst, _∙_}
 use native.Mathlib.Decide.{ℕ-discrete}
 use native.Mathlib.Omega.{arith}
 use borrow.Author.Tests.{eq-eqb, ne-eqb}
 use lib.Bits.{bitOr, or-self, or-zero-r}
 use lib.Dec.{eqb}
-use lib.ListN.{getD, drop}
-use Rattle.words.specs.contracts.Row.{has}
-use Rattle.flow.specs.declared.NodeId.{NodeId}
+use Rattle.flow.specs.declared.Base.{Base}
+use Rattle.flow.specs.declared.Base.the-variants.{Zero, N}
 use Rattle.flow.specs.Flow.{Flow, size}
-use Rattle.theory.specs.Lists.{differ}
+use Rattle.theory.specs.Lists.{In, differ}
 use Rattle.theory.specs.Queue.{Arc, join, enqueue}
-use Rattle.theory.specs.Doubled.{Node, Edge, number}
-use Rattle.theory.specs.contracts.WellFormed.{WellFormed}
+use Rattle.theory.specs.Doubled.{Edge, at, number, numberIn}
 use Rattle.theory.proofs.Push.{differ-chain}
 use Rattle.statements.specs.contracts.Layout.{queueAt}
 use Rattle.statements.specs.contracts.Ready.{Keeps}
 use Rattle.statements.proofs.Keeps.{keeps-refl, keeps-trans}
-use Rattle.calls.specs.contracts.Slots.{slots, present, toArc}
-use Rattle.calls.proofs.Cursor.{NextEdge}
+use Rattle.calls.specs.contracts.Slots.{toArc}
 use Rattle.calls.proofs.Slots.{or-assoc}
-use Rattle.calls.proofs.Next.{next-below}
 use Rattle.solve.specs.declared.Queue.{Queue}
-use Rattle.solve.specs.contracts.Layout.{grownAt, setRow, outRow, backRow, maskRowAt, areaEnd}
+use Rattle.solve.specs.contracts.Layout.{setRow, outRow, backRow, maskRowAt, settledIn, nodesEnd}
 use Rattle.solve.specs.contracts.Rows.{maskAt}
-use Rattle.solve.specs.contracts.Waiting.{Waits}
-use Rattle.solve.specs.contracts.Pushed.{masksAt, Pushed}
+use Rattle.solve.specs.contracts.Waiting.{Waits, Enqueued}
+use Rattle.solve.specs.contracts.Pushed.{masksAt, Source, Pushed}
 use Rattle.solve.proofs.Room.{row-first}
 use Rattle.solve.proofs.Masks.{mask-cong, differ-as}
-use Rattle.dataflow.specs.contracts.Sent.{edgeRow, carried, GrownSet, SameVisited, Sent}
+use Rattle.solve.proofs.Waiting.{rest-refl, waits-again}
+use Rattle.solve.proofs.Growing.{pushed}
+use Rattle.dataflow.specs.contracts.Sent.{edgeRow, Sources, carried, SettledSet, Sent, Held}
 use Rattle.dataflow.proofs.Unions.{or-between, differ-self, cond-or}
 
--- the edges of v from a cursor on
-abbrev pub edgesFrom : Flow → Node → ℕ → List Edge
-edgesFrom f v cursor = present (drop cursor (slots f v))
+-- The rows that edges carry
 
-abbrev pub arcsFrom : Flow → Node → ℕ → List Arc
-arcsFrom f v cursor = map (toArc f (v .stmt)) (edgesFrom f v cursor)
+pub source-of : (n w : ℕ) (from : Bool → ℕ) → Sources n w from → (b : Bool) → Source n w (from b)
+source-of n w from (inl s) b = inl (s b)
+source-of n w from (inr s) b = inr (s .0, s .1, s .2 b)
 
--- the targets of the edges are numbers of the graph
-pub target-below : (v : Node) {f : Flow} {n cursor next : ℕ} {t : NodeId} {c : Bool} → WellFormed f → size f ≡ n → NextEdge f (slots f v) cursor t c next → t .0 < 2 * n
-target-below v {f} wf sized x = let below = next-below v x wf in omega arith
+-- a push leaves them as they are
+sources-stay : {ws vs : List ℕ} {n w t : ℕ} {queue r : Queue} (from : Bool → ℕ) (c : Bool) → Sources n w from → Pushed ws vs n w queue (from c) t r
+    → (b : Bool) (a : ℕ) → a < 64 * w → maskAt vs w (from b) a ≡ maskAt ws w (from b) a
+sources-stay {ws} {vs} {n} {w} from c (inl s) p b a l =
+    let here = s b in
+    mask-cong ws vs w (from b) a l (λ y lo hi. p .rows y (omega arith) (omega arith))
+sources-stay {ws} {vs} {n} {w} {t} from c (inr s) p b a l = at (ℕ-discrete (s .0) t)
+  where
+    own : (q : Bool) (us : List ℕ) → maskAt us w (from q) a ≡ masksAt us n w (s .0) a
+    own q us = ap (λ (x : ℕ). maskAt us w x a) (s .2 q)
 
-pub record Sending (f : Flow) (ws₀ : List ℕ) (n w : ℕ) (queue₀ : Queue) (v : Node) (ws : List ℕ) (queue : Queue) (cursor : ℕ) : Type 0 where
-  pub waits : (l₀ : List ℕ) → Waits ws₀ n queue₀ l₀ → (l : List ℕ) × Waits ws n queue l × (enqueue (arcsFrom f v cursor) l ≡ enqueue (arcsFrom f v 0) l₀)
-  pub masks : (t a : ℕ) → t < 2 * n → a < 64 * w
-      → bitOr (masksAt ws n w t a) (carried f ws₀ n w (edgesFrom f v cursor) t a) ≡ bitOr (masksAt ws₀ n w t a) (carried f ws₀ n w (edgesFrom f v 0) t a)
-  pub grows : (t a : ℕ) → t < 2 * n → a < 64 * w → bitOr (masksAt ws₀ n w t a) (masksAt ws n w t a) ≡ masksAt ws n w t a
-  pub rows : (x : ℕ) → setRow n ≤ x → x < maskRowAt n w 0 → getD ws x 0 ≡ getD ws₀ x 0
-  pub grown : GrownSet n w ws₀ ws
-  pub visited : SameVisited n ws₀ ws
-  pub keeps : Keeps (queueAt n) (areaEnd n w) ws₀ ws
+    at : Dec (s .0 ≡ t) → maskAt vs w (from b) a ≡ maskAt ws w (from b) a
+    at (yes e) =
+        own b vs ∙ ap (λ (x : ℕ). masksAt vs n w x a) e ∙ p .masks a l
+        ∙ ap₂ bitOr (ap (λ (x : ℕ). masksAt ws n w x a) (sym e)) (own c ws) ∙ or-self (masksAt ws n w (s .0) a) ∙ sym (own b ws)
+    at (no ne) = own b vs ∙ p .others (s .0) a (s .1) ne l ∙ sym (own b ws)
 
-pub sending-none : (f : Flow) (ws : List ℕ) (n w : ℕ) (queue : Queue) (v : Node) → Sending f ws n w queue v ws queue 0
-sending-none f ws n w queue v = record {
-  waits = λ l h. (l, h, refl);
-  masks = λ t a l m. refl;
-  grows = λ t a l m. or-self (masksAt ws n w t a);
-  rows = λ x l h. refl;
-  grown = λ t l. sym (ap (λ (b : Bool). cond b 1 (has ws (grownAt n) t)) (differ-self (64 * w) (masksAt ws n w t)));
-  visited = λ x l h. refl;
+-- Lists of edges
+
+pub enqueue-append : (xs ys : List Arc) (l : List ℕ) → enqueue (xs ++ ys) l ≡ enqueue ys (enqueue xs l)
+unfolding enqueue
+enqueue-append [] ys l = refl
+enqueue-append (x ∷ xs) ys l = enqueue-append xs ys (join l (x .to))
+
+module _ (f : Flow) (ws : List ℕ) (w : ℕ) (from : Bool → ℕ) (t a : ℕ) where
+  carried-append : (xs ys : List Edge) → carried f ws w from (xs ++ ys) t a ≡ bitOr (carried f ws w from xs t a) (carried f ws w from ys t a)
+  unfolding carried
+  carried-append [] ys = refl
+  carried-append (x ∷ xs) ys =
+      ap (bitOr (cond (eqb (number f (x .to)) t) (maskAt ws w (from (x .continues)) a) 0)) (carried-append xs ys)
+      ∙ sym (or-assoc (cond (eqb (number f (x .to)) t) (maskAt ws w (from (x .continues)) a) 0) (carried f ws w from xs t a) (carried f ws w from ys t a))
+
+  pub carried-same : (vs : List ℕ) → ((b : Bool) → maskAt vs w (from b) a ≡ maskAt ws w (from b) a) → (xs : List Edge) → carried f vs w from xs t a ≡ carried f ws w from xs t a
+  unfolding carried
+  carried-same vs h [] = refl
+  carried-same vs h (x ∷ xs) = ap₂ (λ (y z : ℕ). bitOr (cond (eqb (number f (x .to)) t) y 0) z) (h (x .continues)) (carried-same vs h xs)
+
+pub sent-none : {f : Flow} {ws : List ℕ} {n w i : ℕ} {from : Bool → ℕ} {queue : Queue} → Sent f ws ws n w from queue i [] queue
+unfolding carried enqueue
+sent-none {ws = ws} {n = n} {w = w} = record {
+  waits = λ l h. h;
+  masks = λ t a l m. sym (or-zero-r (masksAt ws n w t a));
+  settled = λ t l. sym (ap (λ (b : Bool). cond b 0 (settledIn ws n w t)) (differ-self (64 * w) (masksAt ws n w t)));
+  source = λ b a l. refl;
   keeps = keeps-refl;
 }
 
-module _ {f : Flow} {ws₀ : List ℕ} {n w : ℕ} {queue₀ : Queue} {v : Node} {ws vs : List ℕ} {queue r : Queue} {cursor next : ℕ} {t : NodeId} {c : Bool}
-    (s : Sending f ws₀ n w queue₀ v ws queue cursor) (x : NextEdge f (slots f v) cursor t c next) (below : t .0 < 2 * n) (p : Pushed ws vs n w queue (edgeRow n w c) (t .0) r) where
-  -- what this edge brings to u
-  abbrev one : ℕ → ℕ → ℕ
-  one u a = cond (eqb (number f (x .edge .to)) u) (maskAt ws₀ w (edgeRow n w (x .edge .continues)) a) 0
-
-  same-row : (b : Bool) (a : ℕ) → a < 64 * w → maskAt ws w (edgeRow n w b) a ≡ maskAt ws₀ w (edgeRow n w b) a
-  same-row true a m = mask-cong ws₀ ws w (backRow n w) a m (λ y lo hi. s .rows y (omega arith) (let first = row-first n w in omega arith))
-  same-row false a m = mask-cong ws₀ ws w (outRow n w) a m (λ y lo hi. s .rows y (omega arith) (let first = row-first n w in omega arith))
-
-  joined-mask : (u a : ℕ) → u < 2 * n → a < 64 * w → masksAt vs n w u a ≡ bitOr (masksAt ws n w u a) (one u a)
-  joined-mask u a b l = at (ℕ-discrete u (t .0))
-    where
-      at : Dec (u ≡ t .0) → masksAt vs n w u a ≡ bitOr (masksAt ws n w u a) (one u a)
-      at (yes e) =
-          ap (λ (y : ℕ). masksAt vs n w y a) e ∙ p .grown .masks a l
-          ∙ ap₂ bitOr (ap (λ (y : ℕ). masksAt ws n w y a) (sym e))
-          (ap (λ (q : Bool). maskAt ws w (edgeRow n w q) a) (x .step) ∙ same-row (x .edge .continues) a l
-          ∙ sym (ap (λ (q : Bool). cond q (maskAt ws₀ w (edgeRow n w (x .edge .continues)) a) 0) (eq-eqb (number f (x .edge .to)) u (sym (x .target) ∙ sym e))))
-      at (no ne) =
-          p .grown .others u a b ne l ∙ sym (or-zero-r (masksAt ws n w u a))
-          ∙ sym (ap (λ (q : Bool). bitOr (masksAt ws n w u a) (cond q (maskAt ws₀ w (edgeRow n w (x .edge .continues)) a) 0)) (ne-eqb (number f (x .edge .to)) u (λ e. ne (sym e ∙ sym (x .target)))))
-
-  carried-first : (u a : ℕ) → carried f ws₀ n w (edgesFrom f v cursor) u a ≡ bitOr (one u a) (carried f ws₀ n w (edgesFrom f v next) u a)
+-- one edge
+module _ (f : Flow) {ws vs : List ℕ} {n w : ℕ} {from : Bool → ℕ} {queue r : Queue} (x : Edge) (sources : Sources n w from) (p : Pushed ws vs n w queue (from (x .continues)) (number f (x .to)) r) where
+  one-mask : (t a : ℕ) → t < 2 * n → a < 64 * w → masksAt vs n w t a ≡ bitOr (masksAt ws n w t a) (carried f ws w from (x ∷ []) t a)
   unfolding carried
-  carried-first u a = ap (λ (l : List Edge). carried f ws₀ n w l u a) (x .first)
-
-  masks-more : (u a : ℕ) → u < 2 * n → a < 64 * w
-      → bitOr (masksAt vs n w u a) (carried f ws₀ n w (edgesFrom f v next) u a) ≡ bitOr (masksAt ws₀ n w u a) (carried f ws₀ n w (edgesFrom f v 0) u a)
-  masks-more u a l m =
-      ap (λ (y : ℕ). bitOr y (carried f ws₀ n w (edgesFrom f v next) u a)) (joined-mask u a l m)
-      ∙ or-assoc (masksAt ws n w u a) (one u a) (carried f ws₀ n w (edgesFrom f v next) u a)
-      ∙ ap (bitOr (masksAt ws n w u a)) (sym (carried-first u a)) ∙ s .masks u a l m
-
-  held : (u a : ℕ) → u < 2 * n → a < 64 * w → bitOr (masksAt ws n w u a) (masksAt vs n w u a) ≡ masksAt vs n w u a
-  held u a l m =
-      let old : ℕ = masksAt ws n w u a in
-      ap (bitOr old) (joined-mask u a l m) ∙ sym (or-assoc old old (one u a))
-      ∙ ap (λ (y : ℕ). bitOr y (one u a)) (or-self old) ∙ sym (joined-mask u a l m)
-
-  grows-more : (u a : ℕ) → u < 2 * n → a < 64 * w → bitOr (masksAt ws₀ n w u a) (masksAt vs n w u a) ≡ masksAt vs n w u a
-  grows-more u a l m =
-      let first : ℕ = masksAt ws₀ n w u a in
-      let old : ℕ = masksAt ws n w u a in
-      let new : ℕ = masksAt vs n w u a in
-      ap (bitOr first) (sym (held u a l m))
-      ∙ sym (or-assoc first old new)
-      ∙ ap (λ (y : ℕ). bitOr y new) (s .grows u a l m) ∙ held u a l m
-
-  grown-more : GrownSet n w ws₀ vs
-  grown-more u l = at (ℕ-discrete u (t .0))
+  one-mask t a l m = at (ℕ-discrete t (number f (x .to))) ∙ ap (bitOr (masksAt ws n w t a)) (sym (or-zero-r (cond (eqb (number f (x .to)) t) (maskAt ws w (from (x .continues)) a) 0)))
     where
-      at : Dec (u ≡ t .0) → has vs (grownAt n) u ≡ cond (differ (64 * w) (masksAt vs n w u) (masksAt ws₀ n w u)) 1 (has ws₀ (grownAt n) u)
+      at : Dec (t ≡ number f (x .to)) → masksAt vs n w t a ≡ bitOr (masksAt ws n w t a) (cond (eqb (number f (x .to)) t) (maskAt ws w (from (x .continues)) a) 0)
       at (yes e) =
-          subst (λ (y : ℕ). has vs (grownAt n) y ≡ cond (differ (64 * w) (masksAt vs n w y) (masksAt ws n w y)) 1 (has ws (grownAt n) y)) (sym e) (p .grown .grew)
-          ∙ ap (cond (differ (64 * w) (masksAt vs n w u) (masksAt ws n w u)) 1) (s .grown u l)
-          ∙ cond-or (differ (64 * w) (masksAt ws n w u) (masksAt ws₀ n w u)) (differ (64 * w) (masksAt vs n w u) (masksAt ws n w u)) 1 (has ws₀ (grownAt n) u)
-          ∙ sym (ap (λ (b : Bool). cond b 1 (has ws₀ (grownAt n) u))
-          (differ-chain (64 * w) (masksAt ws₀ n w u) (masksAt ws n w u) (masksAt vs n w u) (λ a m. or-between (masksAt ws₀ n w u a) (masksAt ws n w u a) (masksAt vs n w u a) (s .grows u a l m) (held u a l m))))
+          ap (λ (y : ℕ). masksAt vs n w y a) e ∙ p .masks a m
+          ∙ ap₂ bitOr (ap (λ (y : ℕ). masksAt ws n w y a) (sym e)) (sym (ap (λ (q : Bool). cond q (maskAt ws w (from (x .continues)) a) 0) (eq-eqb (number f (x .to)) t (sym e))))
       at (no ne) =
-          p .grown .not-grew u l ne ∙ s .grown u l
-          ∙ ap (λ (b : Bool). cond b 1 (has ws₀ (grownAt n) u))
-          (differ-as (64 * w) (masksAt ws n w u) (masksAt vs n w u) (masksAt ws₀ n w u) (masksAt ws₀ n w u) (λ a m. sym (p .grown .others u a l ne m)) (λ a m. refl))
+          p .others t a l ne m ∙ sym (or-zero-r (masksAt ws n w t a))
+          ∙ sym (ap (λ (q : Bool). bitOr (masksAt ws n w t a) (cond q (maskAt ws w (from (x .continues)) a) 0)) (ne-eqb (number f (x .to)) t (λ e. ne (sym e))))
 
-  waits-more : (l₀ : List ℕ) → Waits ws₀ n queue₀ l₀ → (l : List ℕ) × Waits vs n r l × (enqueue (arcsFrom f v next) l ≡ enqueue (arcsFrom f v 0) l₀)
+  one-settled : SettledSet n w ws vs
+  one-settled t l = at (ℕ-discrete t (number f (x .to)))
+    where
+      at : Dec (t ≡ number f (x .to)) → settledIn vs n w t ≡ cond (differ (64 * w) (masksAt vs n w t) (masksAt ws n w t)) 0 (settledIn ws n w t)
+      at (yes e) = subst (λ (y : ℕ). settledIn vs n w y ≡ cond (differ (64 * w) (masksAt vs n w y) (masksAt ws n w y)) 0 (settledIn ws n w y)) (sym e) (p .settled)
+      at (no ne) =
+          p .others-settled t l ne
+          ∙ sym (ap (λ (b : Bool). cond b 0 (settledIn ws n w t))
+          (differ-as (64 * w) (masksAt vs n w t) (masksAt ws n w t) (masksAt ws n w t) (masksAt ws n w t) (λ a m. p .others t a l ne m) (λ a m. refl) ∙ differ-self (64 * w) (masksAt ws n w t)))
+
+  pub sent-one : {i : ℕ} → Sent f ws vs n w from queue i (x ∷ []) r
   unfolding enqueue
-  waits-more l₀ h =
-      let y = s .waits l₀ h in (
-        join (y .0) (t .0),
-        p .waits (y .0) (y .1),
-        ap (λ (u : ℕ). enqueue (arcsFrom f v next) (join (y .0) u)) (x .target) ∙ sym (ap (λ (l : List Edge). enqueue (map (toArc f (v .stmt)) l) (y .0)) (x .first)) ∙ y .2,
-      )
+  sent-one = record {
+    waits = p .waits;
+    masks = one-mask;
+    settled = one-settled;
+    source = sources-stay from (x .continues) sources p;
+    keeps = p .keeps;
+  }
 
-  pub sending-more : Sending f ws₀ n w queue₀ v vs r next
-  sending-more = record {
-    waits = waits-more;
-    masks = masks-more;
-    grows = grows-more;
-    rows = λ y l h. p .grown .edge-rows y l h ∙ s .rows y l h;
-    grown = grown-more;
-    visited = λ y l h. p .visited y l h ∙ s .visited y l h;
+-- by the places and numbers that were found
+pub sent-edge : {f : Flow} {ws vs : List ℕ} {n w i row t : ℕ} {from : Bool → ℕ} {queue r : Queue} (x : Edge) → size f ≡ n → Sources n w from → row ≡ from (x .continues) → t ≡ numberIn n (x .to)
+    → Pushed ws vs n w queue row t r → Sent f ws vs n w from queue i (x ∷ []) r
+sent-edge {f} {ws} {vs} {n} {w} {i} {row} {t} {from} {queue} {r} x z sources e d p =
+    sent-one f x sources
+    (subst (λ (y : ℕ). Pushed ws vs n w queue (from (x .continues)) y r) (d ∙ ap (λ (m : ℕ). numberIn m (x .to)) (sym z)) (subst (λ (y : ℕ). Pushed ws vs n w queue y t r) e p))
+
+pub sources-one : (n w from : ℕ) → Source n w from → Sources n w (λ b. from)
+sources-one n w from (inl s) = inl (λ b. s)
+sources-one n w from (inr s) = inr (s .0, s .1, λ b. s .2)
+
+pub sources-call : (n w : ℕ) → Sources n w (edgeRow n w)
+sources-call n w = inl at
+  where
+    at : (b : Bool) → (outRow n w ≤ edgeRow n w b) × (edgeRow n w b + 3 * w ≤ maskRowAt n w 0)
+    at true = (omega arith, row-first n w)
+    at false = (omega arith, let first = row-first n w in omega arith)
+
+-- the numbers of copies
+pub copy-below : (n : ℕ) (b : Base) {j : ℕ} → j < n → numberIn n (at b j) < 2 * n
+copy-below n Zero l = omega arith
+copy-below n N l = omega arith
+
+-- some edges, and then others
+module _ {f : Flow} {ws us vs : List ℕ} {n w i : ℕ} {from : Bool → ℕ} {first queue r : Queue} {xs ys : List Edge} (s : Sent f ws us n w from first i xs queue) (p : Sent f us vs n w from queue i ys r) where
+  both-mask : (t a : ℕ) → t < 2 * n → a < 64 * w → masksAt vs n w t a ≡ bitOr (masksAt ws n w t a) (carried f ws w from (xs ++ ys) t a)
+  both-mask t a l m =
+      p .masks t a l m
+      ∙ ap₂ bitOr (s .masks t a l m) (carried-same f ws w from t a us (λ b. s .source b a m) ys)
+      ∙ or-assoc (masksAt ws n w t a) (carried f ws w from xs t a) (carried f ws w from ys t a)
+      ∙ ap (bitOr (masksAt ws n w t a)) (sym (carried-append f ws w from t a xs ys))
+
+  held : (x c y : ℕ) → y ≡ bitOr x c → bitOr x y ≡ y
+  held x c y e = ap (bitOr x) e ∙ sym (or-assoc x x c) ∙ ap (λ (z : ℕ). bitOr z c) (or-self x) ∙ sym e
+
+  both-settled : SettledSet n w ws vs
+  both-settled t l =
+      p .settled t l
+      ∙ ap (cond (differ (64 * w) (masksAt vs n w t) (masksAt us n w t)) 0) (s .settled t l)
+      ∙ cond-or (differ (64 * w) (masksAt us n w t) (masksAt ws n w t)) (differ (64 * w) (masksAt vs n w t) (masksAt us n w t)) 0 (settledIn ws n w t)
+      ∙ sym (ap (λ (b : Bool). cond b 0 (settledIn ws n w t))
+      (differ-chain (64 * w) (masksAt ws n w t) (masksAt us n w t) (masksAt vs n w t) (λ a m.
+      or-between (masksAt ws n w t a) (masksAt us n w t a) (masksAt vs n w t a) (held (masksAt ws n w t a) _ _ (s .masks t a l m)) (held (masksAt us n w t a) _ _ (p .masks t a l m)))))
+
+  pub sent-append : Sent f ws vs n w from first i (xs ++ ys) r
+  sent-append = record {
+    waits = λ l h.
+        subst (λ (k : List ℕ). Waits vs n w r k)
+        (sym (ap (λ (k : List Arc). enqueue k l) (map-append (toArc f i) xs ys) ∙ enqueue-append (map (toArc f i) xs) (map (toArc f i) ys) l))
+        (p .waits (enqueue (map (toArc f i) xs) l) (s .waits l h));
+    masks = both-mask;
+    settled = both-settled;
+    source = λ b a l. p .source b a l ∙ s .source b a l;
     keeps = keeps-trans (s .keeps) (p .keeps);
   }
 
-pub sending-all : {f : Flow} {ws₀ : List ℕ} {n w : ℕ} {queue₀ : Queue} {v : Node} {ws : List ℕ} {queue : Queue} {cursor : ℕ} → Sending f ws₀ n w queue₀ v ws queue cursor
-    → edgesFrom f v cursor ≡ [] → Sent f ws₀ ws n w queue₀ v queue
-unfolding carried enqueue
-sending-all {f} {ws₀} {n} {w} {queue₀} {v} {ws} {queue} {cursor} s e = record {
-  waits = λ l h.
-      let y = s .waits l h in
-      subst (λ (k : List ℕ). Waits ws n queue k)
-      (sym (ap (λ (k : List Edge). enqueue (map (toArc f (v .stmt)) k) (y .0)) e) ∙ y .2) (y .1);
-  masks = λ t a l m.
-      sym (or-zero-r (masksAt ws n w t a)) ∙ sym (ap (λ (k : List Edge). bitOr (masksAt ws n w t a) (carried f ws₀ n w k t a)) e) ∙ s .masks t a l m;
-  grown = s .grown;
-  visited = s .visited;
-  keeps = s .keeps;
-}
+-- Of the edges `all`, those that are left are still to be gone through
+pub record Sending (f : Flow) (ws vs : List ℕ) (n w : ℕ) (from : Bool → ℕ) (first : Queue) (i : ℕ) (all : List Edge) (queue : Queue) (left : List Edge) : Type 0 where
+  pub done : List Edge
+  pub sent : Sent f ws vs n w from first i done queue
+  pub rest : done ++ left ≡ all
+
+module _ {f : Flow} {ws : List ℕ} {n w i : ℕ} {from : Bool → ℕ} {first : Queue} {all : List Edge} where
+  pub sending-none : Sending f ws ws n w from first i all first all
+  sending-none = record { done = []; sent = sent-none; rest = refl }
+
+  module _ {vs : List ℕ} {queue : Queue} {left : List Edge} (s : Sending f ws vs n w from first i all queue left) where
+    pub sending-on : {us : List ℕ} {r : Queue} {xs next : List Edge} → left ≡ xs ++ next → Sent f vs us n w from queue i xs r → Sending f ws us n w from first i all r next
+    sending-on {xs = xs} {next = next} e p = record {
+      done = s .done ++ xs;
+      sent = sent-append (s .sent) p;
+      rest = append-assoc (s .done) xs next ∙ sym (ap (λ (ys : List Edge). s .done ++ ys) e) ∙ s .rest;
+    }
+
+    pub sending-skip : {next : List Edge} → left ≡ next → Sending f ws vs n w from first i all queue next
+    sending-skip e = subst (λ (xs : List Edge). Sending f ws vs n w from first i all queue xs) e s
+
+    pub sending-all : left ≡ [] → Sent f ws vs n w from first i all queue
+    sending-all e =
+        subst (λ (xs : List Edge). Sent f ws vs n w from first i xs queue) (sym (append-nil (s .done)) ∙ sym (ap (λ (xs : List Edge). s .done ++ xs) e) ∙ s .rest) (s .sent)
+
+-- A target that holds the row of its edge
+
+-- needs only to wait
+pub held-joined : {ws vs : List ℕ} {n w from d : ℕ} {queue r : Queue} → d < 2 * n → ((a : ℕ) → a < 64 * w → bitOr (masksAt ws n w d a) (maskAt ws w from a) ≡ masksAt ws n w d a)
+    → Enqueued ws vs n w queue d r → Pushed ws vs n w queue from d r
+held-joined {ws} {vs} {n} {w} {from} {d} {queue} {r} below holds y =
+    pushed below
+    (record {
+      masks = λ a l. sym (holds a l);
+      settled = sym (ap (λ (b : Bool). cond b 0 (settledIn ws n w d)) (differ-self (64 * w) (masksAt ws n w d)));
+      waits = refl;
+      keeps = keeps-refl;
+    })
+    y
+
+-- and if it waits, nothing changes
+held-pushed : {ws : List ℕ} {n w from d : ℕ} {queue : Queue} → d < 2 * n → Held ws n w from d → Pushed ws ws n w queue from d queue
+held-pushed below h = held-joined below (h .masks) (record { waits = λ l k. waits-again k below (h .waits); kept = rest-refl })
+
+pub sent-held : {f : Flow} {ws : List ℕ} {n w i : ℕ} {from : Bool → ℕ} {queue : Queue} → Sources n w from → (xs : List Edge)
+    → ((x : Edge) → In x xs → (number f (x .to) < 2 * n) × Held ws n w (from (x .continues)) (number f (x .to))) → Sent f ws ws n w from queue i xs queue
+sent-held {f} sources [] h = sent-none
+sent-held {f} sources (x ∷ xs) h =
+    sent-append (sent-one f x sources (held-pushed (h x (List·Memᴰ·head refl) .0) (h x (List·Memᴰ·head refl) .1))) (sent-held sources xs (λ y m. h y (List·Memᴰ·tail m)))

@@ -8,15 +8,10 @@ use mathlib.Core.Path.{_≡_, refl, sym, ap, ap₂, subst, _∙_}
 use native.Mathlib.Decide.{decLt, ℕ-discrete}
 use native.Mathlib.Omega.{arith}
 use borrow.Author.Tests.{lt-ltb, le-ltb, eq-eqb, ne-eqb}
-use lib.Bits.{bitOr}
+use lib.Bits.{bitOr, or-self}
 use lib.Dec.{eqb, ltb}
-use lib.ListN.{length, getD, set, length-set}
+use lib.ListN.{length, getD, set}
 use lib.Seq.{getD-set-same, getD-set-other}
-use Rattle.words.specs.contracts.Row.{has, Words}
-use Rattle.words.specs.contracts.Change.{inserted, removed}
-use Rattle.words.proofs.Row.{has-cong}
-use Rattle.words.proofs.Inserted.{length-inserted, words-inserted, inserted-other, insert-same, insert-other, insert-else}
-use Rattle.words.proofs.Removed.{removed-other, remove-same, remove-other, remove-else}
 use Rattle.flow.specs.Flow.{Flow, size}
 use Rattle.theory.specs.Lists.{differ}
 use Rattle.theory.specs.Doubled.{doubled}
@@ -28,18 +23,18 @@ use Rattle.theory.proofs.Invariant.{WellFormedGraph, Invariant, queue, visited-
 use Rattle.theory.proofs.Ends.{course-keeps}
 use Rattle.theory.proofs.Push.{alike, no-differ, pulled-next, pulled-same, changed-front, changed-other}
 use Rattle.statements.specs.contracts.Ready.{Keeps}
-use Rattle.statements.proofs.Keeps.{keeps-inserted, keeps-removed, keeps-trans}
+use Rattle.statements.proofs.Keeps.{keeps-set, keeps-trans, keeps-widen}
 use Rattle.solve.specs.declared.Queue.{Queue}
-use Rattle.solve.specs.contracts.Layout.{visitedAt, grownAt, setRow, maskRowAt, areaEnd}
+use Rattle.solve.specs.contracts.Layout.{maskRowAt, stateAt, waitsIn, settledIn, nodesEnd}
 use Rattle.solve.specs.contracts.Waiting.{Waits, Taken, restOf}
 use Rattle.solve.specs.contracts.Pushed.{masksAt}
-use Rattle.solve.proofs.Waiting.{waits-kept}
-use Rattle.solve.proofs.Room.{row-from}
-use Rattle.solve.proofs.Masks.{differ-as}
-use Rattle.solve.proofs.Growing.{masks-kept}
-use Rattle.dataflow.specs.contracts.Sent.{masksBelow, Sends}
+use Rattle.solve.proofs.Room.{rows-apart, row-from, row-fits, not-state}
+use Rattle.solve.proofs.Masks.{mask-cong, differ-as}
+use Rattle.solve.proofs.Waiting.{rest-keeps}
+use Rattle.solve.proofs.Growing.{other-word, waits-grown}
+use Rattle.dataflow.specs.contracts.Sent.{masksBelow, Shared, Sends}
 use Rattle.dataflow.specs.contracts.Solving.{Underway, VisitsFront}
-use Rattle.dataflow.proofs.Unions.{cond-or}
+use Rattle.dataflow.proofs.Sharing.{shared-stays}
 
 pub nodes-are : (f : Flow) → doubled f .nodes ≡ size f + size f
 unfolding doubled
@@ -94,7 +89,7 @@ pub underway-front : {f : Flow} {ws : List ℕ} {n k : ℕ} {queue : Queue} (u :
 underway-front {queue = q} u l = front-of (u .state .waiting) (subst (λ (k : ℕ). 0 < k) (u .solving .waits .count) l)
 
 module _ {f : Flow} (wf : WellFormed f) {n k : ℕ} (sized : size f ≡ n) (few : f .arrays ≤ 64 * k) {ws : List ℕ} {q : Queue} (u : Underway f ws n k q)
-    (x : ℕ) (w : List ℕ) (front : u .state .waiting ≡ x ∷ w) {d : ℕ} {vs : List ℕ} (taken : Taken ws vs n q d) where
+    (x : ℕ) (w : List ℕ) (front : u .state .waiting ≡ x ∷ w) {d : ℕ} {vs : List ℕ} (taken : Taken ws vs n k q d) where
   abbrev g : Graph
   g = doubled f
 
@@ -114,8 +109,8 @@ module _ {f : Flow} (wf : WellFormed f) {n k : ℕ} (sized : size f ≡ n) (few 
   unfoldable pub news : Bool
   news = not (u .state .visited x) || changed (doubled f) (u .state) x
 
-  waits : Waits ws n q (x ∷ w)
-  waits = subst (λ (l : List ℕ). Waits ws n q l) front (u .solving .waits)
+  waits : Waits ws n k q (x ∷ w)
+  waits = subst (λ (l : List ℕ). Waits ws n k q l) front (u .solving .waits)
 
   pub is-front : d ≡ x
   is-front = taken .front x w waits
@@ -123,36 +118,33 @@ module _ {f : Flow} (wf : WellFormed f) {n k : ℕ} (sized : size f ≡ n) (few 
   pub front-in : x < 2 * n
   front-in = waits .below x (List·Memᴰ·head refl)
 
-  pub rest-waits : Waits vs n (restOf n q) w
+  pub rest-waits : Waits vs n k (restOf n q) w
   rest-waits = taken .waits x w waits
 
   -- the area after the front is taken
 
-  took-visited : (t : ℕ) → t < 2 * n → has vs (visitedAt n) t ≡ cond (st .visited t) 1 0
-  took-visited t l = has-cong vs ws (visitedAt n) t (taken .kept .above (visitedAt n + t / 64) (omega arith)) ∙ u .solving .visited t l
+  took-word : (t y : ℕ) → maskRowAt n k t ≤ y → y < stateAt n k t → getD vs y 0 ≡ getD ws y 0
+  took-word t y lo hi = taken .kept .above y (let low = row-from n k t in omega arith) (λ c m. not-state n k t y lo hi c)
+
+  took-same : (t a : ℕ) → a < 64 * k → masksAt vs n k t a ≡ masksAt ws n k t a
+  took-same t a m = mask-cong ws vs k (maskRowAt n k t) a m (λ y lo hi. took-word t y lo (omega arith))
 
   took-masks : (t a : ℕ) → t < 2 * n → a < 64 * k → masksAt vs n k t a ≡ masksBelow (f .arrays) (pulled g st t) a
-  took-masks t a l m = masks-kept ws vs n k (λ y lo hi. taken .kept .above y (let low = row-from n k 0 in omega arith)) t a l m ∙ u .solving .masks t a l m
+  took-masks t a l m = took-same t a m ∙ u .solving .masks t a l m
 
-  took-grown : (t : ℕ) → t < 2 * n → st .visited t ≡ true → has vs (grownAt n) t ≡ cond (changed g st t) 1 0
-  took-grown t l v = has-cong vs ws (grownAt n) t (taken .kept .above (grownAt n + t / 64) (omega arith)) ∙ u .solving .grown t l v
-
-  -- the test for an unchanged number
-  unchanged-is : (eqb (has vs (visitedAt n) x) 1 && eqb (has vs (grownAt n) x) 0) ≡ not news
-  unfolding news
-  unchanged-is = ap (λ (b : ℕ). eqb b 1 && eqb (has vs (grownAt n) x) 0) (took-visited x front-in) ∙ at (st .visited x) refl
-    where
-      at : (v : Bool) → st .visited x ≡ v → (eqb (cond v 1 0) 1 && eqb (has vs (grownAt n) x) 0) ≡ not (not v || changed g st x)
-      at true e = ap (λ (b : ℕ). eqb b 0) (took-grown x front-in e) ∙ is (changed g st x)
-        where
-          is : (c : Bool) → eqb (cond c 1 0) 0 ≡ not c
-          is true = refl
-          is false = refl
-      at false e = refl
+  took-settled : (t : ℕ) → t < 2 * n → settledIn vs n k t ≡ cond (st .visited t && not (changed g st t)) 1 0
+  took-settled t l = taken .kept .settled t l ∙ u .solving .settled t l
 
   -- the test at the number taken
-  pub unchanged-at : {r : Bool} → r ≡ (eqb (has vs (visitedAt n) d) 1 && eqb (has vs (grownAt n) d) 0) → r ≡ not news
-  unchanged-at e = e ∙ ap (λ (y : ℕ). eqb (has vs (visitedAt n) y) 1 && eqb (has vs (grownAt n) y) 0) is-front ∙ unchanged-is
+  pub settled-at : {r : Bool} → r ≡ eqb (settledIn vs n k d) 1 → r ≡ not news
+  unfolding news
+  settled-at e =
+      e ∙ ap (λ (y : ℕ). eqb (settledIn vs n k y) 1) is-front ∙ ap (λ (y : ℕ). eqb y 1) (took-settled x front-in) ∙ is (st .visited x) (changed g st x)
+    where
+      is : (v c : Bool) → eqb (cond (v && not c) 1 0) 1 ≡ not (not v || c)
+      is true true = refl
+      is true false = refl
+      is false c = refl
 
   -- the numbers visited
   visited-is : (t : ℕ) → next .visited t ≡ cond (eqb t x) true (st .visited t)
@@ -162,150 +154,166 @@ module _ {f : Flow} (wf : WellFormed f) {n k : ℕ} (sized : size f ≡ n) (few 
       at (yes e) = visited-at g gwf st inv x w front e ∙ sym (ap (λ (b : Bool). cond b true (st .visited t)) (eq-eqb t x e))
       at (no e) = visited-other g gwf st inv x w front e ∙ sym (ap (λ (b : Bool). cond b true (st .visited t)) (ne-eqb t x e))
 
-  -- a number that is unchanged: the area stays as it is behind the front
-  module _ (still : news ≡ false) where
-    was : st .visited x ≡ true
-    unfolding news
-    was = was-visited g gwf st inv x w front still
-
-    same-visited : (t : ℕ) → next .visited t ≡ st .visited t
-    same-visited t = visited-is t ∙ at (ℕ-discrete t x)
-      where
-        at : Dec (t ≡ x) → cond (eqb t x) true (st .visited t) ≡ st .visited t
-        at (yes e) = ap (λ (b : Bool). cond b true (st .visited t)) (eq-eqb t x e) ∙ sym (ap (st .visited) e ∙ was)
-        at (no e) = ap (λ (b : Bool). cond b true (st .visited t)) (ne-eqb t x e)
-
-    same-pulled : (t a : ℕ) → a < f .arrays → pulled g next t a ≡ pulled g st t a
-    unfolding news doubled
-    same-pulled t a l = pulled-same g gwf st inv x w front still t a l
-
-    -- nothing differs between the two pulls
-    same-differ : (t : ℕ) → differ (g .arrays) (pulled g next t) (pulled g st t) ≡ false
-    unfolding doubled
-    same-differ t = no-differ (f .arrays) (pulled g next t) (pulled g st t) (λ a l. same-pulled t a l)
-
-    same-changed : (t : ℕ) → changed g next t ≡ changed g st t
-    unfolding news
-    same-changed t = at (ℕ-discrete t x)
-      where
-        at : Dec (t ≡ x) → changed g next t ≡ changed g st t
-        at (yes e) =
-            ap (changed g next) e ∙ changed-front g gwf st inv x w front ∙ same-differ x
-            ∙ sym (ap (changed g st) e ∙ or-second (not (st .visited x)) (changed g st x) still)
-        at (no e) =
-            changed-other g gwf st inv x w front t e ∙ ap (λ (b : Bool). changed g st t || b) (same-differ t) ∙ or-false (changed g st t)
-
-    pub visits-unchanged : VisitsFront f ws vs n k q (restOf n q) u
-    unfolding queue news
-    visits-unchanged = record {
-      front = x;
-      behind = w;
-      waiting = front;
-      solving = record {
-        waits = subst (λ (l : List ℕ). Waits vs n (restOf n q) l) (sym (waiting-next g gwf st inv x w front ∙ ap (queue g gwf st inv x w front) still)) rest-waits;
-        visited = λ t l. took-visited t l ∙ ap (λ (b : Bool). cond b 1 0) (sym (same-visited t));
-        masks = λ t a l m. took-masks t a l m ∙ below-as (f .arrays) (pulled g st t) (pulled g next t) a (λ b. sym (same-pulled t a b));
-        grown = λ t l v. took-grown t l (sym (same-visited t) ∙ v) ∙ ap (λ (b : Bool). cond b 1 0) (sym (same-changed t));
-      };
-    }
-
-  -- the visit is noted, and the masks of the number go on
-  module _ (new : news ≡ true) {us os : List ℕ} {r : Queue} (room : setRow n ≤ length vs) (ww : Words vs) (noted : us ≡ removed (inserted vs (visitedAt n) d) (grownAt n) d)
-      (sent : Sends f us os n k (restOf n q) d r) where
+  -- the visit is noted: the number is settled
+  module _ {us : List ℕ} (noted : us ≡ set vs (stateAt n k d) (waitsIn vs n k d + 2)) (room : nodesEnd n k ≤ length vs) where
     in-area : d < 2 * n
     in-area = subst (λ (y : ℕ). y < 2 * n) (sym is-front) front-in
 
-    -- the area once the visit is noted
-    noted-word : (y : ℕ) → setRow n ≤ y → getD us y 0 ≡ getD vs y 0
-    noted-word y l =
-        let b = in-area in
-        ap (λ (l : List ℕ). getD l y 0) noted
-        ∙ removed-other (inserted vs (visitedAt n) d) (grownAt n) d y (λ e. omega arith)
-        ∙ inserted-other vs (visitedAt n) d y (λ e. omega arith)
+    pub note-keeps : Keeps (maskRowAt n k d) (stateAt n k d + 1) vs us
+    note-keeps = subst (Keeps (maskRowAt n k d) (stateAt n k d + 1) vs) (sym noted) (keeps-set vs (stateAt n k d) (waitsIn vs n k d + 2) (omega arith) (omega arith))
+
+    note-state : getD us (stateAt n k d) 0 ≡ waitsIn vs n k d + 2
+    note-state =
+        let fits = row-fits n k in-area in
+        ap (λ (l : List ℕ). getD l (stateAt n k d) 0) noted ∙ getD-set-same vs (stateAt n k d) (waitsIn vs n k d + 2) 0 (omega arith)
+
+    note-waits : waitsIn us n k d ≡ waitsIn vs n k d
+    note-waits = omega (arith, note-state)
+
+    note-settled : settledIn us n k d ≡ 1
+    note-settled = omega (arith, note-state)
+
+    pub noted-waits : Waits us n k (restOf n q) w
+    noted-waits = waits-grown n k d note-keeps note-waits rest-waits
+
+    noted-same : (t a : ℕ) → a < 64 * k → masksAt us n k t a ≡ masksAt vs n k t a
+    noted-same t a m =
+        mask-cong vs us k (maskRowAt n k t) a m (λ y lo hi. ap (λ (l : List ℕ). getD l y 0) noted ∙ getD-set-other vs (stateAt n k d) y (waitsIn vs n k d + 2) 0 (λ q. apart y lo hi q (decLt t d) (decLt d t)))
+      where
+        apart : (y : ℕ) → maskRowAt n k t ≤ y → y < maskRowAt n k t + 3 * k → y ≡ stateAt n k d → Dec (t < d) → Dec (d < t) → ⊥
+        apart y lo hi q (yes b) c = let far = rows-apart n k b in omega arith
+        apart y lo hi q (no b) (yes c) = let far = rows-apart n k c in omega arith
+        apart y lo hi q (no b) (no c) = let same : t ≡ d = omega (arith, b, c) in let here : maskRowAt n k t ≡ maskRowAt n k d = rw same in omega arith
 
     noted-masks : (t a : ℕ) → t < 2 * n → a < 64 * k → masksAt us n k t a ≡ masksBelow (f .arrays) (pulled g st t) a
-    noted-masks t a l m = masks-kept vs us n k (λ y lo hi. noted-word y (let low = row-from n k 0 in omega arith)) t a l m ∙ took-masks t a l m
+    noted-masks t a l m = noted-same t a m ∙ took-masks t a l m
 
-    noted-visited : (t : ℕ) → t < 2 * n → has us (visitedAt n) t ≡ cond (next .visited t) 1 0
-    noted-visited t l =
-        let b = in-area in
-        ap (λ (l : List ℕ). has l (visitedAt n) t) noted
-        ∙ remove-else (inserted vs (visitedAt n) d) (grownAt n) d (visitedAt n) t (λ e. omega arith)
-        ∙ at (ℕ-discrete t x)
-      where
-        at : Dec (t ≡ x) → has (inserted vs (visitedAt n) d) (visitedAt n) t ≡ cond (next .visited t) 1 0
-        at (yes e) =
-            let b = in-area in
-            ap (has (inserted vs (visitedAt n) d) (visitedAt n)) (e ∙ sym is-front)
-            ∙ insert-same vs (visitedAt n) d (omega arith)
-            ∙ sym (ap (λ (b : Bool). cond b 1 0) (visited-at g gwf st inv x w front e))
-        at (no e) =
-            let b = in-area in
-            insert-other vs (visitedAt n) d t (omega arith) (λ q. e (q ∙ is-front)) ∙ took-visited t l
-            ∙ ap (λ (b : Bool). cond b 1 0) (sym (visited-other g gwf st inv x w front e))
+    pub noted-shared : Shared f us n k
+    noted-shared =
+        let low = row-from n k d in
+        let fits = row-fits n k in-area in
+        let keeps = keeps-trans (rest-keeps (taken .kept)) (keeps-widen (omega arith) (omega arith) note-keeps) in
+        shared-stays n k keeps (λ t a l m. ap (bitOr (masksAt us n k t a)) (sym (noted-same t a m ∙ took-same t a m)) ∙ or-self (masksAt us n k t a)) (u .solving .shared)
 
-    -- the number has not grown since
-    noted-front : (t : ℕ) → t ≡ x → has us (grownAt n) t ≡ 0
-    noted-front t e =
-        let b = in-area in
-        ap₂ (λ (l : List ℕ) (y : ℕ). has l (grownAt n) y) noted (e ∙ sym is-front)
-        ∙ remove-same (inserted vs (visitedAt n) d) (grownAt n) d (words-inserted vs (visitedAt n) d ww) (omega (arith, length-inserted vs (visitedAt n) d))
+    noted-front : (t : ℕ) → t ≡ x → settledIn us n k t ≡ 1
+    noted-front t e = ap (settledIn us n k) (e ∙ sym is-front) ∙ note-settled
 
-    noted-grown : (t : ℕ) → t < 2 * n → t ≢ x → has us (grownAt n) t ≡ has vs (grownAt n) t
-    noted-grown t l e =
-        let b = in-area in
-        ap (λ (l : List ℕ). has l (grownAt n) t) noted
-        ∙ remove-other (inserted vs (visitedAt n) d) (grownAt n) d (words-inserted vs (visitedAt n) d ww) (omega (arith, length-inserted vs (visitedAt n) d)) t (λ q. e (q ∙ is-front))
-        ∙ insert-else vs (visitedAt n) d (grownAt n) t (λ e. omega arith)
+    noted-other : (t : ℕ) → t ≢ x → settledIn us n k t ≡ settledIn vs n k t
+    noted-other t e = ap (λ z. z / 2) (other-word n k d note-keeps t (λ q. e (q ∙ is-front)) (stateAt n k t) (omega arith) (omega arith))
 
-    next-masks : (t a : ℕ) → t < 2 * n → a < 64 * k → masksAt os n k t a ≡ masksBelow (f .arrays) (pulled g next t) a
-    next-masks t a l m =
-        sent .masks (pulled g st x) (λ b h. ap (λ (y : ℕ). masksAt us n k y b) is-front ∙ noted-masks x b front-in h) t a l m
-        ∙ ap₂ bitOr (noted-masks t a l m) (ap (λ (y : ℕ). masksBelow (f .arrays) (λ b. brings t b (pulled g st x b) (g .arcs y)) a) is-front)
-        ∙ below-or (f .arrays) (pulled g st t) (λ b. brings t b (pulled g st x b) (g .arcs x)) a
-        ∙ below-as (f .arrays) (λ b. bitOr (pulled g st t b) (brings t b (pulled g st x b) (g .arcs x))) (pulled g next t) a (λ h. sym (pulled-next g gwf st inv x w front t a))
+    -- a number that was settled before: the area is as it was behind the front
+    module _ (still : news ≡ false) where
+      was : st .visited x ≡ true
+      unfolding news
+      was = was-visited g gwf st inv x w front still
 
-    -- what grew is what the visit added
-    added : (t : ℕ) → t < 2 * n → differ (64 * k) (masksAt os n k t) (masksAt us n k t) ≡ differ (g .arrays) (pulled g next t) (pulled g st t)
-    unfolding doubled
-    added t l =
-        differ-as (64 * k) (masksAt os n k t) (masksBelow (f .arrays) (pulled g next t)) (masksAt us n k t) (masksBelow (f .arrays) (pulled g st t)) (λ a m. next-masks t a l m) (λ a m. noted-masks t a l m)
-        ∙ differ-below (64 * k) (f .arrays) (pulled g next t) (pulled g st t) few
+      same-visited : (t : ℕ) → next .visited t ≡ st .visited t
+      same-visited t = visited-is t ∙ at (ℕ-discrete t x)
+        where
+          at : Dec (t ≡ x) → cond (eqb t x) true (st .visited t) ≡ st .visited t
+          at (yes e) = ap (λ (b : Bool). cond b true (st .visited t)) (eq-eqb t x e) ∙ sym (ap (st .visited) e ∙ was)
+          at (no e) = ap (λ (b : Bool). cond b true (st .visited t)) (ne-eqb t x e)
 
-    next-grown : (t : ℕ) → t < 2 * n → next .visited t ≡ true → has os (grownAt n) t ≡ cond (changed g next t) 1 0
-    next-grown t l v = at (ℕ-discrete t x)
-      where
-        at : Dec (t ≡ x) → has os (grownAt n) t ≡ cond (changed g next t) 1 0
-        at (yes e) =
-            sent .grown t l
-            ∙ ap₂ (λ (b : Bool) (y : ℕ). cond b 1 y) (added t l) (noted-front t e)
-            ∙ ap (λ (b : Bool). cond b 1 0) (ap (λ (y : ℕ). differ (g .arrays) (pulled g next y) (pulled g st y)) e ∙ sym (ap (changed g next) e ∙ changed-front g gwf st inv x w front))
-        at (no e) =
-            sent .grown t l
-            ∙ ap₂ (λ (b : Bool) (y : ℕ). cond b 1 y) (added t l) (noted-grown t l e ∙ took-grown t l (sym (visited-other g gwf st inv x w front e) ∙ v))
-            ∙ cond-or (changed g st t) (differ (g .arrays) (pulled g next t) (pulled g st t)) 1 0
-            ∙ ap (λ (b : Bool). cond b 1 0) (sym (changed-other g gwf st inv x w front t e))
+      same-pulled : (t a : ℕ) → a < f .arrays → pulled g next t a ≡ pulled g st t a
+      unfolding news doubled
+      same-pulled t a l = pulled-same g gwf st inv x w front still t a l
 
-    pub visits-sent : Waits us n (restOf n q) w → VisitsFront f ws os n k q r u
-    unfolding queue news
-    visits-sent waiting = record {
-      front = x;
-      behind = w;
-      waiting = front;
-      solving = record {
-        waits = subst (λ (l : List ℕ). Waits os n r l) (ap (λ (y : ℕ). enqueue (g .arcs y) w) is-front ∙ sym (waiting-next g gwf st inv x w front ∙ ap (queue g gwf st inv x w front) new)) (sent .waits w waiting);
-        visited = λ t l. has-cong os us (visitedAt n) t (sent .visited (visitedAt n + t / 64) (omega arith) (omega arith)) ∙ noted-visited t l;
-        masks = next-masks;
-        grown = next-grown;
-      };
-    }
+      -- nothing differs between the two pulls
+      same-differ : (t : ℕ) → differ (g .arrays) (pulled g next t) (pulled g st t) ≡ false
+      unfolding doubled
+      same-differ t = no-differ (f .arrays) (pulled g next t) (pulled g st t) (λ a l. same-pulled t a l)
 
--- the sets that note a visit lie apart from the queue
-module _ (vs us : List ℕ) (n d : ℕ) (below : d < 2 * n) (noted : us ≡ removed (inserted vs (visitedAt n) d) (grownAt n) d) where
-  pub note-keeps : Keeps (visitedAt n) (setRow n) vs us
-  note-keeps =
-      subst (Keeps (visitedAt n) (setRow n) vs) (sym noted)
-      (keeps-trans (keeps-inserted vs (visitedAt n) d (omega arith) (omega arith)) (keeps-removed (inserted vs (visitedAt n) d) (grownAt n) d (omega arith) (omega arith)))
+      same-changed : (t : ℕ) → changed g next t ≡ changed g st t
+      unfolding news
+      same-changed t = at (ℕ-discrete t x)
+        where
+          at : Dec (t ≡ x) → changed g next t ≡ changed g st t
+          at (yes e) =
+              ap (changed g next) e ∙ changed-front g gwf st inv x w front ∙ same-differ x
+              ∙ sym (ap (changed g st) e ∙ or-second (not (st .visited x)) (changed g st x) still)
+          at (no e) =
+              changed-other g gwf st inv x w front t e ∙ ap (λ (b : Bool). changed g st t || b) (same-differ t) ∙ or-false (changed g st t)
 
-  pub noted-waits : {q : Queue} {w : List ℕ} → Waits vs n q w → Waits us n q w
-  noted-waits h = waits-kept h (λ x l m. note-keeps .below x (omega arith)) (λ x l m. note-keeps .below x m)
+      still-settled : (t : ℕ) → t < 2 * n → settledIn us n k t ≡ cond (next .visited t && not (changed g next t)) 1 0
+      still-settled t l = at (ℕ-discrete t x)
+        where
+          at : Dec (t ≡ x) → settledIn us n k t ≡ cond (next .visited t && not (changed g next t)) 1 0
+          at (yes e) =
+              noted-front t e
+              ∙ sym (ap₂ (λ (v c : Bool). cond (v && not c) 1 0) (visited-at g gwf st inv x w front e) (ap (changed g next) e ∙ changed-front g gwf st inv x w front ∙ same-differ x))
+          at (no e) = noted-other t e ∙ took-settled t l ∙ ap₂ (λ (v c : Bool). cond (v && not c) 1 0) (sym (same-visited t)) (sym (same-changed t))
+
+      pub visits-settled : VisitsFront f ws us n k q (restOf n q) u
+      unfolding queue news
+      visits-settled = record {
+        front = x;
+        behind = w;
+        waiting = front;
+        solving = record {
+          waits = subst (λ (l : List ℕ). Waits us n k (restOf n q) l) (sym (waiting-next g gwf st inv x w front ∙ ap (queue g gwf st inv x w front) still)) noted-waits;
+          masks = λ t a l m. noted-masks t a l m ∙ below-as (f .arrays) (pulled g st t) (pulled g next t) a (λ b. sym (same-pulled t a b));
+          shared = noted-shared;
+          settled = still-settled;
+        };
+      }
+
+    -- else the masks of the number go on
+    module _ (new : news ≡ true) {os : List ℕ} {r : Queue} (sent : Sends f us os n k (restOf n q) d r) where
+      next-masks : (t a : ℕ) → t < 2 * n → a < 64 * k → masksAt os n k t a ≡ masksBelow (f .arrays) (pulled g next t) a
+      next-masks t a l m =
+          sent .masks (pulled g st x) (λ b h. ap (λ (y : ℕ). masksAt us n k y b) is-front ∙ noted-masks x b front-in h) t a l m
+          ∙ ap₂ bitOr (noted-masks t a l m) (ap (λ (y : ℕ). masksBelow (f .arrays) (λ b. brings t b (pulled g st x b) (g .arcs y)) a) is-front)
+          ∙ below-or (f .arrays) (pulled g st t) (λ b. brings t b (pulled g st x b) (g .arcs x)) a
+          ∙ below-as (f .arrays) (λ b. bitOr (pulled g st t b) (brings t b (pulled g st x b) (g .arcs x))) (pulled g next t) a (λ h. sym (pulled-next g gwf st inv x w front t a))
+
+      -- what grew is what the visit added
+      added : (t : ℕ) → t < 2 * n → differ (64 * k) (masksAt os n k t) (masksAt us n k t) ≡ differ (g .arrays) (pulled g next t) (pulled g st t)
+      unfolding doubled
+      added t l =
+          differ-as (64 * k) (masksAt os n k t) (masksBelow (f .arrays) (pulled g next t)) (masksAt us n k t) (masksBelow (f .arrays) (pulled g st t)) (λ a m. next-masks t a l m) (λ a m. noted-masks t a l m)
+          ∙ differ-below (64 * k) (f .arrays) (pulled g next t) (pulled g st t) few
+
+      next-settled : (t : ℕ) → t < 2 * n → settledIn os n k t ≡ cond (next .visited t && not (changed g next t)) 1 0
+      next-settled t l = at (ℕ-discrete t x)
+        where
+          grew : Bool
+          grew = differ (g .arrays) (pulled g next t) (pulled g st t)
+
+          front-is : (b : Bool) → _≡_ {A = ℕ} (cond b 0 1) (cond (true && not b) 1 0)
+          front-is true = refl
+          front-is false = refl
+
+          other-is : (v c b : Bool) → _≡_ {A = ℕ} (cond b 0 (cond (v && not c) 1 0)) (cond (v && not (c || b)) 1 0)
+          other-is true true true = refl
+          other-is true true false = refl
+          other-is true false true = refl
+          other-is true false false = refl
+          other-is false c true = refl
+          other-is false c false = refl
+
+          at : Dec (t ≡ x) → settledIn os n k t ≡ cond (next .visited t && not (changed g next t)) 1 0
+          at (yes e) =
+              sent .settled t l
+              ∙ ap₂ (λ (b : Bool) (y : ℕ). cond b 0 y) (added t l) (noted-front t e)
+              ∙ front-is grew
+              ∙ sym (ap₂ (λ (v c : Bool). cond (v && not c) 1 0) (visited-at g gwf st inv x w front e)
+              (ap (changed g next) e ∙ changed-front g gwf st inv x w front ∙ sym (ap (λ (y : ℕ). differ (g .arrays) (pulled g next y) (pulled g st y)) e)))
+          at (no e) =
+              sent .settled t l
+              ∙ ap₂ (λ (b : Bool) (y : ℕ). cond b 0 y) (added t l) (noted-other t e ∙ took-settled t l)
+              ∙ other-is (st .visited t) (changed g st t) grew
+              ∙ sym (ap₂ (λ (v c : Bool). cond (v && not c) 1 0) (visited-other g gwf st inv x w front e) (changed-other g gwf st inv x w front t e))
+
+      pub visits-sent : VisitsFront f ws os n k q r u
+      unfolding queue news
+      visits-sent = record {
+        front = x;
+        behind = w;
+        waiting = front;
+        solving = record {
+          waits = subst (λ (l : List ℕ). Waits os n k r l) (ap (λ (y : ℕ). enqueue (g .arcs y) w) is-front ∙ sym (waiting-next g gwf st inv x w front ∙ ap (queue g gwf st inv x w front) new)) (sent .waits w noted-waits);
+          masks = next-masks;
+          shared = sent .shared;
+          settled = next-settled;
+        };
+      }

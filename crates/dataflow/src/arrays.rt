@@ -1,78 +1,345 @@
-// Masks by doubled number: the queue rule, with every mask pushed along the edges instead of pulled.
-ghost use mathlib.Core.Path.{_≡_};
-ghost use mathlib.Core.Bool.{_&&_};
+// Masks by doubled number: the queue rule, with every mask pushed along the edges instead of pulled. Each kind of statement has a loop of its own over its edges, so that a
+// visit looks nothing up twice.
+ghost use mathlib.Core.Bool.{true, false};
 ghost use mathlib.Core.List.{List};
+ghost use mathlib.Core.Path.{_≡_};
 ghost use Prim.Native.Nat.{ℕ, _*_, _<_, _≤_};
-ghost use lib.Dec.{eqb};
-ghost use lib.ListN.{length};
-ghost use Rattle.words.specs.contracts.Row.{has};
-ghost use Rattle.words.specs.contracts.Change.{inserted, removed};
+ghost use lib.ListN.{length, getD};
+ghost use Rattle.flow.specs.declared.Base.the-variants.{Zero};
 ghost use Rattle.flow.specs.Format.{flowOf};
-ghost use Rattle.flow.specs.Limits.{maxStatements};
-ghost use Rattle.theory.specs.Doubled.{at};
+ghost use Rattle.theory.specs.Lists.{optionList};
+ghost use Rattle.theory.specs.Body.{kind, successors, callLines, isReturn};
+ghost use Rattle.theory.specs.Doubled as theory;
 ghost use Rattle.statements.specs.contracts.Layout.{queueAt, setWords, maxWidth};
-ghost use Rattle.statements.specs.contracts.Ready.{Indexed, Keeps};
+ghost use Rattle.statements.specs.contracts.Ready.{Ready, Indexed, RecordOf, Keeps};
 ghost use Rattle.calls.specs.contracts.Held.{Linked};
-ghost use Rattle.calls.specs.contracts.Class.{EdgesOf};
-ghost use Rattle.solve.specs.contracts.Layout.{visitedAt, grownAt, setRow, areaEnd};
+ghost use Rattle.calls.specs.contracts.Class.{transparentCall, CallOf};
+ghost use Rattle.calls.specs.contracts.Slots.{present, listedSlots, returnSlots, lineSlot, lineSlots, otherSlot, otherSlots, callSlots, slots};
+ghost use Rattle.solve.specs.contracts.Layout.{areaEnd};
 ghost use Rattle.solve.specs.contracts.Waiting.{Waits};
-ghost use Rattle.solve.specs.contracts.Pushed.{Pushed};
-ghost use Rattle.dataflow.specs.contracts.Sent.{edgeRow, Sent, Sends};
+ghost use Rattle.solve.specs.contracts.Pushed.{Source};
+ghost use Rattle.dataflow.specs.contracts.Sent.{edgeRow, Sent, Shared, MembersHold, Goes, Sends};
 ghost use Rattle.dataflow.specs.contracts.Solving.{Underway, VisitsFront, Unused, RuleResult};
+use crate::held;
 use crate::transfer;
 use calls::edges;
-use calls::edges::Edges;
+use calls::edges::Call;
+use calls::leaders;
 use flow::Base;
+use flow::KIND_RETURN;
+use flow::LineEntry;
 use flow::NodeId;
+use flow::StmtId;
 use solve::Queue;
 use solve::layout;
 use solve::nodes;
 use solve::push;
 use statements::doubled;
+use statements::doubled::node;
+use statements::fields;
+use statements::layout::row;
 use statements::layout::set_words;
 
-// The row for an edge is pushed to its target.
-fn push_edge(
+// Successor k of statement i, whose record stands at `place`.
+fn successor(file: &[u8], i: StmtId, place: usize, k: usize) -> StmtId
+    requires { ⌜ RecordOf (now file) (i .0) place × (k < length (successors (flowOf (now file)) (i .0))) ⌝ }
+    ensures { λ r. ⌜ r .0 ≡ getD (successors (flowOf (now (file .entry))) (i .0)) k 0 ⌝ }
+{
+    records::successor(file, place, k)
+}
+
+// The row at `from` goes to the successors of statement i.
+fn push_listed(
+    file: &[u8],
     work: &mut [u64],
     n: usize,
     width: usize,
-    queue: Queue,
-    t: NodeId,
-    continues: bool,
+    first: Queue,
+    base: Base,
+    i: StmtId,
+    place: usize,
+    from: usize,
 ) -> Queue
-    requires { ⌜ (n ≤ maxStatements) × (width ≤ maxWidth) × (areaEnd n width ≤ length (now work)) × (t .0 < 2 * n) × ((w : List ℕ) × Waits (now work) n queue w) ⌝ }
-    ensures { λ r. ⌜ Pushed (now (work .entry)) (now (work .exit)) n width queue (edgeRow n width continues) (t .0) r ⌝ }
+    requires { ⌜ (width ≤ maxWidth) × Ready (now file) (now work) n × RecordOf (now file) (i .0) place × (i .0 < n) × Source n width from × ((l : List ℕ) × Waits (now work) n width first l) ⌝ }
+    ensures { λ r. ⌜ Sent (flowOf (now (file .entry))) (now (work .entry)) (now (work .exit)) n width (λ _. from) first (i .0) (present (listedSlots (flowOf (now (file .entry))) base (i .0))) r ⌝ }
 {
-    if continues {
-        return push::push(work, n, width, queue, layout::back_row(n, width), t);
+    let count = records::successor_count(file, place);
+    let mut queue = first;
+    let mut k = 0;
+    while k < count {
+        let j = successor(file, i, place, k);
+        queue = push::push(work, n, width, queue, from, node(n, base, j));
+        k += 1;
     }
-    push::push(work, n, width, queue, layout::out_row(n, width), t)
+    queue
 }
 
-fn push_edges(
+// The row at `from` goes to the members of the row of the RETURN i.
+fn push_members(
+    file: &[u8],
+    work: &mut [u64],
+    n: usize,
+    width: usize,
+    first: Queue,
+    i: StmtId,
+    from: usize,
+) -> Queue
+    requires { ⌜ (width ≤ maxWidth) × Ready (now file) (now work) n × Linked (flowOf (now file)) (now work) n × (isReturn (kind (flowOf (now file)) (i .0)) ≡ true) × (i .0 < n) × Source n width from × ((l : List ℕ) × Waits (now work) n width first l) ⌝ }
+    ensures { λ r. ⌜ Sent (flowOf (now (file .entry))) (now (work .entry)) (now (work .exit)) n width (λ _. from) first (i .0) (present (returnSlots (flowOf (now (file .entry))) Zero (i .0))) r ⌝ }
+{
+    let mut queue = first;
+    let mut k = words::next(work, row(n, i), 0, n);
+    while k < n {
+        queue = push::push(work, n, width, queue, from, node(n, Base::Zero, StmtId(k)));
+        k = words::next(work, row(n, i), k + 1, n);
+    }
+    queue
+}
+
+// The continuations of the RETURN i, which all hold what it sends, wait.
+fn join_members(
+    file: &[u8],
+    work: &mut [u64],
+    n: usize,
+    width: usize,
+    first: Queue,
+    i: StmtId,
+    from: usize,
+) -> Queue
+    requires { ⌜ (width ≤ maxWidth) × Ready (now file) (now work) n × Linked (flowOf (now file)) (now work) n × (isReturn (kind (flowOf (now file)) (i .0)) ≡ true) × (i .0 < n) × Source n width from × MembersHold (now work) n width (i .0) from × ((l : List ℕ) × Waits (now work) n width first l) ⌝ }
+    ensures { λ r. ⌜ Sent (flowOf (now (file .entry))) (now (work .entry)) (now (work .exit)) n width (λ _. from) first (i .0) (present (returnSlots (flowOf (now (file .entry))) Zero (i .0))) r ⌝ }
+{
+    let mut queue = first;
+    let mut k = words::next(work, row(n, i), 0, n);
+    while k < n {
+        queue = nodes::join(work, n, width, queue, node(n, Base::Zero, StmtId(k)));
+        k = words::next(work, row(n, i), k + 1, n);
+    }
+    queue
+}
+
+// The row at `from` goes to the continuations of the RETURN i. What the RETURNs with the same continuations have sent stands in the row of their leader, so that
+// a row which brings nothing to that one brings nothing to any of them.
+fn push_return(
+    file: &[u8],
+    work: &mut [u64],
+    n: usize,
+    width: usize,
+    first: Queue,
+    i: StmtId,
+    from: usize,
+) -> Queue
+    requires { ⌜ (width ≤ maxWidth) × Ready (now file) (now work) n × Linked (flowOf (now file)) (now work) n × (isReturn (kind (flowOf (now file)) (i .0)) ≡ true) × (i .0 < n) × Source n width from × Shared (flowOf (now file)) (now work) n width × ((l : List ℕ) × Waits (now work) n width first l) ⌝ }
+    ensures { λ r. ⌜ Goes (flowOf (now (file .entry))) (now (work .entry)) (now (work .exit)) n width (λ _. from) first (i .0) (present (returnSlots (flowOf (now (file .entry))) Zero (i .0))) r ⌝ }
+{
+    let lead = leaders::leader(file, work, n, i);
+    if words::union(work, layout::sent_row(n, width, lead), from, 3 * width) {
+        return push_members(file, work, n, width, first, i, from);
+    }
+    join_members(file, work, n, width, first, i, from)
+}
+
+// The row of the call i goes to the statement that its line l enters, if any.
+fn push_line(
+    file: &[u8],
+    h: flow::Header,
+    work: &mut [u64],
+    width: usize,
+    queue: Queue,
+    base: Base,
+    i: StmtId,
+    place: usize,
+    call: Call,
+    l: usize,
+) -> Queue
+    requires { ⌜ (width ≤ maxWidth) × Indexed (now file) h (now work) × RecordOf (now file) (i .0) place × (i .0 < h .statements) × CallOf (flowOf (now file)) (now work) (i .0) call × (l < call .lines) × ((q : List ℕ) × Waits (now work) (h .statements) width queue q) ⌝ }
+    ensures { λ r. ⌜ Sent (flowOf (now (file .entry))) (now (work .entry)) (now (work .exit)) (h .statements) width (edgeRow (h .statements) width) queue (i .0) (optionList (lineSlot (flowOf (now (file .entry))) base (call .continuation .0) (getD (callLines (kind (flowOf (now (file .entry))) (i .0))) l 0))) r ⌝ }
+{
+    let n = h.statements;
+    match edges::line_entered(file, h, work, i, place, call, l) {
+        LineEntry::At(b) => {
+            let t = node(n, Base::N, b);
+            let from = held::call_row(n, width, t, node(n, base, call.continuation));
+            push::push(work, n, width, queue, from, t)
+        }
+        LineEntry::Nothing => queue,
+    }
+}
+
+// The rows of the call i go to the statements that its lines enter, line by line in the order that the queue rule asks for.
+fn push_each_line(
     file: &[u8],
     h: flow::Header,
     work: &mut [u64],
     width: usize,
     first: Queue,
-    es: Edges,
+    base: Base,
+    i: StmtId,
+    place: usize,
+    call: Call,
 ) -> Queue
-    requires { ⌜ (width ≤ maxWidth) × Indexed (now file) h (now work) × Linked (flowOf (now file)) (now work) (h .statements) × EdgesOf (now file) es × ((w : List ℕ) × Waits (now work) (h .statements) first w) ⌝ }
-    ensures { λ r. ⌜ Sent (flowOf (now (file .entry))) (now (work .entry)) (now (work .exit)) (h .statements) width first (at (es .base) (es .stmt .0)) r ⌝ }
+    requires { ⌜ (width ≤ maxWidth) × Indexed (now file) h (now work) × RecordOf (now file) (i .0) place × (i .0 < h .statements) × CallOf (flowOf (now file)) (now work) (i .0) call × ((l : List ℕ) × Waits (now work) (h .statements) width first l) ⌝ }
+    ensures { λ r. ⌜ Sent (flowOf (now (file .entry))) (now (work .entry)) (now (work .exit)) (h .statements) width (edgeRow (h .statements) width) first (i .0) (present (lineSlots (flowOf (now (file .entry))) base (i .0) (call .continuation .0))) r ⌝ }
+{
+    let count = call.lines;
+    let mut queue = first;
+    let mut l = 0;
+    while l < count {
+        queue = push_line(file, h, work, width, queue, base, i, place, call, l);
+        l += 1;
+    }
+    queue
+}
+
+// The same. Of a call that names several lines the statements that they enter are asked first, in the order of its row: mostly all of them wait and hold what the call
+// would send.
+fn push_lines(
+    file: &[u8],
+    h: flow::Header,
+    work: &mut [u64],
+    width: usize,
+    first: Queue,
+    base: Base,
+    i: StmtId,
+    place: usize,
+    call: Call,
+) -> Queue
+    requires { ⌜ (width ≤ maxWidth) × Indexed (now file) h (now work) × RecordOf (now file) (i .0) place × (i .0 < h .statements) × CallOf (flowOf (now file)) (now work) (i .0) call × ((l : List ℕ) × Waits (now work) (h .statements) width first l) ⌝ }
+    ensures { λ r. ⌜ Sent (flowOf (now (file .entry))) (now (work .entry)) (now (work .exit)) (h .statements) width (edgeRow (h .statements) width) first (i .0) (present (lineSlots (flowOf (now (file .entry))) base (i .0) (call .continuation .0))) r ⌝ }
 {
     let n = h.statements;
-    let mut queue = first;
-    let mut cursor = 0;
-    loop {
-        match edges::edge(file, h, work, es, cursor) {
-            calls::Edge::To(t, continues, next) => {
-                queue = push_edge(work, n, width, queue, t, continues);
-                cursor = next;
-            }
-            calls::Edge::End => {
-                return queue;
-            }
+    if 1 < call.lines {
+        if held::all_hold(work, n, width, call.row, node(n, base, call.continuation)) {
+            return first;
         }
+    }
+    push_each_line(file, h, work, width, first, base, i, place, call)
+}
+
+// The row of the call i goes to its successor j, unless that is entered or the continuation.
+fn push_other(
+    file: &[u8],
+    work: &mut [u64],
+    n: usize,
+    width: usize,
+    queue: Queue,
+    base: Base,
+    i: StmtId,
+    call: Call,
+    j: StmtId,
+) -> Queue
+    requires { ⌜ (width ≤ maxWidth) × Ready (now file) (now work) n × (i .0 < n) × CallOf (flowOf (now file)) (now work) (i .0) call × (j .0 < n) × ((q : List ℕ) × Waits (now work) n width queue q) ⌝ }
+    ensures { λ r. ⌜ Sent (flowOf (now (file .entry))) (now (work .entry)) (now (work .exit)) n width (edgeRow n width) queue (i .0) (optionList (otherSlot (flowOf (now (file .entry))) base (i .0) (call .continuation .0) (j .0))) r ⌝ }
+{
+    if edges::left_out(work, call, j) {
+        return queue;
+    }
+    push::push(
+        work,
+        n,
+        width,
+        queue,
+        layout::out_row(n, width),
+        node(n, base, j),
+    )
+}
+
+fn push_others(
+    file: &[u8],
+    work: &mut [u64],
+    n: usize,
+    width: usize,
+    first: Queue,
+    base: Base,
+    i: StmtId,
+    place: usize,
+    call: Call,
+) -> Queue
+    requires { ⌜ (width ≤ maxWidth) × Ready (now file) (now work) n × RecordOf (now file) (i .0) place × (i .0 < n) × CallOf (flowOf (now file)) (now work) (i .0) call × ((l : List ℕ) × Waits (now work) n width first l) ⌝ }
+    ensures { λ r. ⌜ Sent (flowOf (now (file .entry))) (now (work .entry)) (now (work .exit)) n width (edgeRow n width) first (i .0) (present (otherSlots (flowOf (now (file .entry))) base (i .0) (call .continuation .0))) r ⌝ }
+{
+    let count = call.successors;
+    let mut queue = first;
+    let mut k = 0;
+    while k < count {
+        let j = successor(file, i, place, k);
+        queue = push_other(file, work, n, width, queue, base, i, call, j);
+        k += 1;
+    }
+    queue
+}
+
+// The rows of the call i go along its edges: to the entered statements, then to the continuation, then to the other successors.
+fn push_call(
+    file: &[u8],
+    h: flow::Header,
+    work: &mut [u64],
+    width: usize,
+    first: Queue,
+    base: Base,
+    i: StmtId,
+    place: usize,
+    call: Call,
+) -> Queue
+    requires { ⌜ (width ≤ maxWidth) × Indexed (now file) h (now work) × RecordOf (now file) (i .0) place × (i .0 < h .statements) × CallOf (flowOf (now file)) (now work) (i .0) call × ((l : List ℕ) × Waits (now work) (h .statements) width first l) ⌝ }
+    ensures { λ r. ⌜ Sent (flowOf (now (file .entry))) (now (work .entry)) (now (work .exit)) (h .statements) width (edgeRow (h .statements) width) first (i .0) (present (callSlots (flowOf (now (file .entry))) base (i .0) (call .continuation .0))) r ⌝ }
+{
+    let n = h.statements;
+    let back = layout::back_row(n, width);
+    let entered = push_lines(file, h, work, width, first, base, i, place, call);
+    let queue = push::push(
+        work,
+        n,
+        width,
+        entered,
+        back,
+        node(n, base, call.continuation),
+    );
+    push_others(file, work, n, width, queue, base, i, place, call)
+}
+
+// The masks of d go on along the edges of its statement i, which is a call that is not opaque.
+fn send_call(
+    file: &[u8],
+    h: flow::Header,
+    work: &mut [u64],
+    width: usize,
+    first: Queue,
+    d: NodeId,
+    base: Base,
+    i: StmtId,
+    place: usize,
+) -> Queue
+    requires { ⌜ (width ≡ setWords (h .arrays)) × Indexed (now file) h (now work) × Linked (flowOf (now file)) (now work) (h .statements) × (d .0 < 2 * h .statements) × RecordOf (now file) (i .0) place × (theory.at base (i .0) ≡ theory.node (flowOf (now file)) (d .0)) × (i .0 < h .statements) × (transparentCall (flowOf (now file)) (i .0) ≡ true) × Shared (flowOf (now file)) (now work) (h .statements) width × ((l : List ℕ) × Waits (now work) (h .statements) width first l) ⌝ }
+    ensures { λ r. ⌜ Sends (flowOf (now (file .entry))) (now (work .entry)) (now (work .exit)) (h .statements) width first (d .0) r ⌝ }
+{
+    transfer::call_rows(file, h, work, width, d, i, place);
+    let call = edges::call_of(file, work, h.statements, i, place);
+    push_call(file, h, work, width, first, base, i, place, call)
+}
+
+// The row at `from` goes along the edges of that copy of statement i, which is no such call.
+fn push_plain(
+    file: &[u8],
+    work: &mut [u64],
+    n: usize,
+    width: usize,
+    first: Queue,
+    base: Base,
+    i: StmtId,
+    place: usize,
+    from: usize,
+) -> Queue
+    requires { ⌜ (width ≤ maxWidth) × Ready (now file) (now work) n × Linked (flowOf (now file)) (now work) n × RecordOf (now file) (i .0) place × (i .0 < n) × (transparentCall (flowOf (now file)) (i .0) ≡ false) × Source n width from × Shared (flowOf (now file)) (now work) n width × ((l : List ℕ) × Waits (now work) n width first l) ⌝ }
+    ensures { λ r. ⌜ Goes (flowOf (now (file .entry))) (now (work .entry)) (now (work .exit)) n width (λ _. from) first (i .0) (present (slots (flowOf (now (file .entry))) (theory.at base (i .0)))) r ⌝ }
+{
+    if records::kind(file, place) != KIND_RETURN {
+        return push_listed(file, work, n, width, first, base, i, place, from);
+    }
+    match base {
+        Base::Zero => push_return(file, work, n, width, first, i, from),
+        // A RETURN of base n goes nowhere.
+        Base::N => first,
     }
 }
 
@@ -85,36 +352,19 @@ fn send(
     first: Queue,
     d: NodeId,
 ) -> Queue
-    requires { ⌜ (width ≡ setWords (h .arrays)) × Indexed (now file) h (now work) × Linked (flowOf (now file)) (now work) (h .statements) × (d .0 < 2 * h .statements) × ((w : List ℕ) × Waits (now work) (h .statements) first w) ⌝ }
+    requires { ⌜ (width ≡ setWords (h .arrays)) × Indexed (now file) h (now work) × Linked (flowOf (now file)) (now work) (h .statements) × (d .0 < 2 * h .statements) × Shared (flowOf (now file)) (now work) (h .statements) width × ((l : List ℕ) × Waits (now work) (h .statements) width first l) ⌝ }
     ensures { λ r. ⌜ Sends (flowOf (now (file .entry))) (now (work .entry)) (now (work .exit)) (h .statements) width first (d .0) r ⌝ }
 {
     let n = h.statements;
     let copy = doubled::copy_of(n, d);
     let base = copy.base;
     let i = copy.stmt;
-    let es = edges::edges_of(file, h, work, base, i);
-    transfer::edge_rows(file, h, work, width, d, es);
-    push_edges(file, h, work, width, first, es)
-}
-
-// d was visited, and its masks have not grown since.
-fn unchanged(work: &[u64], n: usize, d: NodeId) -> bool
-    requires { ⌜ (n ≤ maxStatements) × (setRow n ≤ length (now work)) × (d .0 < 2 * n) ⌝ }
-    ensures { λ r. ⌜ r ≡ (eqb (has (now (work .entry)) (visitedAt n) (d .0)) 1 && eqb (has (now (work .entry)) (grownAt n) (d .0)) 0) ⌝ }
-{
-    if words::contains(work, layout::visited(n), d.0) {
-        return !words::contains(work, layout::grown(n), d.0);
+    let place = fields::offset(file, work, n, i);
+    if edges::is_call(file, work, n, i, place) {
+        return send_call(file, h, work, width, first, d, base, i, place);
     }
-    false
-}
-
-// The visit of d is noted: its masks are as last set.
-fn note_visit(work: &mut [u64], n: usize, d: NodeId)
-    requires { ⌜ (n ≤ maxStatements) × (setRow n ≤ length (now work)) × (d .0 < 2 * n) ⌝ }
-    ensures { λ _. ⌜ now (work .exit) ≡ removed (inserted (now (work .entry)) (visitedAt n) (d .0)) (grownAt n) (d .0) ⌝ }
-{
-    words::insert(work, layout::visited(n), d.0);
-    words::remove(work, layout::grown(n), d.0);
+    let from = transfer::plain_row(file, h, work, width, d, i, place);
+    push_plain(file, work, n, width, first, base, i, place, from)
 }
 
 // One visit: the number's masks are what was pushed to it; at its first visit, or if they grew, they go on along its edges.
@@ -123,12 +373,11 @@ fn visit(file: &[u8], h: flow::Header, work: &mut [u64], width: usize, first: Qu
     ensures { λ r. ⌜ ((u : Underway (flowOf (now (file .entry))) (now (work .entry)) (h .statements) width first) → VisitsFront (flowOf (now (file .entry))) (now (work .entry)) (now (work .exit)) (h .statements) width first r u) × Keeps (queueAt (h .statements)) (areaEnd (h .statements) width) (now (work .entry)) (now (work .exit)) ⌝ }
 {
     let n = h.statements;
-    let d = nodes::take(work, n, first);
+    let d = nodes::take(work, n, width, first);
     let queue = solve::rest(n, first);
-    if unchanged(work, n, d) {
+    if nodes::settle(work, n, width, d) {
         return queue;
     }
-    note_visit(work, n, d);
     send(file, h, work, width, queue, d)
 }
 
@@ -139,7 +388,7 @@ pub fn array_states(file: &[u8], h: flow::Header, work: &mut [u64]) -> u64
 {
     let n = h.statements;
     let width = set_words(h.arrays);
-    let entry = doubled::node(n, Base::Zero, h.entry);
+    let entry = node(n, Base::Zero, h.entry);
     transfer::reset_row(
         work,
         h.arrays,
@@ -148,7 +397,7 @@ pub fn array_states(file: &[u8], h: flow::Header, work: &mut [u64]) -> u64
         layout::mask_row(n, width, entry),
         layout::out_row(n, width),
     );
-    let mut queue = nodes::enqueue(work, n, Queue { head: 0, len: 0 }, entry);
+    let mut queue = nodes::enqueue(work, n, width, Queue { head: 0, len: 0 }, entry);
     let mut visits = 0u64;
     while 0 < queue.len {
         queue = visit(file, h, work, width, queue);

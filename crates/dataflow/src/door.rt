@@ -27,7 +27,8 @@ fn summarize(file: &[u8], h: flow::Header, work: &mut [u64])
     calls::summary::summarize_calls(file, h, work);
 }
 
-// What the edges are made from. The queue's words served as a stack, and the row of entered statements was used: both are zeroed for the solver.
+// What the edges are made from. The queue's words served as a stack, and the rows of entered statements and of RETURNs were used: all are zeroed for
+// the solver.
 fn link(file: &[u8], h: flow::Header, work: &mut [u64])
     requires { ⌜ SummariesMade (now file) h (now work) × (0 < h .statements) ⌝ }
     ensures { λ _. ⌜ SolverStart (now (file .entry)) h (now (work .exit)) ⌝ }
@@ -35,7 +36,8 @@ fn link(file: &[u8], h: flow::Header, work: &mut [u64])
     let n = h.statements;
     calls::returns::note_edges(file, h, work);
     let queue = layout::queue(n);
-    words::zero_row(work, queue, layout::solver(n) - queue);
+    let end = layout::returns_row(n) + layout::row_words(n);
+    words::zero_row(work, queue, end - queue);
 }
 
 fn solve_arrays(file: &[u8], h: flow::Header, masks: &mut [u8], work: &mut [u64]) -> u64

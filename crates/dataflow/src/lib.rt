@@ -1,6 +1,7 @@
 // `array_states` and live names: the answer to a flow file.
 pub mod arrays;
 pub mod door;
+pub mod held;
 pub mod transfer;
 pub mod write;
 

@@ -1,6 +1,6 @@
 // What a statement does to the masks of a doubled number, on the way to its edges: which arrays take an effect is noted as a set, and the row of masks steps.
 ghost use mathlib.Core.Path.{_≡_};
-ghost use mathlib.Core.Bool.{_&&_, cond};
+ghost use mathlib.Core.Bool.{true, _&&_, cond};
 ghost use mathlib.Core.Logic.{_⊎_};
 ghost use Prim.Native.Nat.{ℕ, _+_, _*_, _<_, _≤_};
 ghost use lib.Dec.{eqb, ltb};
@@ -14,17 +14,15 @@ ghost use Rattle.flow.specs.contracts.Answers.{FitFile};
 ghost use Rattle.theory.specs.Lists as lists;
 ghost use Rattle.theory.specs.Body.{kind, references};
 ghost use Rattle.theory.specs.Doubled as doubled;
-ghost use Rattle.theory.specs.Doubled.{dims, at};
+ghost use Rattle.theory.specs.Doubled.{dims};
 ghost use Rattle.statements.specs.contracts.Layout.{callTouchedAt, setWords, maxWidth};
 ghost use Rattle.statements.specs.contracts.Ready.{Indexed, RecordOf};
 ghost use Rattle.calls.specs.contracts.Held.{Linked};
-ghost use Rattle.calls.specs.contracts.Class.{EdgesOf};
-ghost use Rattle.solve.specs.contracts.Layout.{outRow, backRow, areaEnd};
+ghost use Rattle.calls.specs.contracts.Class.{transparentCall};
+ghost use Rattle.solve.specs.contracts.Layout.{outRow, backRow, maskRowAt, areaEnd};
 ghost use Rattle.solve.specs.contracts.Rows.{RowIs, maskAt, stepWhere, member};
-ghost use Rattle.dataflow.specs.contracts.Transfer.{isCall, SetIs, SetGains, RowSteps, RowsApart, Acted};
-ghost use Rattle.dataflow.specs.contracts.Sent.{Prepared};
-use calls::edges::EdgeClass;
-use calls::edges::Edges;
+ghost use Rattle.dataflow.specs.contracts.Transfer.{SetIs, SetGains, RowSteps, RowsApart, Acted, Idle};
+ghost use Rattle.dataflow.specs.contracts.Sent.{edgeRow, Prepared};
 use flow::NodeId;
 use flow::StmtId;
 use masks::Effect;
@@ -143,6 +141,20 @@ fn dim_row(
     rows::step_members(work, width, to, from, set, Effect::Dim);
 }
 
+// Whether statement i, whose record is at p, does anything to masks.
+fn acts(file: &[u8], i: StmtId, p: usize) -> bool
+    requires { ⌜ RecordOf (now file) (i .0) p ⌝ }
+    ensures { λ r. ⌜ Idle (flowOf (now (file .entry))) (i .0) r ⌝ }
+{
+    if fields::resets(file, i, p) {
+        return true;
+    }
+    if 0 < records::item_count(file, p) {
+        return true;
+    }
+    0 < records::reference_count(file, p)
+}
+
 // The act of statement i on the masks of d, into the row for its edges. The row of the other edge serves between the two steps of a DIM.
 fn transfer(
     file: &[u8],
@@ -154,7 +166,7 @@ fn transfer(
     p: usize,
 )
     requires { ⌜ (width ≡ setWords (h .arrays)) × Indexed (now file) h (now work) × (d .0 < 2 * h .statements) × RecordOf (now file) (i .0) p ⌝ }
-    ensures { λ _. ⌜ Acted (flowOf (now (file .entry))) (now (work .entry)) (now (work .exit)) (h .statements) width (d .0) (i .0) ⌝ }
+    ensures { λ _. ⌜ Acted (flowOf (now (file .entry))) (now (work .entry)) (now (work .exit)) (h .statements) width (d .0) (i .0) (outRow (h .statements) width) ⌝ }
 {
     let n = h.statements;
     let set = layout::set_row(n);
@@ -173,6 +185,28 @@ fn transfer(
     dim_row(file, work, i, p, width, set, out, back);
 }
 
+// Where the row stands that goes along all edges of d, whose statement i is no call that is not opaque: where the statement does nothing to masks,
+// it is the number's own.
+pub fn plain_row(
+    file: &[u8],
+    h: flow::Header,
+    work: &mut [u64],
+    width: usize,
+    d: NodeId,
+    i: StmtId,
+    p: usize,
+) -> usize
+    requires { ⌜ (width ≡ setWords (h .arrays)) × Indexed (now file) h (now work) × (d .0 < 2 * h .statements) × RecordOf (now file) (i .0) p ⌝ }
+    ensures { λ r. ⌜ Acted (flowOf (now (file .entry))) (now (work .entry)) (now (work .exit)) (h .statements) width (d .0) (i .0) r × ((r ≡ outRow (h .statements) width) ⊎ (r ≡ maskRowAt (h .statements) width (d .0))) ⌝ }
+{
+    let n = h.statements;
+    if acts(file, i, p) {
+        transfer(file, h, work, width, d, i, p);
+        return layout::out_row(n, width);
+    }
+    layout::mask_row(n, width, d)
+}
+
 // The masks on the edge to the continuation of the call i, which is not opaque: those of its other edges, with the touched step.
 fn transfer_back(work: &mut [u64], n: usize, width: usize, i: StmtId)
     requires { ⌜ (n ≤ maxStatements) × (width ≤ maxWidth) × (areaEnd n width ≤ length (now work)) × (i .0 < n) ⌝ }
@@ -188,28 +222,20 @@ fn transfer_back(work: &mut [u64], n: usize, width: usize, i: StmtId)
     );
 }
 
-// The edges are those of a call that is not opaque, of which one carries the touched step.
-fn is_call(class: EdgeClass) -> bool
-    ensures { λ r. ⌜ r ≡ isCall class ⌝ }
+// The rows that go along the edges of d, whose statement i is a call that is not opaque. They are not the number's own, which the edge to the continuation
+// may change while others are still to be sent.
+pub fn call_rows(
+    file: &[u8],
+    h: flow::Header,
+    work: &mut [u64],
+    width: usize,
+    d: NodeId,
+    i: StmtId,
+    p: usize,
+)
+    requires { ⌜ (width ≡ setWords (h .arrays)) × Indexed (now file) h (now work) × Linked (flowOf (now file)) (now work) (h .statements) × (d .0 < 2 * h .statements) × RecordOf (now file) (i .0) p × (i .0 ≡ doubled.node (flowOf (now file)) (d .0) .stmt) × (i .0 < h .statements) × (transparentCall (flowOf (now file)) (i .0) ≡ true) ⌝ }
+    ensures { λ _. ⌜ Prepared (flowOf (now (file .entry))) (now (work .entry)) (now (work .exit)) (h .statements) width (d .0) (edgeRow (h .statements) width) ⌝ }
 {
-    match class {
-        EdgeClass::Listed(_) => false,
-        EdgeClass::Return(_) => false,
-        EdgeClass::Nowhere => false,
-        EdgeClass::Call(_) => true,
-    }
-}
-
-// The rows that go along the edges of d.
-pub fn edge_rows(file: &[u8], h: flow::Header, work: &mut [u64], width: usize, d: NodeId, es: Edges)
-    requires { ⌜ (width ≡ setWords (h .arrays)) × Indexed (now file) h (now work) × Linked (flowOf (now file)) (now work) (h .statements) × (d .0 < 2 * h .statements) × EdgesOf (now file) es × (at (es .base) (es .stmt .0) ≡ doubled.node (flowOf (now file)) (d .0)) ⌝ }
-    ensures { λ _. ⌜ Prepared (flowOf (now (file .entry))) (now (work .entry)) (now (work .exit)) (h .statements) width (d .0) ⌝ }
-{
-    let n = h.statements;
-    let i = es.stmt;
-    transfer(file, h, work, width, d, i, es.place);
-    let class = es.class;
-    if is_call(class) {
-        transfer_back(work, n, width, i);
-    }
+    transfer(file, h, work, width, d, i, p);
+    transfer_back(work, h.statements, width, i);
 }

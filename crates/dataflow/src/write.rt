@@ -1,14 +1,14 @@
 // The masks as bytes, statement by statement: the union over both copies. The sets of a statement become bytes eight arrays at a time.
 ghost use Prim.Native.Nat.{_+_, _-_, _*_, _<_, _≤_, min};
 ghost use mathlib.Core.Path.{_≡_};
-ghost use lib.ListN.{length};
+ghost use lib.ListN.{length, getD};
 ghost use Rattle.words.specs.contracts.Byte.{byteOf, bytes};
 ghost use Rattle.words.specs.contracts.Row.{bit};
 ghost use Rattle.words.specs.contracts.Change.{noted};
 ghost use Rattle.flow.specs.Limits.{maxStatements, maxArrays};
 ghost use Rattle.statements.specs.contracts.Layout.{setWords};
 ghost use Rattle.solve.specs.contracts.Layout.{areaEnd};
-ghost use Rattle.dataflow.specs.contracts.Bytes.{maskIn, EightMasks, joinedWord, joinedMask, bothCopies, notedRows};
+ghost use Rattle.dataflow.specs.contracts.Bytes.{maskIn, EightMasks, RowsHeld, bothWords, bothCopies, SameSets, Says, RowBefore, notedRows};
 use flow::Base;
 use flow::StmtId;
 use statements::doubled;
@@ -73,42 +73,81 @@ fn in_word(arrays: usize, k: usize) -> usize
     }
 }
 
-// Word k of the row at `zero` joined with that of the row at `other`.
-fn joined_word(work: &[u64], zero: usize, other: usize, k: usize) -> u64
-    requires { ⌜ (zero + k < length (now work)) × (other + k < length (now work)) ⌝ }
-    ensures { λ r. ⌜ r ≡ joinedWord (now (work .entry)) zero other k ⌝ }
+// Word k of the sets of statement i, joined over both copies.
+fn joined_word(work: &[u64], n: usize, width: usize, i: usize, k: usize) -> u64
+    requires { ⌜ RowsHeld (now work) n width × (i < n) × (k < 3 * width) ⌝ }
+    ensures { λ r. ⌜ r ≡ bothWords (now (work .entry)) n width i k ⌝ }
 {
+    let zero = solve::layout::mask_row(n, width, doubled::node(n, Base::Zero, StmtId(i)));
+    let other = solve::layout::mask_row(n, width, doubled::node(n, Base::N, StmtId(i)));
     work[zero + k] | work[other + k]
 }
 
-// The masks of two rows joined, from the byte at `at` on.
-fn write_row(masks: &mut [u8], at: usize, work: &[u64], zero: usize, other: usize, arrays: usize)
-    requires { ⌜ (arrays ≤ maxArrays) × (at + arrays ≤ length (now masks)) × (zero + 3 * setWords arrays ≤ length (now work)) × (other + 3 * setWords arrays ≤ length (now work)) ⌝ }
-    ensures { λ _. ⌜ now (masks .exit) ≡ noted (now (masks .entry)) at arrays (joinedMask (now (work .entry)) (setWords arrays) zero other) ⌝ }
+// The masks of statement i, made from its sets.
+fn write_row(masks: &mut [u8], work: &[u64], n: usize, arrays: usize, i: usize)
+    requires { ⌜ (arrays ≤ maxArrays) × RowsHeld (now work) n (setWords arrays) × (i < n) × (i * arrays + arrays ≤ length (now masks)) ⌝ }
+    ensures { λ _. ⌜ now (masks .exit) ≡ noted (now (masks .entry)) (i * arrays) arrays (bothCopies (now (work .entry)) n (setWords arrays) i) ⌝ }
 {
     let width = layout::set_words(arrays);
+    let at = i * arrays;
     let mut k = 0;
     while k < width {
-        let none = joined_word(work, zero, other, k);
-        let auto = joined_word(work, zero, other, width + k);
-        let dimmed = joined_word(work, zero, other, 2 * width + k);
+        let none = joined_word(work, n, width, i, k);
+        let auto = joined_word(work, n, width, i, width + k);
+        let dimmed = joined_word(work, n, width, i, 2 * width + k);
         write_word(masks, at + 64 * k, none, auto, dimmed, in_word(arrays, k));
         k += 1;
     }
+}
+
+// Whether statements i and j have the same sets, joined over both copies.
+fn same_sets(work: &[u64], n: usize, width: usize, i: usize, j: usize) -> bool
+    requires { ⌜ RowsHeld (now work) n width × (i < n) × (j < n) ⌝ }
+    ensures { λ r. ⌜ Says r (SameSets (now (work .entry)) n width i j) ⌝ }
+{
+    let mut k = 0;
+    while k < 3 * width {
+        if joined_word(work, n, width, i, k) != joined_word(work, n, width, j, k) {
+            return false;
+        }
+        k += 1;
+    }
+    true
+}
+
+// The `count` bytes from `from` on, once more behind them.
+fn repeat_bytes(masks: &mut [u8], from: usize, count: usize)
+    requires { ⌜ from + count + count ≤ length (now masks) ⌝ }
+    ensures { λ _. ⌜ now (masks .exit) ≡ noted (now (masks .entry)) (from + count) count (λ k. getD (now (masks .entry)) (from + k) 0) ⌝ }
+{
+    let mut k = 0;
+    while k < count {
+        masks[from + count + k] = masks[from + k];
+        k += 1;
+    }
+}
+
+// The masks of statement i. Most statements leave the masks as they were before them: those are copied.
+fn write_statement(masks: &mut [u8], work: &[u64], n: usize, arrays: usize, i: usize)
+    requires { ⌜ (arrays ≤ maxArrays) × RowsHeld (now work) n (setWords arrays) × (i < n) × (i * arrays + arrays ≤ length (now masks)) × RowBefore (now masks) (now work) n arrays i ⌝ }
+    ensures { λ _. ⌜ now (masks .exit) ≡ noted (now (masks .entry)) (i * arrays) arrays (bothCopies (now (work .entry)) n (setWords arrays) i) ⌝ }
+{
+    if 0 < i {
+        if same_sets(work, n, layout::set_words(arrays), i - 1, i) {
+            repeat_bytes(masks, (i - 1) * arrays, arrays);
+            return;
+        }
+    }
+    write_row(masks, work, n, arrays, i);
 }
 
 pub fn write_masks(masks: &mut [u8], work: &[u64], n: usize, arrays: usize)
     requires { ⌜ (n ≤ maxStatements) × (arrays ≤ maxArrays) × (n * arrays ≤ length (now masks)) × (areaEnd n (setWords arrays) ≤ length (now work)) ⌝ }
     ensures { λ _. ⌜ now (masks .exit) ≡ notedRows (now (masks .entry)) arrays (bothCopies (now (work .entry)) n (setWords arrays)) n ⌝ }
 {
-    let width = layout::set_words(arrays);
-    let mut at = 0;
     let mut i = 0;
     while i < n {
-        let zero = solve::layout::mask_row(n, width, doubled::node(n, Base::Zero, StmtId(i)));
-        let other = solve::layout::mask_row(n, width, doubled::node(n, Base::N, StmtId(i)));
-        write_row(masks, at, work, zero, other, arrays);
-        at += arrays;
+        write_statement(masks, work, n, arrays, i);
         i += 1;
     }
 }

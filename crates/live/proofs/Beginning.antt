@@ -1,6 +1,6 @@
 -- One more sweep notes the statements from the last down to i in the rows of their successors; the columns below i are still empty. A statement whose live-in
 -- changed waits. One more statement at a time, from words of the worklist that are zero.
-use Prim.Native.Nat.{ℕ, _+_, _/_, _-_, _<_, _≤_}
+use Prim.Native.Nat.{ℕ, _+_, _/_, _%_, _-_, _<_, _≤_}
 use mathlib.Core.Bool.{Bool, true, false, cond}
 use mathlib.Core.List.{List, []}
 use mathlib.Core.Logic.{⊎-elim}
@@ -26,7 +26,8 @@ use Rattle.statements.specs.contracts.Ready.{Keeps}
 use Rattle.statements.proofs.WorkArea.{row-from, row-fits, member-word}
 use Rattle.statements.proofs.Keeps.{keeps-refl, keeps-trans, keeps-widen, keeps-zeroed}
 use Rattle.statements.proofs.Members.{zero-has}
-use Rattle.solve.specs.contracts.Layout.{visitedAt}
+use Rattle.solve.specs.contracts.Layout.{stateAt, nodesEnd}
+use Rattle.solve.proofs.Room as rows
 use Rattle.solve.specs.declared.Queue.{Queue}
 use Rattle.solve.specs.contracts.Waiting.{Waits}
 use Rattle.solve.proofs.Waiting.{waits-none, waits-kept, rest-keeps}
@@ -43,21 +44,21 @@ pub record Beginning (f : Flow) (n : ℕ) (ws₀ ws ins₀ ins outs₀ outs : Li
   pub noted : (k : ℕ) → i ≤ k → k < n → Column ws n k (successors f k)
   pub free : (k : ℕ) → k < i → Column ws n k []
   pub held : Held f i n ws ins outs q
-  pub kept : Keeps (matrixAt n) (visitedAt n) ws₀ ws
+  pub kept : Keeps (matrixAt n) (nodesEnd n 0) ws₀ ws
   pub in-area : Keeps 0 n ins₀ ins
   pub out-area : Keeps 0 n outs₀ outs
 
 -- the words of the worklist are zeroed
-module _ (ws : List ℕ) (n : ℕ) {vs : List ℕ} (fits : visitedAt n ≤ length ws) (e : vs ≡ zeroed ws (matrixAt n) (visitedAt n - matrixAt n)) where
-  cleared-word : (x : ℕ) → matrixAt n ≤ x → x < visitedAt n → getD vs x 0 ≡ 0
+module _ (ws : List ℕ) (n : ℕ) {vs : List ℕ} (fits : nodesEnd n 0 ≤ length ws) (e : vs ≡ zeroed ws (matrixAt n) (nodesEnd n 0 - matrixAt n)) where
+  cleared-word : (x : ℕ) → matrixAt n ≤ x → x < nodesEnd n 0 → getD vs x 0 ≡ 0
   cleared-word x l m =
       let here : matrixAt n + (x - matrixAt n) ≡ x = omega arith in
       ap (λ z. getD z x 0) e
-      ∙ subst (λ z. getD (zeroed ws (matrixAt n) (visitedAt n - matrixAt n)) z 0 ≡ 0) here
-      (zeroed-word ws (matrixAt n) (visitedAt n - matrixAt n) (omega (arith, row-from n n)) (x - matrixAt n) (omega (arith, row-from n n)))
+      ∙ subst (λ z. getD (zeroed ws (matrixAt n) (nodesEnd n 0 - matrixAt n)) z 0 ≡ 0) here
+      (zeroed-word ws (matrixAt n) (nodesEnd n 0 - matrixAt n) (omega (arith, row-from n n)) (x - matrixAt n) (omega (arith, row-from n n)))
 
-  pub cleared-kept : Keeps (matrixAt n) (visitedAt n) ws vs
-  cleared-kept = subst (λ z. Keeps (matrixAt n) (visitedAt n) ws z) (sym e) (keeps-zeroed ws (matrixAt n) (visitedAt n - matrixAt n) (le-refl _) (omega (arith, row-from n n)))
+  pub cleared-kept : Keeps (matrixAt n) (nodesEnd n 0) ws vs
+  cleared-kept = subst (λ z. Keeps (matrixAt n) (nodesEnd n 0) ws z) (sym e) (keeps-zeroed ws (matrixAt n) (nodesEnd n 0 - matrixAt n) (le-refl _) (omega (arith, row-from n n)))
 
   pub beginning-none : {f : Flow} {ins outs : List ℕ} → 0 < n → Sound f n ins → Beginning f n vs vs ins ins outs outs (record { head = 0; len = 0 }) n
   unfolding lists.elem
@@ -65,19 +66,19 @@ module _ (ws : List ℕ) (n : ℕ) {vs : List ℕ} (fits : visitedAt n ≤ lengt
     low = le-refl n;
     noted = λ k l m. absurd (omega arith);
     free = λ k l j m. zero-has vs (rowAt n j) k (cleared-word (rowAt n j + k / 64) (omega (arith, row-from n j)) (omega (arith, row-fits n m, member-word l)));
-    held = ([], waits-none p (λ x l m. cleared-word x (omega (arith, row-from n n)) m), solving-none sound);
+    held = ([], waits-none p (λ d m. ap (λ z. z % 2) (cleared-word (stateAt n 0 d) (omega (arith, row-from n n)) (omega (arith, rows.row-fits n 0 m)))), solving-none sound);
     kept = keeps-refl;
     in-area = keeps-refl;
     out-area = keeps-refl;
   }
 
-pub beginning-start : {s ws₀ ws vs ins₀ ins outs₀ outs : List ℕ} {n i : ℕ} {q : Queue} → LiveStart s ws₀ ins₀ outs₀ n → Keeps (matrixAt n) (visitedAt n) ws₀ ws
+pub beginning-start : {s ws₀ ws vs ins₀ ins outs₀ outs : List ℕ} {n i : ℕ} {q : Queue} → LiveStart s ws₀ ins₀ outs₀ n → Keeps (matrixAt n) (nodesEnd n 0) ws₀ ws
     → Beginning (flowOf s) n ws vs ins₀ ins outs₀ outs q i → LiveStart s vs ins outs n
 beginning-start a k b = start-keeps a (keeps-trans k (b .kept)) (b .in-area) (b .out-area)
 
 -- noting writes no word of the queue
-pub noted-waits : {f : Flow} {ws vs w : List ℕ} {n i : ℕ} {q : Queue} → Noted f ws vs n i → Waits ws n q w → Waits vs n q w
-noted-waits s h = waits-kept h (λ x l m. s .kept .above x l) (λ x l m. s .kept .above x (omega arith))
+pub noted-waits : {f : Flow} {ws vs w : List ℕ} {n i : ℕ} {q : Queue} → Noted f ws vs n i → Waits ws n 0 q w → Waits vs n 0 q w
+noted-waits s h = waits-kept h (λ x l m. s .kept .above x l) (λ d m. ap (λ z. z % 2) (s .kept .above _ (omega arith)))
 
 -- the list of those that wait, with the statement in it if it changed
 
@@ -123,7 +124,7 @@ module _ {s : List ℕ} {n : ℕ} {ws₀ ws vs us ins₀ ins ins′ outs₀ outs
         out-area = keeps-trans (b .out-area) (settled-out (u .settled) below);
       }
 
-pub beginning-all : {f : Flow} {n : ℕ} {ws₀ ws vs ins₀ ins outs₀ outs : List ℕ} {q : Queue} {i : ℕ} → Keeps (matrixAt n) (visitedAt n) ws₀ ws → Beginning f n ws vs ins₀ ins outs₀ outs q i → i ≤ 0
+pub beginning-all : {f : Flow} {n : ℕ} {ws₀ ws vs ins₀ ins outs₀ outs : List ℕ} {q : Queue} {i : ℕ} → Keeps (matrixAt n) (nodesEnd n 0) ws₀ ws → Beginning f n ws vs ins₀ ins outs₀ outs q i → i ≤ 0
     → Begun f n ws₀ vs ins₀ ins outs₀ outs q
 beginning-all {f} {n} {ws₀} {ws} {vs} {ins₀} {ins} {outs₀} {outs} {q} {i} k b l = record {
   predecessors = λ j m. b .noted j (omega arith) m;

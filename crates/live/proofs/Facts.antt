@@ -18,10 +18,10 @@ use Rattle.statements.specs.contracts.Ready.{Ready}
 use Rattle.statements.proofs.WorkArea.{row-fits}
 use Rattle.statements.proofs.Keeps.{ready-formed, ready-below}
 use Rattle.statements.proofs.WellFormed.{statement-in}
-use Rattle.solve.specs.contracts.Layout.{visitedAt}
+use Rattle.solve.specs.contracts.Layout.{nodesEnd}
 
 -- a row of the matrix, for those who read its words
-pub row-room : {n j row size : ℕ} → row ≡ rowAt n j → j < n → visitedAt n ≤ size → row + (n + 63) / 64 ≤ size
+pub row-room : {n j row size : ℕ} → row ≡ rowAt n j → j < n → nodesEnd n 0 ≤ size → row + (n + 63) / 64 ≤ size
 unfolding rowWords
 row-room {n} {j} {row} e l fits = let in-matrix : rowAt n j + (n + 63) / 64 ≤ queueAt n = row-fits n l in omega arith
 

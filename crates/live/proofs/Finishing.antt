@@ -10,7 +10,7 @@ use Rattle.statements.specs.contracts.Layout.{matrixAt}
 use Rattle.statements.specs.contracts.Ready.{Ready, Keeps}
 use Rattle.statements.proofs.WorkArea.{row-from}
 use Rattle.statements.proofs.Keeps.{keeps-refl, keeps-trans, keeps-widen}
-use Rattle.solve.specs.contracts.Layout.{visitedAt}
+use Rattle.solve.specs.contracts.Layout.{nodesEnd}
 use Rattle.solve.specs.declared.Queue.{Queue}
 use Rattle.solve.specs.contracts.Waiting.{Waits}
 use Rattle.solve.proofs.Waiting.{rest-keeps}
@@ -33,7 +33,7 @@ begun-more {f} {n} b v = record {
 }
 
 -- since before
-pub begun-since : {f : Flow} {n : ℕ} {ws vs us ins ins′ ins″ outs outs′ outs″ : List ℕ} {q : Queue} → Keeps (matrixAt n) (visitedAt n) ws vs → Keeps 0 n ins ins′ → Keeps 0 n outs outs′
+pub begun-since : {f : Flow} {n : ℕ} {ws vs us ins ins′ ins″ outs outs′ outs″ : List ℕ} {q : Queue} → Keeps (matrixAt n) (nodesEnd n 0) ws vs → Keeps 0 n ins ins′ → Keeps 0 n outs outs′
     → Begun f n vs us ins′ ins″ outs′ outs″ q → Begun f n ws us ins ins″ outs outs″ q
 begun-since k i o b = record {
   predecessors = b .predecessors;
@@ -46,10 +46,10 @@ begun-since k i o b = record {
 pub nothing-waits : {f : Flow} {n : ℕ} {ws ins outs : List ℕ} {q : Queue} → Held f 0 n ws ins outs q → q .len ≤ 0 → Solving f 0 n ins outs []
 nothing-waits {f} {n} {ws} {ins} {outs} {q} h l = go (h .0) (h .1) (h .2)
   where
-    go : (w : List ℕ) → Waits ws n q w → Solving f 0 n ins outs w → Solving f 0 n ins outs []
+    go : (w : List ℕ) → Waits ws n 0 q w → Solving f 0 n ins outs w → Solving f 0 n ins outs []
     go [] a b = b
     go (x ∷ w) a b = absurd (omega (arith, a .count))
 
 pub finished : {s ws vs ins ins′ outs outs′ : List ℕ} {n : ℕ} → Ready s ws n → Solving (flowOf s) 0 n ins′ outs′ [] → Keeps 0 n ins ins′ → Keeps 0 n outs outs′
-    → Keeps (matrixAt n) (visitedAt n) ws vs → LiveNames (flowOf s) n ws vs ins ins′ outs outs′
+    → Keeps (matrixAt n) (nodesEnd n 0) ws vs → LiveNames (flowOf s) n ws vs ins ins′ outs outs′
 finished r done i o k = record { live-in = solved-in r done; live-out = solved-out r done; in-area = i; out-area = o; work = k }

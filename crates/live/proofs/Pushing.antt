@@ -38,7 +38,7 @@ unfolding pushed
 pushed-other ws row live before k e = rw (ne-eqb (has ws row k) 1 (λ d. omega arith))
 
 -- no row of the matrix changes with the queue
-pub rest-row : {ws vs : List ℕ} {n : ℕ} → KeepsRest n ws vs → {j k : ℕ} → j < n → k < n → has vs (rowAt n j) k ≡ has ws (rowAt n j) k
+pub rest-row : {ws vs : List ℕ} {n : ℕ} → KeepsRest n 0 ws vs → {j k : ℕ} → j < n → k < n → has vs (rowAt n j) k ≡ has ws (rowAt n j) k
 rest-row {ws} {vs} {n} s {j} {k} l m = keeps-has (rest-keeps s) (rowAt n j) k (λ a b. omega (arith, row-fits n l, member-word m))
 
 pub pushing-none : {ws before : List ℕ} {n row i : ℕ} {q : Queue} {live : ℕ} → i ≡ nextMember ws row 0 n → Pushing ws ws before before n q q row live i

@@ -90,7 +90,7 @@ not-grown {before} {after} {i} {live} j e =
     j .slice ∙ ap (set before i) same ∙ set-getD before i 0
 
 pub pushed-waits : {ws vs before after : List ℕ} {n i live : ℕ} {q p : Queue} {r : Bool} → Joined before after i live r → r ≡ true → Words before → live < 2 ^ 64 → i < n → n ≤ length before
-    → Enqueued ws vs n q i p → PushedTo ws vs before after n q p i live
+    → Enqueued ws vs n 0 q i p → PushedTo ws vs before after n q p i live
 pushed-waits {ws} {vs} {before} {after} {n} {i} {live} {q} {p} j e words fits l room s = record {
   word = j .slice;
   spread = record {

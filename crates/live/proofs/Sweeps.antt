@@ -22,7 +22,7 @@ use Rattle.statements.specs.contracts.Layout.{matrixAt}
 use Rattle.statements.specs.contracts.Ready.{Keeps}
 use Rattle.statements.proofs.Keeps.{keeps-refl, keeps-trans, keeps-widen, keeps-set, keeps-zeroed, ready-keeps}
 use Rattle.solve.specs.declared.Queue.{Queue}
-use Rattle.solve.specs.contracts.Layout.{visitedAt}
+use Rattle.solve.specs.contracts.Layout.{nodesEnd}
 use Rattle.solve.specs.contracts.Waiting.{Enqueued}
 use Rattle.solve.proofs.Waiting.{rest-refl}
 use Rattle.live.specs.contracts.Predecessors.{Noted}
@@ -33,7 +33,7 @@ use Rattle.live.proofs.Sweeping.{solving-none, settled-sound, settled-s
 
 -- the words of the worklist stand above the noted places
 
-pub start-keeps : {s ws vs ins ins′ outs outs′ : List ℕ} {n : ℕ} → LiveStart s ws ins outs n → Keeps (matrixAt n) (visitedAt n) ws vs → Keeps 0 n ins ins′ → Keeps 0 n outs outs′
+pub start-keeps : {s ws vs ins ins′ outs outs′ : List ℕ} {n : ℕ} → LiveStart s ws ins outs n → Keeps (matrixAt n) (nodesEnd n 0) ws vs → Keeps 0 n ins ins′ → Keeps 0 n outs outs′
     → LiveStart s vs ins′ outs′ n
 start-keeps b k i o = record {
   ready = ready-keeps (b .ready) k (omega arith);
@@ -53,7 +53,7 @@ settled-out {n = n} {outs = outs} t l = subst (λ z. Keeps 0 n outs z) (sym (t .
 
 -- a statement that changed joins the back
 
-pub settled-waits : {f : Flow} {n i : ℕ} {ws vs ins ins′ outs outs′ : List ℕ} {q p : Queue} {r : Bool} → Settled f i ins ins′ outs outs′ r → r ≡ true → Enqueued ws vs n q i p
+pub settled-waits : {f : Flow} {n i : ℕ} {ws vs ins ins′ outs outs′ : List ℕ} {q p : Queue} {r : Bool} → Settled f i ins ins′ outs outs′ r → r ≡ true → Enqueued ws vs n 0 q i p
     → SettledOrWaits f n ws vs ins ins′ outs outs′ q p i
 settled-waits {r = r} t e u = record { changed = r; settled = t; waits = rw e (u .waits); kept = u .kept }
 

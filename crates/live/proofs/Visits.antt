@@ -23,35 +23,35 @@ use Rattle.live.proofs.Solution.{out-word}
 
 -- the queue's words are kept apart from the noted places and from the rows
 
-pub rest-ready : {s ws vs : List ℕ} {n : ℕ} → Ready s ws n → KeepsRest n ws vs → Ready s vs n
+pub rest-ready : {s ws vs : List ℕ} {n : ℕ} → Ready s ws n → KeepsRest n 0 ws vs → Ready s vs n
 rest-ready {n = n} r k = ready-keeps r (rest-keeps k) (omega (arith, row-from n n))
 
-pub rest-predecessors : (f : Flow) {ws vs : List ℕ} {n : ℕ} → KeepsRest n ws vs → Predecessors f ws n → Predecessors f vs n
+pub rest-predecessors : (f : Flow) {ws vs : List ℕ} {n : ℕ} → KeepsRest n 0 ws vs → Predecessors f ws n → Predecessors f vs n
 rest-predecessors f k rows i l j m = rest-row k m l ∙ rows i l j m
 
 -- a queue that holds numbers, by its front
 record Front (f : Flow) (n : ℕ) (ws ins outs : List ℕ) (q : Queue) : Type 0 where
   first : ℕ
   rest : List ℕ
-  waits : Waits ws n q (first ∷ rest)
+  waits : Waits ws n 0 q (first ∷ rest)
   solving : Solving f 0 n ins outs (first ∷ rest)
 
 front : {f : Flow} {n : ℕ} {ws ins outs : List ℕ} {q : Queue} → Held f 0 n ws ins outs q → 0 < q .len → Front f n ws ins outs q
 front {f} {n} {ws} {ins} {outs} {q} h l = go (h .0) (h .1) (h .2)
   where
-    go : (w : List ℕ) → Waits ws n q w → Solving f 0 n ins outs w → Front f n ws ins outs q
+    go : (w : List ℕ) → Waits ws n 0 q w → Solving f 0 n ins outs w → Front f n ws ins outs q
     go [] a b = absurd (omega (arith, a .count))
     go (x ∷ w) a b = record { first = x; rest = w; waits = a; solving = b }
 
-module _ {f : Flow} {n j : ℕ} {ws vs ins outs : List ℕ} {q : Queue} (h : Held f 0 n ws ins outs q) (l : 0 < q .len) (t : Taken ws vs n q j) where
+module _ {f : Flow} {n j : ℕ} {ws vs ins outs : List ℕ} {q : Queue} (h : Held f 0 n ws ins outs q) (l : 0 < q .len) (t : Taken ws vs n 0 q j) where
   pub taken-small : j < n
   taken-small = let c = front h l in let e = t .front (c .first) (c .rest) (c .waits) in let b = c .solving .small (c .first) (List·Memᴰ·head refl) in omega arith
 
-  pub taken-held : (p : Queue) → p ≡ restOf n q → (w : List ℕ) × Waits vs n p w
-  taken-held p e = let c = front h l in (c .rest, subst (λ z. Waits vs n z (c .rest)) (sym e) (t .waits (c .first) (c .rest) (c .waits)))
+  pub taken-held : (p : Queue) → p ≡ restOf n q → (w : List ℕ) × Waits vs n 0 p w
+  taken-held p e = let c = front h l in (c .rest, subst (λ z. Waits vs n 0 z (c .rest)) (sym e) (t .waits (c .first) (c .rest) (c .waits)))
 
 module _ {s ws vs us ins outs outs′ : List ℕ} {n j live : ℕ} {q p o : Queue} (r : Ready s ws n) (room : n ≤ length ins) (rows : Predecessors (flowOf s) ws n)
-    (h : Held (flowOf s) 0 n ws ins outs q) (l : 0 < q .len) (t : Taken ws vs n q j) (e : p ≡ restOf n q) (value : live ≡ transfer (flowOf s) j (getD outs j 0))
+    (h : Held (flowOf s) 0 n ws ins outs q) (l : 0 < q .len) (t : Taken ws vs n 0 q j) (e : p ≡ restOf n q) (value : live ≡ transfer (flowOf s) j (getD outs j 0))
     (u : PushedLive vs us outs outs′ n p o j live) where
   taken : Solving (flowOf s) 0 n ins outs (j ∷ (front h l .rest))
   taken =
@@ -62,7 +62,7 @@ module _ {s ws vs us ins outs outs′ : List ℕ} {n j live : ℕ} {q p o : Queu
   visited =
       let c = front h l in
       let small = taken-small h l t in
-      let after = u .spread .waits (c .rest) (subst (λ z. Waits vs n z (c .rest)) (sym e) (t .waits (c .first) (c .rest) (c .waits))) in
+      let after = u .spread .waits (c .rest) (subst (λ z. Waits vs n 0 z (c .rest)) (sym e) (t .waits (c .first) (c .rest) (c .waits))) in
       record {
         held = (
           after .0,

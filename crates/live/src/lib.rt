@@ -9,7 +9,7 @@ ghost use Rattle.flow.specs.Format.{flowOf};
 ghost use Rattle.words.specs.contracts.Change.{zeroed};
 ghost use Rattle.statements.specs.contracts.Layout.{matrixAt};
 ghost use Rattle.statements.specs.contracts.Ready.{Ready};
-ghost use Rattle.solve.specs.contracts.Layout.{visitedAt};
+ghost use Rattle.solve.specs.contracts.Layout.{nodesEnd};
 ghost use Rattle.solve.specs.contracts.Waiting.{Waits};
 ghost use Rattle.live.specs.contracts.Predecessors.{Column, Noted, Predecessors};
 ghost use Rattle.live.specs.contracts.Spread.{PushedTo, PushedLive};
@@ -47,7 +47,7 @@ fn push_to(
     i: StmtId,
     live: u64,
 ) -> Queue
-    requires { ⌜ (n ≤ maxStatements) × (visitedAt n ≤ length (now work)) × (n ≤ length (now «live_out»)) × (i .0 < n) × ((w : List ℕ) × Waits (now work) n queue w) ⌝ }
+    requires { ⌜ (n ≤ maxStatements) × (nodesEnd n 0 ≤ length (now work)) × (n ≤ length (now «live_out»)) × (i .0 < n) × ((w : List ℕ) × Waits (now work) n 0 queue w) ⌝ }
     ensures { λ r. ⌜ PushedTo (now (work .entry)) (now (work .exit)) (now («live_out» .entry)) (now («live_out» .exit)) n queue r (i .0) live ⌝ }
 {
     if words::union_word(live_out, i.0, live) {
@@ -65,7 +65,7 @@ fn push_live(
     j: StmtId,
     live: u64,
 ) -> Queue
-    requires { ⌜ (n ≤ maxStatements) × (visitedAt n ≤ length (now work)) × (n ≤ length (now «live_out»)) × (j .0 < n) × ((w : List ℕ) × Waits (now work) n start w) ⌝ }
+    requires { ⌜ (n ≤ maxStatements) × (nodesEnd n 0 ≤ length (now work)) × (n ≤ length (now «live_out»)) × (j .0 < n) × ((w : List ℕ) × Waits (now work) n 0 start w) ⌝ }
     ensures { λ r. ⌜ PushedLive (now (work .entry)) (now (work .exit)) (now («live_out» .entry)) (now («live_out» .exit)) n start r (j .0) live ⌝ }
 {
     let row = layout::row(n, j);
@@ -100,13 +100,13 @@ fn visit(
     push_live(work, live_out, n, queue, j, live)
 }
 
-// The words that the worklist counts on: the matrix, the queue and those that say what waits.
+// The words that the worklist counts on: the matrix, the queue and those of the numbers that wait.
 fn clear(work: &mut [u64], n: usize)
-    requires { ⌜ (n ≤ maxStatements) × (visitedAt n ≤ length (now work)) ⌝ }
-    ensures { λ _. ⌜ now (work .exit) ≡ zeroed (now (work .entry)) (matrixAt n) (visitedAt n - matrixAt n) ⌝ }
+    requires { ⌜ (n ≤ maxStatements) × (nodesEnd n 0 ≤ length (now work)) ⌝ }
+    ensures { λ _. ⌜ now (work .exit) ≡ zeroed (now (work .entry)) (matrixAt n) (nodesEnd n 0 - matrixAt n) ⌝ }
 {
     let matrix = layout::matrix(n);
-    words::zero_row(work, matrix, solve::layout::visited(n) - matrix);
+    words::zero_row(work, matrix, solve::layout::nodes_end(n, 0) - matrix);
 }
 
 // Statement i is settled; if its live-in changed, it waits.
@@ -119,7 +119,7 @@ fn settle_or_wait(
     waiting: Queue,
     i: StmtId,
 ) -> Queue
-    requires { ⌜ LiveStart (now file) (now work) (now «live_in») (now «live_out») n × (i .0 < n) × ((w : List ℕ) × Waits (now work) n waiting w) ⌝ }
+    requires { ⌜ LiveStart (now file) (now work) (now «live_in») (now «live_out») n × (i .0 < n) × ((w : List ℕ) × Waits (now work) n 0 waiting w) ⌝ }
     ensures { λ q. ⌜ SettledOrWaits (flowOf (now (file .entry))) n (now (work .entry)) (now (work .exit)) (now («live_in» .entry)) (now («live_in» .exit)) (now («live_out» .entry)) (now («live_out» .exit)) waiting q (i .0) ⌝ }
 {
     if sweep::settle(file, work, live_in, live_out, n, i) {

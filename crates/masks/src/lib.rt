@@ -51,7 +51,7 @@ fn spread(mask: u8, s: u8) -> u64
 
 // 64 arrays take the effect together; their masks stand as the sets of the arrays that hold NONE, AUTO and DIMMED. Those that then hold state s, a bit of
 // a mask: all of them if the effect makes it of the empty mask, and those with a state that it turns into s. So each bit comes from `step`.
-pub fn holders(effect: Effect, s: u8, none: u64, auto: u64, dimmed: u64) -> u64
+fn holders_of(effect: Effect, s: u8, none: u64, auto: u64, dimmed: u64) -> u64
     requires { ⌜ s < 3 ⌝ }
     ensures { λ r. ⌜ Holders effect s none auto dimmed r ⌝ }
 {
@@ -60,4 +60,18 @@ pub fn holders(effect: Effect, s: u8, none: u64, auto: u64, dimmed: u64) -> u64
     let from_auto = auto & spread(step(effect, AUTO), s);
     let from_dimmed = dimmed & spread(step(effect, DIMMED), s);
     (always | from_none) | (from_auto | from_dimmed)
+}
+
+// The same, with the effect named in each arm: there the steps are constants, and what is left is so little that it goes into the callers.
+pub fn holders(effect: Effect, s: u8, none: u64, auto: u64, dimmed: u64) -> u64
+    requires { ⌜ s < 3 ⌝ }
+    ensures { λ r. ⌜ Holders effect s none auto dimmed r ⌝ }
+{
+    match effect {
+        Effect::None => holders_of(Effect::None, s, none, auto, dimmed),
+        Effect::Reference => holders_of(Effect::Reference, s, none, auto, dimmed),
+        Effect::Dim => holders_of(Effect::Dim, s, none, auto, dimmed),
+        Effect::Reset => holders_of(Effect::Reset, s, none, auto, dimmed),
+        Effect::Touched => holders_of(Effect::Touched, s, none, auto, dimmed),
+    }
 }

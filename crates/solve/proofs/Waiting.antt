@@ -1,6 +1,6 @@
 -- The laws of the queue: which numbers wait when one joins the back or the front is taken, with what is stored; and what writes elsewhere keep of it.
 -- The ring has room for one more, since the numbers that wait are below 2 n and none stands there twice. Assumes nothing.
-use Prim.Native.Nat.{ℕ, suc, _+_, _*_, _/_, _≤_, _<_}
+use Prim.Native.Nat.{ℕ, suc, _+_, _*_, _-_, _/_, _%_, _≤_, _<_}
 use mathlib.Core.Bool.{Bool, true, false, cond}
 use mathlib.Core.List.{List, [], _∷_, _++_, List·Memᴰ·head, List·Memᴰ·tail, List·Memᴰ·not-nil}
 use mathlib.Core.Logic.{⊎-elim, _≢_}
@@ -8,238 +8,310 @@ use mathlib.Core.Path.{_≡_, refl, sym, _∙_, ap, subst}
 use native.Mathlib.Decide.{decLt, ℕ-discrete}
 use native.Mathlib.Nat.{add-zero}
 use native.Mathlib.Omega.{arith}
-use borrow.Author.Tests.{eq-eqb, ne-eqb, eqb-true, eqb-false}
+use borrow.Author.Tests.{ne-eqb}
 use lib.ListN.{length, getD, set, length-set, length-append, List·getD-append}
-use lib.Seq.{getD-set-same, getD-set-other, getD-append-add}
-use lib.Dec.{eqb}
-use Rattle.words.specs.contracts.Row.{has, Words}
-use Rattle.words.specs.contracts.Change.{inserted, removed}
-use Rattle.words.proofs.Row.{has-lt, has-cong}
-use Rattle.words.proofs.Inserted.{length-inserted, inserted-other, insert-same, insert-other, insert-again}
-use Rattle.words.proofs.Removed.{removed-other, remove-same, remove-other}
+use lib.Seq.{getD-set-same, getD-set-other, getD-append-add, set-set, set-comm}
 use Rattle.theory.specs.Lists.{In, elem, Distinct}
 use Rattle.theory.specs.Queue.{join}
-use Rattle.theory.proofs.Lists.{clash, not-so, elem-In, elem-last, elem-before}
+use Rattle.theory.proofs.Lists.{not-so, elem-In, elem-last, elem-before}
 use Rattle.theory.proofs.Enqueue.{join-distinct, join-cases, distinct-length}
-use Rattle.statements.specs.contracts.Layout.{queueAt, enteredRowAt}
+use Rattle.statements.specs.contracts.Layout.{queueAt, solverAt}
 use Rattle.statements.specs.contracts.Ready.{Keeps}
-use Rattle.statements.proofs.Keeps.{keeps-inserted, keeps-removed}
-use Rattle.statements.proofs.Members.{zero-has}
 use Rattle.solve.specs.declared.Queue.{Queue}
-use Rattle.solve.specs.contracts.Layout.{waitingAt, visitedAt}
-use Rattle.solve.specs.contracts.Waiting.{wrapped, Waits, KeepsRest, Enqueued, restOf, Taken}
+use Rattle.solve.specs.contracts.Layout.{stateAt, waitsIn, settledIn, nodesEnd}
+use Rattle.solve.specs.contracts.Waiting.{wrapped, ringWords, Waits, KeepsRest, Enqueued, joins, unsettled, restOf, Taken}
+use Rattle.solve.proofs.Room.{rows-apart, row-from, row-fits}
 use Rattle.solve.proofs.Wrapped.{wrapped-in, wrapped-lt, wrapped-next, wrapped-apart}
 
 -- What is kept
 
-pub rest-refl : {n : ℕ} {ws : List ℕ} → KeepsRest n ws ws
-rest-refl = record { size = refl; below = λ x l. refl; between = λ x l m. refl; above = λ x l. refl }
-
-pub rest-trans : {n : ℕ} {ws vs us : List ℕ} → KeepsRest n ws vs → KeepsRest n vs us → KeepsRest n ws us
+pub rest-trans : {n w : ℕ} {ws vs us : List ℕ} → KeepsRest n w ws vs → KeepsRest n w vs us → KeepsRest n w ws us
 rest-trans a b = record {
   size = b .size ∙ a .size;
   below = λ x l. b .below x l ∙ a .below x l;
-  between = λ x l m. b .between x l m ∙ a .between x l m;
-  above = λ x l. b .above x l ∙ a .above x l;
+  above = λ x l m. b .above x l m ∙ a .above x l m;
+  settled = λ d l. b .settled d l ∙ a .settled d l;
 }
 
-pub rest-keeps : {n : ℕ} {ws vs : List ℕ} → KeepsRest n ws vs → Keeps (queueAt n) (visitedAt n) ws vs
-rest-keeps k = record { size = k .size; below = k .below; above = k .above }
+pub rest-refl : {n w : ℕ} {ws : List ℕ} → KeepsRest n w ws ws
+rest-refl = record { size = refl; below = λ x l. refl; above = λ x l m. refl; settled = λ d l. refl }
 
--- a change of the set of what waits, and of a place of the ring
+pub rest-keeps : {n w : ℕ} {ws vs : List ℕ} → KeepsRest n w ws vs → Keeps (queueAt n) (nodesEnd n w) ws vs
+rest-keeps {n} {w} k = record {
+  size = k .size;
+  below = k .below;
+  above = λ x l. k .above x (let low = row-from n w (2 * n) in omega arith) (λ d m q. let fits = row-fits n w m in omega arith);
+}
 
-set-changed : {ws vs : List ℕ} {n : ℕ} → Keeps (waitingAt n) (visitedAt n) ws vs → KeepsRest n ws vs
-set-changed k = record { size = k .size; below = λ x m. k .below x (omega arith); between = λ x m o. k .below x o; above = k .above }
+-- the states are apart
+pub states-apart : (n w : ℕ) {e d : ℕ} → e ≢ d → stateAt n w e ≢ stateAt n w d
+states-apart n w {e} {d} ne q = go (decLt e d)
+  where
+    go : Dec (e < d) → ⊥
+    go (yes l) = omega (arith, rows-apart n w l)
+    go (no l) = let less : d < e = omega (arith, l, ne) in omega (arith, rows-apart n w less)
 
-slot-stored : (ws : List ℕ) (n : ℕ) {j : ℕ} (v : ℕ) → j < 2 * n → KeepsRest n ws (set ws (queueAt n + j) v)
-slot-stored ws n {j} v l = record {
+-- a change of a place of the ring, and of a state's last bit
+
+slot-stored : (ws : List ℕ) (n w : ℕ) {j : ℕ} (v : ℕ) → j < ringWords n → KeepsRest n w ws (set ws (queueAt n + j) v)
+slot-stored ws n w {j} v l = record {
   size = length-set ws (queueAt n + j) v;
   below = λ x m. getD-set-other ws (queueAt n + j) x v 0 (λ e. omega arith);
-  between = λ x m o. getD-set-other ws (queueAt n + j) x v 0 (λ e. omega arith);
-  above = λ x m. getD-set-other ws (queueAt n + j) x v 0 (λ e. omega arith);
+  above = λ x m o. getD-set-other ws (queueAt n + j) x v 0 (λ e. omega arith);
+  settled = λ d m. ap (λ z. z / 2) (getD-set-other ws (queueAt n + j) (stateAt n w d) v 0 (λ e. omega arith));
 }
 
+state-stored : (ws : List ℕ) (n w : ℕ) {d : ℕ} (v : ℕ) → d < 2 * n → nodesEnd n w ≤ length ws → v / 2 ≡ settledIn ws n w d → KeepsRest n w ws (set ws (stateAt n w d) v)
+state-stored ws n w {d} v l fits half = record {
+  size = length-set ws (stateAt n w d) v;
+  below = λ x m. getD-set-other ws (stateAt n w d) x v 0 (λ e. omega arith);
+  above = λ x m o. getD-set-other ws (stateAt n w d) x v 0 (o d l);
+  settled = λ e m. at e (ℕ-discrete e d);
+}
+  where
+    at : (e : ℕ) → Dec (e ≡ d) → settledIn (set ws (stateAt n w d) v) n w e ≡ settledIn ws n w e
+    at e (yes q) =
+        ap (settledIn (set ws (stateAt n w d) v) n w) q
+        ∙ ap (λ z. z / 2) (getD-set-same ws (stateAt n w d) v 0 (let inside = row-fits n w l in omega arith))
+        ∙ half
+        ∙ sym (ap (settledIn ws n w) q)
+    at e (no q) = ap (λ z. z / 2) (getD-set-other ws (stateAt n w d) (stateAt n w e) v 0 (states-apart n w q))
+
 -- a queue stays where its own words stay
-pub waits-kept : {n : ℕ} {ws vs : List ℕ} {queue : Queue} {w : List ℕ} → Waits ws n queue w
-    → ((x : ℕ) → queueAt n ≤ x → x < enteredRowAt n → getD vs x 0 ≡ getD ws x 0)
-    → ((x : ℕ) → waitingAt n ≤ x → x < visitedAt n → getD vs x 0 ≡ getD ws x 0) → Waits vs n queue w
-waits-kept {n} {ws} {vs} {queue} {w} h slots flags = record {
+pub waits-kept : {n w : ℕ} {ws vs : List ℕ} {queue : Queue} {l : List ℕ} → Waits ws n w queue l
+    → ((x : ℕ) → queueAt n ≤ x → x < solverAt n → getD vs x 0 ≡ getD ws x 0)
+    → ((d : ℕ) → d < 2 * n → waitsIn vs n w d ≡ waitsIn ws n w d) → Waits vs n w queue l
+waits-kept {n} {w} {ws} {vs} {queue} {l} h slots flags = record {
   count = h .count;
   front = h .front;
-  slot = λ k l.
-      let few : length w ≤ 2 * n = distinct-length (2 * n) w (h .distinct) (h .below) in
-      let place : wrapped (2 * n) (queue .head + k) < 2 * n = wrapped-lt (2 * n) (queue .head + k) (omega (arith, h .front)) in
-      slots (queueAt n + wrapped (2 * n) (queue .head + k)) (omega arith) (omega arith) ∙ h .slot k l;
-  flag = λ d l. has-cong vs ws (waitingAt n) d (flags (waitingAt n + d / 64) (omega arith) (omega arith)) ∙ h .flag d l;
+  slot = λ k m.
+      let few : length l ≤ 2 * n = distinct-length (2 * n) l (h .distinct) (h .below) in
+      let place : wrapped (ringWords n) (queue .head + k) < ringWords n = wrapped-lt (ringWords n) (queue .head + k) (omega (arith, h .front)) in
+      slots (queueAt n + wrapped (ringWords n) (queue .head + k)) (omega arith) (omega arith) ∙ h .slot k m;
+  flag = λ d m. flags d m ∙ h .flag d m;
   below = h .below;
   distinct = h .distinct;
 }
 
 -- nothing waits
-pub waits-none : {n : ℕ} {ws : List ℕ} → 0 < n → ((x : ℕ) → waitingAt n ≤ x → x < visitedAt n → getD ws x 0 ≡ 0)
-    → Waits ws n (record { head = 0; len = 0 }) []
+pub waits-none : {n w : ℕ} {ws : List ℕ} → 0 < n → ((d : ℕ) → d < 2 * n → waitsIn ws n w d ≡ 0)
+    → Waits ws n w (record { head = 0; len = 0 }) []
 unfolding elem
 waits-none p h = record {
   count = refl;
   front = omega arith;
   slot = λ k l. absurd (omega arith);
-  flag = λ d l. zero-has _ (waitingAt _) d (h _ (omega arith) (omega arith));
+  flag = h;
   below = λ d m. absurd (List·Memᴰ·not-nil m);
   distinct = Distinct.empty;
 }
 
--- what the set says of the number
-
-flag-false : (b : Bool) → _≡_ {A = ℕ} (cond b 1 0) 0 → b ≡ false
-flag-false true e = absurd (omega arith)
-flag-false false e = refl
-
-pub waits-false : {n d : ℕ} {ws : List ℕ} {queue : Queue} {w : List ℕ} → Waits ws n queue w → d < 2 * n → eqb (has ws (waitingAt n) d) 0 ≡ true → elem d w ≡ false
-waits-false {n} {d} {ws} {queue} {w} h l e = flag-false (elem d w) (sym (h .flag d l) ∙ eqb-true _ _ e)
-
-waits-true : {n d : ℕ} {ws : List ℕ} {queue : Queue} {w : List ℕ} → Waits ws n queue w → d < 2 * n → eqb (has ws (waitingAt n) d) 0 ≡ false → elem d w ≡ true
-waits-true {n} {d} {ws} {queue} {w} h l e = so (elem d w) (λ t. clash (eqb (has ws (waitingAt n) d) 0) (eq-eqb _ _ (h .flag d l ∙ ap (λ b. cond b 1 0) t)) e)
-  where
-    so : (b : Bool) → (b ≡ false → ⊥) → b ≡ true
-    so true f = refl
-    so false f = absurd (f refl)
-
 -- Joining the back
 
-join-waiting : (d : ℕ) (w : List ℕ) → elem d w ≡ true → join w d ≡ w
-join-waiting d w e = rw e
+module _ {n w d : ℕ} {ws : List ℕ} {queue : Queue} {l : List ℕ} (h : Waits ws n w queue l) (b : d < 2 * n) where
+  join-below : (e : ℕ) → In e (join l d) → e < 2 * n
+  join-below e m = ⊎-elim (h .below e) (λ q. rw q b) (join-cases l d m)
 
-join-new : (d : ℕ) (w : List ℕ) → elem d w ≡ false → join w d ≡ w ++ (d ∷ [])
-join-new d w e = rw e
+  -- the place behind the last is free
+  pub few : queue .len ≤ 2 * n
+  few = omega (arith, distinct-length (2 * n) l (h .distinct) (h .below), h .count)
 
-module _ {n d : ℕ} {ws : List ℕ} {queue : Queue} {w : List ℕ} (h : Waits ws n queue w) (l : d < 2 * n) where
-  join-below : (e : ℕ) → In e (join w d) → e < 2 * n
-  join-below e m = ⊎-elim (h .below e) (λ q. rw q l) (join-cases w d m)
+  pub slot-in : wrapped (ringWords n) (queue .head + queue .len) < ringWords n
+  slot-in = wrapped-lt (ringWords n) (queue .head + queue .len) (omega (arith, h .front, few))
 
-  -- a number that does not wait finds room
-  pub room : elem d w ≡ false → queue .len < 2 * n
-  room e =
-      let all : length (join w d) ≤ 2 * n = distinct-length (2 * n) (join w d) (join-distinct w d (h .distinct)) join-below in
-      let more : length (join w d) ≡ length w + 1 = ap length (join-new d w e) ∙ length-append w (d ∷ []) in
-      omega (arith, h .count)
+  -- the number's state becomes v
+  module _ (fits : nodesEnd n w ≤ length ws) (v : ℕ) (odd : v % 2 ≡ 1) where
+    after : List ℕ
+    after = set (set ws (queueAt n + wrapped (ringWords n) (queue .head + queue .len)) d) (stateAt n w d) v
 
-module _ {n d : ℕ} {ws : List ℕ} {queue : Queue} {w : List ℕ} (h : Waits ws n queue w) (l : d < 2 * n) (fits : visitedAt n ≤ length ws) (new : elem d w ≡ false) where
-  after : List ℕ
-  after = set (inserted ws (waitingAt n) d) (queueAt n + wrapped (2 * n) (queue .head + queue .len)) d
+    -- a place of the ring other than the one behind the last
+    old-slot : (k : ℕ) → k < queue .len → getD after (queueAt n + wrapped (ringWords n) (queue .head + k)) 0 ≡ getD ws (queueAt n + wrapped (ringWords n) (queue .head + k)) 0
+    unfolding after
+    old-slot k m =
+        let full = few in
+        let place : wrapped (ringWords n) (queue .head + k) < ringWords n = wrapped-lt (ringWords n) (queue .head + k) (omega (arith, h .front)) in
+        getD-set-other (set ws _ d) _ _ v 0 (λ q. omega arith)
+        ∙ getD-set-other ws _ _ d 0 (λ q. wrapped-apart (ringWords n) (queue .head) k (queue .len) (h .front) m (omega arith) (omega arith))
 
-  slot-in : wrapped (2 * n) (queue .head + queue .len) < 2 * n
-  slot-in = wrapped-lt (2 * n) (queue .head + queue .len) (omega (arith, h .front, room h l new))
+    -- what waits
+    after-flag : (e : ℕ) → e < 2 * n → waitsIn after n w e ≡ cond (elem e (join l d)) 1 0
+    unfolding after
+    after-flag e m = at (ℕ-discrete e d) (elem d l) refl
+      where
+        stored : e ≢ d → getD (set (set ws (queueAt n + wrapped (ringWords n) (queue .head + queue .len)) d) (stateAt n w d) v) (stateAt n w e) 0 ≡ getD ws (stateAt n w e) 0
+        stored ne = let slot = slot-in in getD-set-other (set ws _ d) _ _ v 0 (states-apart n w ne) ∙ getD-set-other ws _ _ d 0 (λ q. omega arith)
 
-  stored-flag : (e : ℕ) → e < 2 * n → has after (waitingAt n) e ≡ has (inserted ws (waitingAt n) d) (waitingAt n) e
-  unfolding after
-  stored-flag e m = has-cong after (inserted ws (waitingAt n) d) (waitingAt n) e (getD-set-other (inserted ws (waitingAt n) d) _ (waitingAt n + e / 64) d 0 (λ q. omega (arith, slot-in)))
+        at : Dec (e ≡ d) → (c : Bool) → elem d l ≡ c → waitsIn (set (set ws (queueAt n + wrapped (ringWords n) (queue .head + queue .len)) d) (stateAt n w d) v) n w e ≡ cond (elem e (join l d)) 1 0
+        at (yes q) c p =
+            ap (waitsIn (set (set ws (queueAt n + wrapped (ringWords n) (queue .head + queue .len)) d) (stateAt n w d) v) n w) q
+            ∙ ap (λ z. z % 2) (getD-set-same (set ws (queueAt n + wrapped (ringWords n) (queue .head + queue .len)) d) (stateAt n w d) v 0 (rw (length-set ws (queueAt n + wrapped (ringWords n) (queue .head + queue .len)) d) (let inside = row-fits n w b in omega arith)))
+            ∙ odd
+            ∙ sym (ap (λ z. cond (elem z (join l d)) 1 0) q ∙ in-join c p)
+          where
+            in-join : (c : Bool) → elem d l ≡ c → _≡_ {A = ℕ} (cond (elem d (join l d)) 1 0) 1
+            in-join true p = rw (p, p)
+            in-join false p = rw (p, elem-last l d)
+        at (no ne) true p = ap (λ z. z % 2) (stored ne) ∙ h .flag e m ∙ sym (ap (λ (z : List ℕ). cond (elem e z) 1 0) (joined-old p))
+          where
+            joined-old : elem d l ≡ true → join l d ≡ l
+            joined-old p = rw p
+        at (no ne) false p = ap (λ z. z % 2) (stored ne) ∙ h .flag e m ∙ sym (ap (λ (z : List ℕ). cond (elem e z) 1 0) (joined-new p) ∙ ap (λ c. cond c 1 0) (elem-before l ne))
+          where
+            joined-new : elem d l ≡ false → join l d ≡ l ++ (d ∷ [])
+            joined-new p = rw p
 
-  back-slot : (k : ℕ) → k < length (w ++ (d ∷ [])) → Dec (k < length w) → getD after (queueAt n + wrapped (2 * n) (queue .head + k)) 0 ≡ getD (w ++ (d ∷ [])) k 0
-  unfolding after
-  back-slot k m (yes b) =
-      let full : queue .len < 2 * n = room h l new in
-      let place : wrapped (2 * n) (queue .head + k) < 2 * n = wrapped-lt (2 * n) (queue .head + k) (omega (arith, h .front, h .count)) in
-      getD-set-other (inserted ws (waitingAt n) d) _ _ d 0 (λ q. wrapped-apart (2 * n) (queue .head) k (queue .len) (h .front) (omega (arith, h .count)) full (omega arith))
-      ∙ inserted-other ws (waitingAt n) d _ (λ q. omega arith)
-      ∙ h .slot k b
-      ∙ sym (List·getD-append w (d ∷ []) 0 k b)
-  back-slot k m (no b) =
-      let size : length (w ++ (d ∷ [])) ≡ length w + 1 = length-append w (d ∷ []) in
-      let last : k ≡ queue .len = omega (arith, h .count, b) in
-      let here : k ≡ length w + 0 = omega (arith, h .count, b) in
-      ap (λ z. getD after (queueAt n + wrapped (2 * n) (queue .head + z)) 0) last
-      ∙ getD-set-same (inserted ws (waitingAt n) d) _ d 0 (rw (length-inserted ws (waitingAt n) d) (omega (arith, slot-in)))
-      ∙ sym (ap (λ z. getD (w ++ (d ∷ [])) z 0) here ∙ getD-append-add w (d ∷ []) 0 0)
+    back-slot : (k : ℕ) → k < length (join l d) → (c : Bool) → elem d l ≡ c → getD after (queueAt n + wrapped (ringWords n) (queue .head + k)) 0 ≡ getD (join l d) k 0
+    unfolding after
+    back-slot k m true p = old-slot k (omega (arith, h .count, same)) ∙ h .slot k (omega (arith, same)) ∙ sym (ap (λ (z : List ℕ). getD z k 0) joined-old)
+      where
+        joined-old : join l d ≡ l
+        joined-old = rw p
 
-  back-flag : (e : ℕ) → e < 2 * n → Dec (e ≡ d) → has (inserted ws (waitingAt n) d) (waitingAt n) e ≡ cond (elem e (w ++ (d ∷ []))) 1 0
-  back-flag e m (yes q) =
-      ap (has (inserted ws (waitingAt n) d) (waitingAt n)) q
-      ∙ insert-same ws (waitingAt n) d (omega arith)
-      ∙ sym (ap (λ z. cond (elem z (w ++ (d ∷ []))) 1 0) q ∙ ap (λ b. cond b 1 0) (elem-last w d))
-  back-flag e m (no q) =
-      insert-other ws (waitingAt n) d e (omega arith) q
-      ∙ h .flag e m
-      ∙ sym (ap (λ b. cond b 1 0) (elem-before w q))
+        same : length (join l d) ≡ length l
+        same = ap length joined-old
+    back-slot k m false p = at (decLt k (length l))
+      where
+        joined-new : join l d ≡ l ++ (d ∷ [])
+        joined-new = rw p
 
-  pub joined-back : Waits (set (inserted ws (waitingAt n) d) (queueAt n + wrapped (2 * n) (queue .head + queue .len)) d) n (record { head = queue .head; len = queue .len + 1 }) (join w d)
-  unfolding after
-  joined-back = subst (λ v. Waits after n (record { head = queue .head; len = queue .len + 1 }) v) (sym (join-new d w new)) back
-    where
-      back : Waits after n (record { head = queue .head; len = queue .len + 1 }) (w ++ (d ∷ []))
-      back = record {
-        count = omega (arith, h .count, length-append w (d ∷ []));
-        front = h .front;
-        slot = λ k m. back-slot k m (decLt k (length w));
-        flag = λ e m. stored-flag e m ∙ back-flag e m (ℕ-discrete e d);
-        below = λ e m. join-below h l e (subst (λ v. In e v) (sym (join-new d w new)) m);
-        distinct = subst (λ v. Distinct v) (join-new d w new) (join-distinct w d (h .distinct));
-      }
+        size : length (join l d) ≡ length l + 1
+        size = ap length joined-new ∙ length-append l (d ∷ [])
 
-  pub joined-kept : KeepsRest n ws (set (inserted ws (waitingAt n) d) (queueAt n + wrapped (2 * n) (queue .head + queue .len)) d)
-  joined-kept = rest-trans (set-changed (keeps-inserted ws (waitingAt n) d (omega arith) (omega arith))) (slot-stored (inserted ws (waitingAt n) d) n d slot-in)
+        at : Dec (k < length l) → getD after (queueAt n + wrapped (ringWords n) (queue .head + k)) 0 ≡ getD (join l d) k 0
+        at (yes y) = old-slot k (omega (arith, h .count)) ∙ h .slot k y ∙ sym (ap (λ (z : List ℕ). getD z k 0) joined-new ∙ List·getD-append l (d ∷ []) 0 k y)
+        at (no y) =
+            let last : k ≡ queue .len = omega (arith, h .count, size, y) in
+            let here : k ≡ length l + 0 = omega (arith, h .count, size, y) in
+            let slot = slot-in in
+            ap (λ z. getD after (queueAt n + wrapped (ringWords n) (queue .head + z)) 0) last
+            ∙ getD-set-other (set ws _ d) _ _ v 0 (λ q. omega arith)
+            ∙ getD-set-same ws _ d 0 (let low = row-from n w (2 * n) in omega arith)
+            ∙ sym (ap (λ (z : List ℕ). getD z k 0) joined-new ∙ ap (λ z. getD (l ++ (d ∷ [])) z 0) here ∙ getD-append-add l (d ∷ []) 0 0)
 
--- a number that waits stays where it is
-pub joined-waiting : {n : ℕ} {ws : List ℕ} {queue : Queue} {w : List ℕ} (d : ℕ) → Waits ws n queue w → elem d w ≡ true → Waits ws n queue (join w d)
-joined-waiting {n} {ws} {queue} {w} d h e = subst (λ v. Waits ws n queue v) (sym (join-waiting d w e)) h
+    count-is : (c : Bool) → elem d l ≡ c → queue .len + (1 - waitsIn ws n w d) ≡ length (join l d)
+    count-is true p = let old : length (join l d) ≡ length l = ap length joined-old in omega (arith, h .count, h .flag d b ∙ ap (λ c. cond c 1 0) p, old)
+      where
+        joined-old : join l d ≡ l
+        joined-old = rw p
+    count-is false p = let new : length (join l d) ≡ length l + 1 = ap length joined-new ∙ length-append l (d ∷ []) in omega (arith, h .count, h .flag d b ∙ ap (λ c. cond c 1 0) p, new)
+      where
+        joined-new : join l d ≡ l ++ (d ∷ [])
+        joined-new = rw p
+
+    pub joined-back : Waits (set (set ws (queueAt n + wrapped (ringWords n) (queue .head + queue .len)) d) (stateAt n w d) v) n w
+        (record { head = queue .head; len = queue .len + (1 - waitsIn ws n w d) }) (join l d)
+    unfolding after
+    joined-back = record {
+      count = count-is (elem d l) refl;
+      front = h .front;
+      slot = λ k m. back-slot k m (elem d l) refl;
+      flag = after-flag;
+      below = join-below;
+      distinct = join-distinct l d (h .distinct);
+    }
+
+    pub joined-kept : v / 2 ≡ settledIn ws n w d → KeepsRest n w ws (set (set ws (queueAt n + wrapped (ringWords n) (queue .head + queue .len)) d) (stateAt n w d) v)
+    joined-kept half =
+        let kept = slot-stored ws n w d slot-in in
+        let size = kept .size in
+        rest-trans kept (state-stored (set ws _ d) n w v b (omega arith) (half ∙ sym (kept .settled d b)))
+
+-- d joins the back with the state v
+joining : {n w d : ℕ} {ws : List ℕ} {queue : Queue} (v : ℕ) → (l : List ℕ) × Waits ws n w queue l → d < 2 * n → nodesEnd n w ≤ length ws → v % 2 ≡ 1 → v / 2 ≡ settledIn ws n w d
+    → Enqueued ws (set (set ws (queueAt n + wrapped (ringWords n) (queue .head + queue .len)) d) (stateAt n w d) v) n w queue d (record { head = queue .head; len = queue .len + (1 - waitsIn ws n w d) })
+joining v h l fits odd half = record {
+  waits = λ l′ k. joined-back k l fits v odd;
+  kept = joined-kept (h .1) l fits v odd half;
+}
+
+-- a word stored over, with another stored between
+stored-over : (ws : List ℕ) (i j a b c : ℕ) → i ≢ j → set (set (set ws i a) j b) i c ≡ set (set ws j b) i c
+stored-over ws i j a b c ne = ap (λ (l : List ℕ). set l i c) (set-comm ws i j a b ne) ∙ set-set (set ws j b) i a c
+
+module _ {n w d : ℕ} {ws : List ℕ} {queue : Queue} (h : (l : List ℕ) × Waits ws n w queue l) (b : d < 2 * n) (fits : nodesEnd n w ≤ length ws) where
+  abbrev bare : List ℕ
+  bare = set ws (stateAt n w d) (waitsIn ws n w d)
+
+  -- settled no more, d waits as before
+
+  bare-state : getD bare (stateAt n w d) 0 ≡ waitsIn ws n w d
+  bare-state = getD-set-same ws (stateAt n w d) (waitsIn ws n w d) 0 (let inside = row-fits n w b in omega arith)
+
+  bare-flag : (e : ℕ) → Dec (e ≡ d) → waitsIn bare n w e ≡ waitsIn ws n w e
+  bare-flag e (yes q) = ap (waitsIn bare n w) q ∙ omega (arith, bare-state) ∙ sym (ap (waitsIn ws n w) q)
+  bare-flag e (no q) = ap (λ z. z % 2) (getD-set-other ws (stateAt n w d) (stateAt n w e) (waitsIn ws n w d) 0 (states-apart n w q))
+
+  bare-waits : Waits bare n w queue (h .0)
+  bare-waits = waits-kept (h .1) (λ x lo hi. getD-set-other ws (stateAt n w d) x (waitsIn ws n w d) 0 (λ q. omega arith)) (λ e m. bare-flag e (ℕ-discrete e d))
+
+  joining-grown : (grew : Bool)
+      → Enqueued (unsettled grew ws n w d) (set (set ws (queueAt n + wrapped (ringWords n) (queue .head + queue .len)) d) (stateAt n w d) (joins grew (getD ws (stateAt n w d) 0))) n w queue d
+      (record { head = queue .head; len = queue .len + (1 - waitsIn ws n w d) })
+  joining-grown false = joining (getD ws (stateAt n w d) 0 + (1 - waitsIn ws n w d)) h b fits (omega arith) (omega arith)
+  joining-grown true =
+      let slot = slot-in (h .1) b in
+      let size = length-set ws (stateAt n w d) (waitsIn ws n w d) in
+      subst (λ (z : List ℕ). Enqueued bare z n w queue d (record { head = queue .head; len = queue .len + (1 - waitsIn ws n w d) }))
+      (stored-over ws (stateAt n w d) (queueAt n + wrapped (ringWords n) (queue .head + queue .len)) (waitsIn ws n w d) d 1 (λ q. omega arith))
+      (subst (λ (z : ℕ). Enqueued bare (set (set bare (queueAt n + wrapped (ringWords n) (queue .head + queue .len)) d) (stateAt n w d) 1) n w queue d (record { head = queue .head; len = queue .len + (1 - z) }))
+      (bare-flag d (yes refl))
+      (joining 1 (h .0, bare-waits) b (omega arith) refl (omega (arith, bare-state))))
+
+-- a number that waits does not join again
+pub waits-again : {n w d : ℕ} {ws : List ℕ} {queue : Queue} {l : List ℕ} → Waits ws n w queue l → d < 2 * n → waitsIn ws n w d ≡ 1 → Waits ws n w queue (join l d)
+waits-again {n} {w} {d} {ws} {queue} {l} h b e = at (elem d l) refl
+  where
+    at : (c : Bool) → elem d l ≡ c → Waits ws n w queue (join l d)
+    at true p = rw p h
+    at false p = absurd (omega (arith, e, h .flag d b ∙ ap (λ c. cond c 1 0) p))
 
 -- what is stored, at places that were computed
-pub enqueued : {n d b j : ℕ} {ws us : List ℕ} {queue : Queue} → (w : List ℕ) × Waits ws n queue w → d < 2 * n → visitedAt n ≤ length ws → eqb (has ws (waitingAt n) d) 0 ≡ true
-    → us ≡ inserted ws (waitingAt n) d → b ≡ queueAt n → j ≡ wrapped (2 * n) (queue .head + queue .len)
-    → Enqueued ws (set us (b + j) d) n queue d (record { head = queue .head; len = queue .len + 1 })
-enqueued h l fits fresh ea eb ej =
-    rw (ea, eb, ej)
-    (record {
-      waits = λ w k. joined-back k l fits (waits-false k l fresh);
-      kept = joined-kept (h .1) l fits (waits-false (h .1) l fresh);
-    })
-
--- a number that is no new member of the set waits, and inserting it changes nothing
-pub enqueued-waiting : {n d : ℕ} {ws us : List ℕ} {queue : Queue} → d < 2 * n → eqb (has ws (waitingAt n) d) 0 ≡ false
-    → us ≡ inserted ws (waitingAt n) d → Enqueued ws us n queue d queue
-enqueued-waiting {n} {d} {ws} {us} {queue} l old e =
-    let one : has ws (waitingAt n) d ≡ 1 = omega (arith, has-lt ws (waitingAt n) d, eqb-false (has ws (waitingAt n) d) 0 old) in
-    subst (λ (v : List ℕ). Enqueued ws v n queue d queue) (sym (e ∙ insert-again ws (waitingAt n) d one))
-    (record { waits = λ w k. joined-waiting d k (waits-true k l old); kept = rest-refl })
+pub enqueued : {n w d at b j v : ℕ} {ws : List ℕ} {queue : Queue} (grew : Bool) → (l : List ℕ) × Waits ws n w queue l → d < 2 * n → nodesEnd n w ≤ length ws
+    → at ≡ stateAt n w d → b ≡ queueAt n → j ≡ wrapped (ringWords n) (queue .head + queue .len) → v ≡ joins grew (getD ws at 0)
+    → Enqueued (unsettled grew ws n w d) (set (set ws (b + j) d) at v) n w queue d (record { head = queue .head; len = queue .len + (1 - getD ws at 0 % 2) })
+enqueued grew h l fits ea eb ej ev = rw (ev, ea, eb, ej) (joining-grown h l fits grew)
 
 -- Taking the front
 
-module _ {n x : ℕ} {ws : List ℕ} {queue : Queue} {w : List ℕ} (h : Waits ws n queue (x ∷ w)) where
+module _ {n w x : ℕ} {ws : List ℕ} {queue : Queue} {l : List ℕ} (h : Waits ws n w queue (x ∷ l)) where
   pub front-is : getD ws (queueAt n + queue .head) 0 ≡ x
-  front-is = ap (λ k. getD ws (queueAt n + k) 0) (sym (wrapped-in (h .front)) ∙ ap (wrapped (2 * n)) (sym (add-zero (queue .head)))) ∙ h .slot 0 (omega arith)
+  front-is = ap (λ k. getD ws (queueAt n + k) 0) (sym (wrapped-in (h .front)) ∙ ap (wrapped (ringWords n)) (sym (add-zero (queue .head)))) ∙ h .slot 0 (omega arith)
 
-  fresh : elem x w ≡ false
-  fresh = not-so (elem x w) (λ t. go (h .distinct) (elem-In x w t))
+  fresh : elem x l ≡ false
+  fresh = not-so (elem x l) (λ t. go (h .distinct) (elem-In x l t))
     where
-      go : Distinct (x ∷ w) → In x w → ⊥
+      go : Distinct (x ∷ l) → In x l → ⊥
       go (Distinct.more f d) m = f m
 
-  behind : Distinct w
+  behind : Distinct l
   behind = go (h .distinct)
     where
-      go : Distinct (x ∷ w) → Distinct w
+      go : Distinct (x ∷ l) → Distinct l
       go (Distinct.more f d) = d
 
-  module _ (fits : visitedAt n ≤ length ws) (ww : Words ws) where
-    taken-flag : (e : ℕ) → e < 2 * n → Dec (e ≡ x) → has (removed ws (waitingAt n) x) (waitingAt n) e ≡ cond (elem e w) 1 0
+  -- the front's state becomes v
+  module _ (fits : nodesEnd n w ≤ length ws) (v : ℕ) (even : v % 2 ≡ 0) where
+    taken-flag : (e : ℕ) → e < 2 * n → Dec (e ≡ x) → waitsIn (set ws (stateAt n w x) v) n w e ≡ cond (elem e l) 1 0
     unfolding elem
     taken-flag e m (yes q) =
-        ap (has (removed ws (waitingAt n) x) (waitingAt n)) q
-        ∙ remove-same ws (waitingAt n) x ww (omega (arith, h .below x (List·Memᴰ·head refl)))
-        ∙ sym (ap (λ z. cond (elem z w) 1 0) q ∙ ap (λ b. cond b 1 0) fresh)
+        ap (waitsIn (set ws (stateAt n w x) v) n w) q
+        ∙ ap (λ z. z % 2) (getD-set-same ws (stateAt n w x) v 0 (let inside = row-fits n w (h .below x (List·Memᴰ·head refl)) in omega arith))
+        ∙ even
+        ∙ sym (ap (λ z. cond (elem z l) 1 0) q ∙ ap (λ b. cond b 1 0) fresh)
     taken-flag e m (no q) =
-        remove-other ws (waitingAt n) x ww (omega (arith, h .below x (List·Memᴰ·head refl))) e q
+        ap (λ z. z % 2) (getD-set-other ws (stateAt n w x) (stateAt n w e) v 0 (states-apart n w q))
         ∙ h .flag e m
         ∙ rw (ne-eqb e x q)
 
-    pub taken-front : Waits (removed ws (waitingAt n) x) n (restOf n queue) w
+    pub taken-front : Waits (set ws (stateAt n w x) v) n w (restOf n queue) l
     taken-front = record {
       count = omega (arith, h .count);
-      front = wrapped-lt (2 * n) (queue .head + 1) (omega (arith, h .front));
+      front = wrapped-lt (ringWords n) (queue .head + 1) (omega (arith, h .front));
       slot = λ k m.
-          let few : length (x ∷ w) ≤ 2 * n = distinct-length (2 * n) (x ∷ w) (h .distinct) (h .below) in
-          let place : wrapped (2 * n) (queue .head + suc k) < 2 * n = wrapped-lt (2 * n) (queue .head + suc k) (omega (arith, h .front)) in
-          ap (λ z. getD (removed ws (waitingAt n) x) (queueAt n + z) 0) (wrapped-next (2 * n) (queue .head) k (h .front) (omega arith))
-          ∙ removed-other ws (waitingAt n) x _ (λ q. omega arith)
+          let few : length (x ∷ l) ≤ 2 * n = distinct-length (2 * n) (x ∷ l) (h .distinct) (h .below) in
+          let place : wrapped (ringWords n) (queue .head + suc k) < ringWords n = wrapped-lt (ringWords n) (queue .head + suc k) (omega (arith, h .front)) in
+          ap (λ z. getD (set ws (stateAt n w x) v) (queueAt n + z) 0) (wrapped-next (ringWords n) (queue .head) k (h .front) (omega arith))
+          ∙ getD-set-other ws (stateAt n w x) _ v 0 (λ q. omega arith)
           ∙ h .slot (suc k) (omega arith);
       flag = λ e m. taken-flag e m (ℕ-discrete e x);
       below = λ e m. h .below e (List·Memᴰ·tail m);
@@ -248,16 +320,24 @@ module _ {n x : ℕ} {ws : List ℕ} {queue : Queue} {w : List ℕ} (h : Waits w
 
 -- a queue that holds numbers has a front
 
-pub front-below : {n : ℕ} {ws : List ℕ} {queue : Queue} (w : List ℕ) → Waits ws n queue w → 0 < queue .len → getD ws (queueAt n + queue .head) 0 < 2 * n
+pub front-below : {n w : ℕ} {ws : List ℕ} {queue : Queue} (l : List ℕ) → Waits ws n w queue l → 0 < queue .len → getD ws (queueAt n + queue .head) 0 < 2 * n
 front-below [] h l = absurd (omega (arith, h .count))
 front-below (x ∷ w) h l = rw (front-is h) (h .below x (List·Memᴰ·head refl))
 
-pub taken : {n b : ℕ} {ws us : List ℕ} {queue : Queue} → visitedAt n ≤ length ws → Words ws → getD ws (queueAt n + queue .head) 0 < 2 * n → b ≡ queueAt n
-    → us ≡ removed ws (waitingAt n) (getD ws (b + queue .head) 0) → Taken ws us n queue (getD ws (b + queue .head) 0)
-taken {n} {b} {ws} {us} {queue} fits ww small eb e =
-    rw (e, eb)
-    (record {
-      front = λ x w h. front-is h;
-      waits = λ x w h. rw (front-is h) (taken-front h fits ww);
-      kept = set-changed (keeps-removed ws (waitingAt n) _ (omega arith) (omega arith));
-    })
+module _ (n w : ℕ) (ws : List ℕ) (queue : Queue) (fits : nodesEnd n w ≤ length ws) where
+  abbrev first : ℕ
+  first = getD ws (queueAt n + queue .head) 0
+
+  abbrev old : ℕ
+  old = getD ws (stateAt n w first) 0
+
+  taking : first < 2 * n → Taken ws (set ws (stateAt n w first) (old - old % 2)) n w queue first
+  taking small = record {
+    front = λ x l h. front-is h;
+    waits = λ x l h. subst (λ z. Waits (set ws (stateAt n w z) (old - old % 2)) n w (restOf n queue) l) (sym (front-is h)) (taken-front h fits (old - old % 2) (omega arith));
+    kept = state-stored ws n w (old - old % 2) small fits (omega arith);
+  }
+
+pub taken : {n w b at : ℕ} {ws : List ℕ} {queue : Queue} → nodesEnd n w ≤ length ws → getD ws (queueAt n + queue .head) 0 < 2 * n → b ≡ queueAt n
+    → at ≡ stateAt n w (getD ws (b + queue .head) 0) → Taken ws (set ws at (getD ws at 0 - getD ws at 0 % 2)) n w queue (getD ws (b + queue .head) 0)
+taken {n} {w} {b} {at} {ws} {queue} fits small eb e = rw (e, eb) (taking n w ws queue fits small)

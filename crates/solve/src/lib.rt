@@ -3,7 +3,7 @@
 ghost use mathlib.Core.Path.{_≡_};
 ghost use Prim.Native.Nat.{_*_, _<_, _≤_};
 ghost use Rattle.flow.specs.Limits.{maxStatements};
-ghost use Rattle.solve.specs.contracts.Waiting.{wrapped, restOf};
+ghost use Rattle.solve.specs.contracts.Waiting.{wrapped, ringWords, restOf};
 
 pub mod layout;
 pub mod nodes;
@@ -26,11 +26,11 @@ fn wrap(i: usize, capacity: usize) -> usize
 
 // What waits behind the front.
 pub fn rest(n: usize, queue: Queue) -> Queue
-    requires { ⌜ (n ≤ maxStatements) × (0 < queue .len) × (queue .head < 2 * n) ⌝ }
+    requires { ⌜ (n ≤ maxStatements) × (0 < queue .len) × (queue .head < ringWords n) ⌝ }
     ensures { λ r. ⌜ r ≡ restOf n queue ⌝ }
 {
     Queue {
-        head: wrap(queue.head + 1, 2 * n),
+        head: wrap(queue.head + 1, 3 * n),
         len: queue.len - 1,
     }
 }

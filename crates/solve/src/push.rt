@@ -4,30 +4,19 @@ ghost use mathlib.Core.List.{List};
 ghost use lib.ListN.{length};
 ghost use Rattle.flow.specs.Limits.{maxStatements};
 ghost use Rattle.statements.specs.contracts.Layout.{maxWidth};
-ghost use Rattle.statements.specs.contracts.Ready.{Keeps};
-ghost use Rattle.solve.specs.contracts.Layout.{grownAt, outRow, maskRowAt, areaEnd};
+ghost use Rattle.solve.specs.contracts.Layout.{nodesEnd};
 ghost use Rattle.solve.specs.contracts.Waiting.{Waits};
-ghost use Rattle.solve.specs.contracts.Pushed.{Grown, Pushed};
+ghost use Rattle.solve.specs.contracts.Pushed.{Source, Pushed};
 use crate::Queue;
 use crate::layout;
-use crate::nodes;
+use crate::ring;
 use flow::NodeId;
-
-// The row at `from` is joined to the masks of d; if they grew, that is noted.
-fn grow(work: &mut [u64], n: usize, width: usize, from: usize, d: NodeId)
-    requires { ⌜ (n ≤ maxStatements) × (width ≤ maxWidth) × (areaEnd n width ≤ length (now work)) × (d .0 < 2 * n) × (outRow n width ≤ from) × (from + 3 * width ≤ maskRowAt n width 0) ⌝ }
-    ensures { λ _. ⌜ Grown (now (work .entry)) (now (work .exit)) n width from (d .0) × Keeps (grownAt n) (areaEnd n width) (now (work .entry)) (now (work .exit)) ⌝ }
-{
-    if words::union(work, layout::mask_row(n, width, d), from, 3 * width) {
-        words::insert(work, layout::grown(n), d.0);
-    }
-}
 
 // The row at `from` is joined to the masks of d, and d waits afterwards.
 pub fn push(work: &mut [u64], n: usize, width: usize, queue: Queue, from: usize, d: NodeId) -> Queue
-    requires { ⌜ (n ≤ maxStatements) × (width ≤ maxWidth) × (areaEnd n width ≤ length (now work)) × (d .0 < 2 * n) × (outRow n width ≤ from) × (from + 3 * width ≤ maskRowAt n width 0) × ((w : List ℕ) × Waits (now work) n queue w) ⌝ }
+    requires { ⌜ (n ≤ maxStatements) × (width ≤ maxWidth) × (nodesEnd n width ≤ length (now work)) × (d .0 < 2 * n) × Source n width from × ((l : List ℕ) × Waits (now work) n width queue l) ⌝ }
     ensures { λ r. ⌜ Pushed (now (work .entry)) (now (work .exit)) n width queue from (d .0) r ⌝ }
 {
-    grow(work, n, width, from, d);
-    nodes::enqueue(work, n, queue, d)
+    let grew = words::union(work, layout::mask_row(n, width, d), from, 3 * width);
+    ring::enqueue(work, n, width, queue, d.0, grew)
 }

@@ -101,6 +101,14 @@ pub fn solver(n: usize) -> usize
     part(n, 3)
 }
 
+// The RETURNs of the flow, where the solver's words begin: it is not yet at work while they are needed.
+pub fn returns_row(n: usize) -> usize
+    requires { ⌜ n ≤ maxStatements ⌝ }
+    ensures { λ r. ⌜ r ≡ at.returnsRowAt n ⌝ }
+{
+    solver(n)
+}
+
 // Words of a set of arrays: as many as the flow's arrays need.
 pub fn set_words(arrays: usize) -> usize
     requires { ⌜ arrays ≤ maxArrays ⌝ }

@@ -13,7 +13,7 @@ use Rattle.theory.specs.Lists as lists
 use Rattle.theory.specs.Lists.{In, any, upTo}
 use Rattle.theory.specs.Body.{kind, continuationOf, isReturn, callees, entered, Walks, opaqueCall, callTouches}
 use Rattle.theory.specs.Doubled.{returnsTo}
-use Rattle.statements.specs.contracts.Layout.{callsAt, callTouchedAt, rowAt, rowWords, queueAt, enteredRowAt}
+use Rattle.statements.specs.contracts.Layout.{callsAt, callTouchedAt, bodiesAt, rowAt, rowWords, queueAt, enteredRowAt}
 use Rattle.statements.specs.contracts.Ready.{MembersWord}
 
 -- the work area of n statements
@@ -75,8 +75,18 @@ pub record Summarized (f : Flow) (ws : List ℕ) (n : ℕ) : Type 0 where
   pub walks : (c b : ℕ) → c < n → In b (callees f c) → isReturn (kind f b) ≡ false → WalkRow f ws n b
   pub free : (r : ℕ) → r < n → isReturn (kind f r) ≡ true → EmptyRow ws n r
 
--- what the edges are made from: the summaries, the statements that a transparent call enters, and the continuations that each RETURN goes to
+-- l leads statement r: their rows are the same
+pub record Leads (ws : List ℕ) (n r l : ℕ) : Type 0 where
+  pub below : l < n
+  pub same : (k : ℕ) → k < n → has ws (rowAt n l) k ≡ has ws (rowAt n r) k
+
+-- each RETURN has a leader, in the word of its body
+abbrev pub Leaders : Flow → List ℕ → ℕ → Type 0
+Leaders f ws n = (r : ℕ) → r < n → isReturn (kind f r) ≡ true → Leads ws n r (getD ws (bodiesAt n + r) 0)
+
+-- what the edges are made from: the summaries, the statements that a transparent call enters, the continuations that each RETURN goes to, and its leader
 pub record Linked (f : Flow) (ws : List ℕ) (n : ℕ) : Type 0 where
   pub calls : CallSummaries f ws n
   pub bodies : (c j : ℕ) → c < n → j < n → getD ws (callsAt n + c) 0 ≡ transparent → has ws (rowAt n c) j ≡ cond (lists.elem j (entered f c)) 1 0
   pub returns : (r k : ℕ) → r < n → k < n → isReturn (kind f r) ≡ true → has ws (rowAt n r) k ≡ cond (any (returnsTo f r k) (upTo (size f))) 1 0
+  pub leaders : Leaders f ws n

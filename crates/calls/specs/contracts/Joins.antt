@@ -1,4 +1,5 @@
--- What noting changes. Where RETURNs go: the rows of some RETURNs gain a continuation, and every other row and every word below the matrix stays.
+-- What noting changes. Where RETURNs go: the rows of some RETURNs gain a continuation, and every other row and every word below the matrix stays; which
+-- statements are RETURNs is noted first, as a row.
 -- Which statements a call enters, or the bodies that it enters walk: a row gains them, and every other word stays.
 -- And the rows of the calls that are transparent: each becomes the row of the statements that the call enters.
 use Prim.Native.Nat.{ℕ, _+_, _≤_, _<_, max}
@@ -13,7 +14,7 @@ use Rattle.flow.specs.Flow.{Flow}
 use Rattle.theory.specs.Lists as lists
 use Rattle.theory.specs.Lists.{In, any, concatMap}
 use Rattle.theory.specs.Body.{kind, continuationOf, isReturn, entered, walked, opaqueCall}
-use Rattle.statements.specs.contracts.Layout.{callsAt, matrixAt, rowAt, rowWords, queueAt, enteredRowAt, solverAt}
+use Rattle.statements.specs.contracts.Layout.{callsAt, matrixAt, rowAt, rowWords, queueAt, enteredRowAt, solverAt, returnsRowAt}
 use Rattle.statements.specs.contracts.Ready.{Keeps}
 use Rattle.calls.specs.contracts.Held.{WalkRow, transparent, opaque}
 
@@ -23,16 +24,30 @@ pub record Joins (f : Flow) (ws vs : List ℕ) (n hi : ℕ) (q : ℕ → ℕ →
   pub others : (e i : ℕ) → e < n → i < n → isReturn (kind f e) ≡ false → has vs (rowAt n e) i ≡ has ws (rowAt n e) i
   pub joined : (r k : ℕ) → r < n → k < n → isReturn (kind f r) ≡ true → has vs (rowAt n r) k ≡ max (has ws (rowAt n r) k) (cond (q r k) 1 0)
 
--- the RETURN r goes to k; so do the RETURNs in the row of entered statements, and those on the walks of the bodies bs
-
-abbrev pub fromReturn : ℕ → ℕ → ℕ → ℕ → Bool
-fromReturn r k s j = eqb s r && eqb j k
-
-abbrev pub fromEntered : List ℕ → ℕ → ℕ → ℕ → ℕ → Bool
-fromEntered ws n k s j = eqb (has ws (enteredRowAt n) s) 1 && eqb j k
-
+-- the RETURNs on the walks of the bodies bs go to k
 abbrev pub fromBodies : Flow → List ℕ → ℕ → ℕ → ℕ → Bool
 fromBodies f bs k s j = any (λ e. lists.elem s (walked f e)) bs && eqb j k
+
+-- vs is ws with k joined to each row of the matrix that passes the test; the words from hi on, too, are as they were
+pub record Gains (ws vs : List ℕ) (n hi : ℕ) (p : ℕ → Bool) (k : ℕ) : Type 0 where
+  pub kept : Keeps (matrixAt n) hi ws vs
+  pub rows : (r j : ℕ) → r < n → j < n → has vs (rowAt n r) j ≡ max (has ws (rowAt n r) j) (cond (p r && eqb j k) 1 0)
+
+abbrev pub isEntered : List ℕ → ℕ → ℕ → Bool
+isEntered ws n s = eqb (has ws (enteredRowAt n) s) 1
+
+-- vs is ws with the RETURNs on the walks of the bodies bs in the row of entered statements
+pub record Gathers (f : Flow) (ws vs : List ℕ) (n : ℕ) (bs : List ℕ) : Type 0 where
+  pub kept : Keeps (enteredRowAt n) (solverAt n) ws vs
+  pub holds : (s : ℕ) → s < n → has vs (enteredRowAt n) s ≡ cond (any (λ e. lists.elem s (walked f e)) bs && isReturn (kind f s)) 1 0
+
+-- the row of RETURNs has all of them and no more
+pub record ReturnSet (f : Flow) (ws : List ℕ) (n : ℕ) : Type 0 where
+  pub holds : (r : ℕ) → r < n → has ws (returnsRowAt n) r ≡ cond (isReturn (kind f r)) 1 0
+
+-- what statement r adds to it
+abbrev pub ifReturn : Flow → ℕ → List ℕ
+ifReturn f r = cond (isReturn (kind f r)) (r ∷ []) []
 
 -- body e by itself, or whole, with the statements that it walks; and so of the bodies bs, one after the other
 

@@ -1,10 +1,10 @@
--- The edges of a doubled number as slots that a cursor passes: an edge, or nothing where a line enters no statement or a successor is left out.
--- Up to repeats, the present slots are the edges of the doubled graph; the next edge at or after a cursor is the first present slot from there.
-use Prim.Native.Nat.{ℕ, _+_}
-use mathlib.Core.Bool.{false, cond, not, _||_}
+-- The edges of a doubled number as slots, one for each that is gone through: an edge, or nothing where a line enters no statement or a successor is left out.
+-- Up to repeats, the present slots are the edges of the doubled graph.
+use Prim.Native.Nat.{ℕ}
+use mathlib.Core.Bool.{cond, not, _||_}
 use mathlib.Core.List.{List, [], _∷_, _++_, map}
 use mathlib.Core.Option.{Option, none, some}
-use lib.Dec.{eqb, ltb}
+use lib.Dec.{eqb}
 use Rattle.flow.specs.declared.Base.{Base}
 use Rattle.flow.specs.declared.Base.the-variants.{Zero, N}
 use Rattle.flow.specs.Flow.{Flow, size, enters}
@@ -12,7 +12,6 @@ use Rattle.theory.specs.Lists.{any, elem, concatMap, optionList, upTo}
 use Rattle.theory.specs.Body.{kind, successors, callLines, continuationOf, entered, isReturn, opaqueCall}
 use Rattle.theory.specs.Doubled.{Node, Edge, at, plain, number, sameNode, returnsTo, edgeEffects}
 use Rattle.theory.specs.Queue.{Arc}
-use Rattle.calls.specs.declared.Edge as E
 
 abbrev pub edgeTo : Node → Node → Edge
 edgeTo back v = record { to = v; continues = sameNode v back }
@@ -22,14 +21,24 @@ ifEntered back none = none
 ifEntered back (some e) = some (edgeTo back (at N e))
 
 -- the successors of a call with the continuation k, less those that are entered and the continuation
+
+abbrev pub otherSlot : Flow → Base → ℕ → ℕ → ℕ → Option Edge
+otherSlot f b i k j = cond (not (elem j (entered f i) || eqb j k)) (some (edgeTo (at b k) (at b j))) none
+
 unfoldable pub otherSlots : Flow → Base → ℕ → ℕ → List (Option Edge)
-otherSlots f b i k = map (λ j. cond (not (elem j (entered f i) || eqb j k)) (some (edgeTo (at b k) (at b j))) none) (successors f i)
+otherSlots f b i k = map (otherSlot f b i k) (successors f i)
+
+-- the statements that its lines enter
+
+abbrev pub lineSlot : Flow → Base → ℕ → ℕ → Option Edge
+lineSlot f b k l = ifEntered (at b k) (enters f l)
+
+unfoldable pub lineSlots : Flow → Base → ℕ → ℕ → List (Option Edge)
+lineSlots f b i k = map (lineSlot f b k) (callLines (kind f i))
 
 -- a call that is not opaque, with the continuation k
 unfoldable pub callSlots : Flow → Base → ℕ → ℕ → List (Option Edge)
-callSlots f b i k =
-    map (λ l. ifEntered (at b k) (enters f l)) (callLines (kind f i))
-    ++ (some (edgeTo (at b k) (at b k)) ∷ otherSlots f b i k)
+callSlots f b i k = lineSlots f b i k ++ (some (edgeTo (at b k) (at b k)) ∷ otherSlots f b i k)
 
 unfoldable pub returnSlots : Flow → Base → ℕ → List (Option Edge)
 returnSlots f Zero r = map (λ k. cond (any (returnsTo f r k) (upTo (size f))) (some (plain (at Zero k))) none) (upTo (size f))
@@ -54,16 +63,6 @@ slots f v = slotsOf f (v .base) (v .stmt) (continuationOf (kind f (v .stmt)))
 unfoldable pub present : List (Option Edge) → List Edge
 present xs = concatMap optionList xs
 
--- the first present slot of those from cursor c on
-unfoldable pub edgeFrom : Flow → List (Option Edge) → ℕ → E.Edge
-edgeFrom f [] c = E.the-variants.End
-edgeFrom f (none ∷ xs) c = edgeFrom f xs (c + 1)
-edgeFrom f (some x ∷ xs) c = E.the-variants.To (record { 0 = number f (x .to) }) (x .continues) (c + 1)
-
 -- the arc of the doubled graph that an edge of statement i is
 abbrev pub toArc : Flow → ℕ → Edge → Arc
 toArc f i x = record { to = number f (x .to); effects = edgeEffects f i x }
-
--- the edge of a RETURN to k, the next member of its row of n numbers
-abbrev pub memberEdge : ℕ → ℕ → E.Edge
-memberEdge n k = cond (ltb k n) (E.the-variants.To (record { 0 = k }) false (k + 1)) E.the-variants.End

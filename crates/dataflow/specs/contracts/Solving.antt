@@ -1,27 +1,26 @@
--- The work area as a state of the queue rule: what waits, what was visited, and for each number the union of what was pushed to it, which is what a
--- visit of it would pull now. A visited number is among those that grew where a visit would change its masks.
+-- The work area as a state of the queue rule: what waits, for each number the union of what was pushed to it, which is what a visit of it would pull now,
+-- and whether the number is settled: visited, and a visit would not change its masks.
 use Prim.Native.Nat.{ℕ, _+_, _*_, _<_, _≤_}
-use mathlib.Core.Bool.{true, cond}
+use mathlib.Core.Bool.{cond, not, _&&_}
 use mathlib.Core.List.{List, _∷_}
 use mathlib.Core.Path.{_≡_}
 use lib.ListN.{getD}
-use Rattle.words.specs.contracts.Row.{has}
 use Rattle.flow.specs.Flow.{Flow}
 use Rattle.theory.specs.Doubled.{doubled}
 use Rattle.theory.specs.Queue.{Solver, Course, Over, pulled, changed, visit}
 use Rattle.statements.specs.contracts.Layout.{queueAt}
 use Rattle.statements.specs.contracts.Ready.{Keeps}
 use Rattle.solve.specs.declared.Queue.{Queue}
-use Rattle.solve.specs.contracts.Layout.{visitedAt, grownAt, areaEnd}
+use Rattle.solve.specs.contracts.Layout.{settledIn, areaEnd}
 use Rattle.solve.specs.contracts.Waiting.{Waits}
 use Rattle.solve.specs.contracts.Pushed.{masksAt}
-use Rattle.dataflow.specs.contracts.Sent.{masksBelow}
+use Rattle.dataflow.specs.contracts.Sent.{masksBelow, Shared}
 
 pub record Solving (f : Flow) (ws : List ℕ) (n w : ℕ) (queue : Queue) (st : Solver) : Type 0 where
-  pub waits : Waits ws n queue (st .waiting)
-  pub visited : (d : ℕ) → d < 2 * n → has ws (visitedAt n) d ≡ cond (st .visited d) 1 0
+  pub waits : Waits ws n w queue (st .waiting)
   pub masks : (d a : ℕ) → d < 2 * n → a < 64 * w → masksAt ws n w d a ≡ masksBelow (f .arrays) (pulled (doubled f) st d) a
-  pub grown : (d : ℕ) → d < 2 * n → st .visited d ≡ true → has ws (grownAt n) d ≡ cond (changed (doubled f) st d) 1 0
+  pub shared : Shared f ws n w
+  pub settled : (d : ℕ) → d < 2 * n → settledIn ws n w d ≡ cond (st .visited d && not (changed (doubled f) st d)) 1 0
 
 -- a state that the rule comes to, with its work area
 pub record Underway (f : Flow) (ws : List ℕ) (n w : ℕ) (queue : Queue) : Type 0 where

@@ -6,8 +6,9 @@ use native.Mathlib.Omega.{arith}
 use Rattle.flow.specs.Format.{flowOf}
 use Rattle.statements.specs.contracts.Layout.{matrixAt}
 use Rattle.statements.specs.contracts.Ready.{Keeps}
-use Rattle.statements.proofs.Keeps.{ready-most, ready-room}
-use Rattle.solve.specs.contracts.Layout.{visitedAt}
+use Rattle.statements.proofs.Keeps.{ready-most}
+use Rattle.solve.proofs.Room.{bare-room}
+use Rattle.solve.specs.contracts.Layout.{nodesEnd}
 use Rattle.live.proofs.Sweeps.{noted-start}
 use Rattle.live.proofs.Beginning.{Beginning, cleared-kept, beginning-none, beginning-start, beginning-more, beginning-all, noted-waits}
 use Rattle.live.proofs.begin.Statement.{statement}
@@ -19,18 +20,18 @@ Inv-loop file work₀ live-in₀ live-out₀ n queue₀ i₀ work live-in live-o
 abbrev μ-loop : tie.MeasureT-loop
 μ-loop file work₀ live-in₀ live-out₀ n queue₀ i₀ work live-in live-out queue i = i
 
-cleared : (c : tie.After-clear Inv-loop μ-loop) → Keeps (matrixAt (c .before .before .before .before .before .before .args .n)) (visitedAt (c .before .before .before .before .before .before .args .n)) (now (c .before .before .before .before .before .before .args .work)) (c .clear .last .0)
+cleared : (c : tie.After-clear Inv-loop μ-loop) → Keeps (matrixAt (c .before .before .before .before .before .before .args .n)) (nodesEnd (c .before .before .before .before .before .before .args .n) 0) (now (c .before .before .before .before .before .before .args .work)) (c .clear .last .0)
 cleared c =
     let start = c .before .before .before .before .before .before in
-    cleared-kept (now (start .args .work)) (start .args .n) (omega (arith, ready-room (start .pre .0 .ready) (start .pre .0 .some))) (c .clear .ensures)
+    cleared-kept (now (start .args .work)) (start .args .n) (omega (arith, bare-room (start .pre .0 .ready) (start .pre .0 .some))) (c .clear .ensures)
 
 clear-requires : tie.Need-clear-requires Inv-loop μ-loop
-clear-requires c κs = let ready = c .before .before .before .before .before .pre .0 .ready in (ready-most ready, omega (arith, ready-room ready (c .before .before .before .before .before .pre .0 .some)))
+clear-requires c κs = let ready = c .before .before .before .before .before .pre .0 .ready in (ready-most ready, omega (arith, bare-room ready (c .before .before .before .before .before .pre .0 .some)))
 
 loop-holds : tie.Need-loop-holds Inv-loop μ-loop
 loop-holds c =
     let start = c .before .before .before .before .before .before .before .before in
-    beginning-none (now (start .args .work)) (start .args .n) (omega (arith, ready-room (start .pre .0 .ready) (start .pre .0 .some))) (c .before .before .clear .ensures) (start .pre .0 .some) (start .pre .1)
+    beginning-none (now (start .args .work)) (start .args .n) (omega (arith, bare-room (start .pre .0 .ready) (start .pre .0 .some))) (c .before .before .clear .ensures) (start .pre .0 .some) (start .pre .1)
 
 sub-i : tie.Need-sub-i Inv-loop μ-loop
 sub-i c = omega arith

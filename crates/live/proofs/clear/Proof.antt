@@ -1,4 +1,4 @@
--- `live::clear` meets its contract: the words from the matrix to the visited words are zeroed.
+-- `live::clear` meets its contract: the words from the matrix to those of the numbers that wait are zeroed.
 -- Assumes nothing.
 use Prim.Native.Nat.{_-_}
 use borrow.Author.Needs.{needs}
@@ -13,8 +13,8 @@ use Rattle.live.proofs.clear.Tie as tie
 matrix-requires : tie.Need-matrix-requires
 matrix-requires c κs = search needs
 
-visited-requires : tie.Need-visited-requires
-visited-requires c κs = search needs
+nodes-end-requires : tie.Need-nodes-end-requires
+nodes-end-requires c κs = search needs
 
 sub-zero-row : tie.Need-sub-zero-row
 sub-zero-row c = let n = c .before .before .before .before .args .n in omega (arith, row-from n n)
@@ -28,9 +28,9 @@ same-length c = search needs
 returns : tie.Need-returns
 returns c =
     let work = now (c .before .before .before .before .before .before .before .args .work) in
-    c .before .before .zero-row .ensures ∙ ap₂ (λ m v. zeroed work m (v - m)) (c .before .before .before .before .before .matrix .ensures) (c .before .before .before .visited .ensures)
+    c .before .before .zero-row .ensures ∙ ap₂ (λ m v. zeroed work m (v - m)) (c .before .before .before .before .before .matrix .ensures) (c .before .before .before .nodes-end .ensures)
 
 pub clear-spec : {M : Type 1} → statement M
 clear-spec =
     tie.close
-    (tie.spec matrix-requires visited-requires sub-zero-row zero-row-requires same-length returns)
+    (tie.spec matrix-requires nodes-end-requires sub-zero-row zero-row-requires same-length returns)

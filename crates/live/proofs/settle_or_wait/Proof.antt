@@ -2,7 +2,8 @@
 -- Assumes nothing.
 use borrow.Author.Needs.{needs}
 use native.Mathlib.Omega.{arith}
-use Rattle.statements.proofs.Keeps.{ready-most, ready-room}
+use Rattle.statements.proofs.Keeps.{ready-most}
+use Rattle.solve.proofs.Room.{bare-room}
 use Rattle.live.proofs.Sweeps.{settled-waits, settled-still}
 use Rattle.live.proofs.settle_or_wait.Statement.{statement}
 use Rattle.live.proofs.settle_or_wait.Tie as tie
@@ -13,7 +14,7 @@ settle-requires c κs = search needs
 enqueue-requires : tie.Need-enqueue-requires
 enqueue-requires c κs =
     let start = c .before .before .before .before .before .before .before .before .before .before .before .before .before .before in
-    (ready-most (start .pre .0 .ready), omega (arith, ready-room (start .pre .0 .ready) (start .pre .0 .some)), omega (arith, start .pre .1), start .pre .2)
+    (ready-most (start .pre .0 .ready), omega (arith, bare-room (start .pre .0 .ready) (start .pre .0 .some)), omega (arith, start .pre .1), start .pre .2)
 
 same-length : tie.Need-same-length
 same-length c = search needs

@@ -4,7 +4,8 @@ use mathlib.Core.Path.{_∙_, ap, ap₂}
 use native.Mathlib.Omega.{arith}
 use lib.Bits.{bitOr}
 use Rattle.words.specs.contracts.Change.{without}
-use Rattle.statements.proofs.Keeps.{ready-most, ready-room}
+use Rattle.statements.proofs.Keeps.{ready-most}
+use Rattle.solve.proofs.Room.{bare-room}
 use Rattle.live.proofs.Visits.{rest-ready, taken-small, taken-held, visited}
 use borrow.Author.Needs.{needs}
 use Rattle.live.proofs.visit.Statement.{statement}
@@ -14,7 +15,7 @@ take-requires : tie.Need-take-requires
 take-requires c κs =
     let start = c .before .before .before .before .before in
     let waits = start .pre .4 .1 in
-    (ready-most (start .pre .0), omega (arith, ready-room (start .pre .0) (omega (arith, waits .front))), start .pre .5, (start .pre .4 .0, waits))
+    (ready-most (start .pre .0), omega (arith, bare-room (start .pre .0) (omega (arith, waits .front))), start .pre .5, (start .pre .4 .0, waits))
 
 rest-requires : tie.Need-rest-requires
 rest-requires c κs =
@@ -54,7 +55,7 @@ push-live-requires c κs =
     let take = c .before .before .before .before .before .before .before .before .before .before .before .take in
     let size = take .ensures .kept .size in (
       ready-most (start .pre .0),
-      omega (arith, ready-room (start .pre .0) (omega (arith, start .pre .4 .1 .front))),
+      omega (arith, bare-room (start .pre .0) (omega (arith, start .pre .4 .1 .front))),
       start .pre .2,
       taken-small (start .pre .4) (start .pre .5) (take .ensures),
       taken-held (start .pre .4) (start .pre .5) (take .ensures) (c .before .before .before .before .before .before .before .before .rest .result) (c .before .before .before .before .before .before .before .before .rest .ensures),

@@ -9,7 +9,7 @@ use Rattle.theory.specs.Live.{liveInWord, liveOutWord}
 use Rattle.statements.specs.contracts.Layout.{matrixAt}
 use Rattle.statements.specs.contracts.Ready.{Ready, Keeps}
 use Rattle.solve.specs.declared.Queue.{Queue}
-use Rattle.solve.specs.contracts.Layout.{visitedAt}
+use Rattle.solve.specs.contracts.Layout.{nodesEnd}
 use Rattle.live.specs.contracts.Predecessors.{Predecessors}
 use Rattle.live.specs.contracts.Solving.{Held}
 
@@ -24,7 +24,7 @@ pub record LiveStart (s ws ins outs : List ℕ) (n : ℕ) : Type 0 where
 pub record Begun (f : Flow) (n : ℕ) (ws vs ins ins′ outs outs′ : List ℕ) (q : Queue) : Type 0 where
   pub predecessors : Predecessors f vs n
   pub held : Held f 0 n vs ins′ outs′ q
-  pub kept : Keeps (matrixAt n) (visitedAt n) ws vs
+  pub kept : Keeps (matrixAt n) (nodesEnd n 0) ws vs
   pub in-area : Keeps 0 n ins ins′
   pub out-area : Keeps 0 n outs outs′
 
@@ -33,4 +33,4 @@ pub record LiveNames (f : Flow) (n : ℕ) (ws vs ins ins′ outs outs′ : List 
   pub live-out : (i : ℕ) → i < n → getD outs′ i 0 ≡ liveOutWord f i
   pub in-area : Keeps 0 n ins ins′
   pub out-area : Keeps 0 n outs outs′
-  pub work : Keeps (matrixAt n) (visitedAt n) ws vs
+  pub work : Keeps (matrixAt n) (nodesEnd n 0) ws vs

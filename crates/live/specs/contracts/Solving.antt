@@ -37,12 +37,12 @@ pub record Solving (f : Flow) (lo n : ℕ) (ins outs w : List ℕ) : Type 0 wher
 
 -- the queue holds numbers for which all this holds
 abbrev pub Held : Flow → ℕ → ℕ → List ℕ → List ℕ → List ℕ → Queue → Type 0
-Held f lo n ws ins outs q = (w : List ℕ) × Waits ws n q w × Solving f lo n ins outs w
+Held f lo n ws ins outs q = (w : List ℕ) × Waits ws n 0 q w × Solving f lo n ins outs w
 
 -- one statement is taken and handled
 pub record Visited (f : Flow) (n : ℕ) (ws vs ins ins′ outs outs′ : List ℕ) (q r : Queue) : Type 0 where
   pub held : Held f 0 n vs ins′ outs′ r
   pub falls : r .len + missing outs′ n < q .len + missing outs n
-  pub kept : KeepsRest n ws vs
+  pub kept : KeepsRest n 0 ws vs
   pub in-area : Keeps 0 n ins ins′
   pub out-area : Keeps 0 n outs outs′

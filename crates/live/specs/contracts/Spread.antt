@@ -29,8 +29,8 @@ pub record Follows (n : ℕ) (before after w v : List ℕ) : Type 0 where
 
 -- the queue before and after, for every list that it holds
 pub record Spread (ws vs before after : List ℕ) (n : ℕ) (q r : Queue) : Type 0 where
-  pub waits : (w : List ℕ) → Waits ws n q w → (v : List ℕ) × Waits vs n r v × Follows n before after w v
-  pub kept : KeepsRest n ws vs
+  pub waits : (w : List ℕ) → Waits ws n 0 q w → (v : List ℕ) × Waits vs n 0 r v × Follows n before after w v
+  pub kept : KeepsRest n 0 ws vs
 
 -- a set is joined to the word of statement i
 pub record PushedTo (ws vs before after : List ℕ) (n : ℕ) (q r : Queue) (i live : ℕ) : Type 0 where

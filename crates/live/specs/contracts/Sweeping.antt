@@ -28,8 +28,8 @@ pub record Settled (f : Flow) (i : ℕ) (ins ins′ outs outs′ : List ℕ) (r 
 pub record SettledOrWaits (f : Flow) (n : ℕ) (ws vs ins ins′ outs outs′ : List ℕ) (q r : Queue) (i : ℕ) : Type 0 where
   pub changed : Bool
   pub settled : Settled f i ins ins′ outs outs′ changed
-  pub waits : (w : List ℕ) → Waits ws n q w → Waits vs n r (cond changed (join w i) w)
-  pub kept : KeepsRest n ws vs
+  pub waits : (w : List ℕ) → Waits ws n 0 q w → Waits vs n 0 r (cond changed (join w i) w)
+  pub kept : KeepsRest n 0 ws vs
 
 -- r says whether the last sweep changed a live-in
 pub record Swept (f : Flow) (n : ℕ) (ins ins′ outs outs′ : List ℕ) (r : Bool) : Type 0 where

@@ -1,71 +1,76 @@
--- `masks::holders` meets its contract: bit by bit the word is what the step of the empty mask and of each state says, which is the step of the array's mask.
--- Assumes nothing.
-use mathlib.Core.Path.{_≡_, ap, ap₂, _∙_}
-use Prim.Native.Nat.{ℕ, _<_, min, max}
+-- `masks::holders` meets its contract: in each arm the effect is the one that it names. Assumes nothing.
 use borrow.Author.Needs.{needs}
-use lib.Bits.{bitAnd, bitOr}
-use Rattle.words.specs.contracts.Row.{bit}
-use Rattle.words.proofs.Bit.{bit-lt, bit-or, bit-and}
-use Rattle.masks.specs.Step.{stepOf}
-use Rattle.masks.proofs.Sets.{step-united}
+use mathlib.Core.Path.{_≡_, sym, subst}
+use Prim.Native.Nat.{ℕ}
+use Rattle.masks.specs.declared.Effect.{Effect}
+use Rattle.masks.specs.contracts.Sets.{Holders}
 use Rattle.masks.proofs.holders.Statement.{statement}
 use Rattle.masks.proofs.holders.Tie as tie
 
-step-requires : tie.Need-step-requires
-step-requires c κs = search needs
+named : {e f : Effect} {s none auto dimmed r : ℕ} → e ≡ f → Holders f s none auto dimmed r → Holders e s none auto dimmed r
+named {s = s} {none = none} {auto = auto} {dimmed = dimmed} {r = r} p = subst (λ (x : Effect). Holders x s none auto dimmed r) (sym p)
 
-spread-requires : tie.Need-spread-requires
-spread-requires c κs = search needs
+enum-told : tie.Need-enum-told
+enum-told c = search needs
 
-step-requires-2 : tie.Need-step-requires-2
-step-requires-2 c κs = search needs
+holders-of-requires : tie.Need-holders-of-requires
+holders-of-requires c κs = search needs
 
-spread-requires-2 : tie.Need-spread-requires-2
-spread-requires-2 c κs = search needs
+enum-told-2 : tie.Need-enum-told-2
+enum-told-2 c = search needs
 
-step-requires-3 : tie.Need-step-requires-3
-step-requires-3 c κs = search needs
+holders-of-requires-2 : tie.Need-holders-of-requires-2
+holders-of-requires-2 c κs = search needs
 
-spread-requires-3 : tie.Need-spread-requires-3
-spread-requires-3 c κs = search needs
+enum-told-3 : tie.Need-enum-told-3
+enum-told-3 c = search needs
 
-step-requires-4 : tie.Need-step-requires-4
-step-requires-4 c κs = search needs
+holders-of-requires-3 : tie.Need-holders-of-requires-3
+holders-of-requires-3 c κs = search needs
 
-spread-requires-4 : tie.Need-spread-requires-4
-spread-requires-4 c κs = search needs
+enum-told-4 : tie.Need-enum-told-4
+enum-told-4 c = search needs
+
+holders-of-requires-4 : tie.Need-holders-of-requires-4
+holders-of-requires-4 c κs = search needs
+
+enum-told-5 : tie.Need-enum-told-5
+enum-told-5 c = search needs
+
+holders-of-requires-5 : tie.Need-holders-of-requires-5
+holders-of-requires-5 c κs = search needs
 
 returns : tie.Need-returns
-returns c =
-    let a = c .before .before .before .before .before .before .before .before .args in
-    let first = c .before .before .before .before .before .before in
-    let second = c .before .before .before .before in
-    let third = c .before .before in
-    record {
-      member = λ j l.
-          let x : bit (first .spread .result) j ≡ bit (stepOf (a .effect) 0) (a .s) = first .spread .ensures j l ∙ ap (λ (m : ℕ). bit m (a .s)) (first .before .step .ensures) in
-          let y : bit (second .spread2 .result) j ≡ bit (stepOf (a .effect) 1) (a .s) = second .spread2 .ensures j l ∙ ap (λ (m : ℕ). bit m (a .s)) (second .before .step2 .ensures) in
-          let z : bit (third .spread3 .result) j ≡ bit (stepOf (a .effect) 2) (a .s) = third .spread3 .ensures j l ∙ ap (λ (m : ℕ). bit m (a .s)) (third .before .step3 .ensures) in
-          let w : bit (c .spread4 .result) j ≡ bit (stepOf (a .effect) 4) (a .s) = c .spread4 .ensures j l ∙ ap (λ (m : ℕ). bit m (a .s)) (c .before .step4 .ensures) in
-          bit-or (bitOr (first .spread .result) (bitAnd (a .none) (second .spread2 .result))) (bitOr (bitAnd (a .auto) (third .spread3 .result)) (bitAnd (a .dimmed) (c .spread4 .result))) j
-          ∙ ap₂ max
-          (bit-or (first .spread .result) (bitAnd (a .none) (second .spread2 .result)) j ∙ ap₂ max x (bit-and (a .none) (second .spread2 .result) j ∙ ap (min (bit (a .none) j)) y))
-          (bit-or (bitAnd (a .auto) (third .spread3 .result)) (bitAnd (a .dimmed) (c .spread4 .result)) j
-          ∙ ap₂ max (bit-and (a .auto) (third .spread3 .result) j ∙ ap (min (bit (a .auto) j)) z) (bit-and (a .dimmed) (c .spread4 .result) j ∙ ap (min (bit (a .dimmed) j)) w))
-          ∙ step-united (bit (a .none) j) (bit (a .auto) j) (bit (a .dimmed) j) (bit-lt (a .none) j) (bit-lt (a .auto) j) (bit-lt (a .dimmed) j) (a .effect) (a .s)
-          (c .before .before .before .before .before .before .before .before .pre);
-    }
+returns c = named (c .before .enum-told .given .1) (c .holders-of .ensures)
+
+returns-2 : tie.Need-returns-2
+returns-2 c = named (c .before .enum-told2 .given .1) (c .holders-of2 .ensures)
+
+returns-3 : tie.Need-returns-3
+returns-3 c = named (c .before .enum-told3 .given .1) (c .holders-of3 .ensures)
+
+returns-4 : tie.Need-returns-4
+returns-4 c = named (c .before .enum-told4 .given .1) (c .holders-of4 .ensures)
+
+returns-5 : tie.Need-returns-5
+returns-5 c = named (c .before .enum-told5 .given .1) (c .holders-of5 .ensures)
 
 pub holders-spec : {M : Type 1} → statement M
 holders-spec =
     tie.close
     (tie.spec
-    step-requires
-    spread-requires
-    step-requires-2
-    spread-requires-2
-    step-requires-3
-    spread-requires-3
-    step-requires-4
-    spread-requires-4
-    returns)
+    enum-told
+    holders-of-requires
+    enum-told-2
+    holders-of-requires-2
+    enum-told-3
+    holders-of-requires-3
+    enum-told-4
+    holders-of-requires-4
+    enum-told-5
+    holders-of-requires-5
+    returns
+    returns-2
+    returns-3
+    returns-4
+    returns-5)

@@ -45,6 +45,10 @@ enteredRowAt n = queueAt n + 2 * n
 abbrev pub solverAt : ℕ → ℕ
 solverAt n = queueAt n + 3 * n
 
+-- the row of all RETURNs stands in the first of these words, until the solver begins
+abbrev pub returnsRowAt : ℕ → ℕ
+returnsRowAt n = solverAt n
+
 -- words of a set of arrays, and the most that there may be
 abbrev pub setWords : ℕ → ℕ
 setWords arrays = (arrays + 63) / 64

@@ -33,7 +33,7 @@ returns-2 c =
     let f = flowOf (now (a .file)) in
     let p = start .pre in
     let ready = p .0 .ready in
-    sym (ap lineEntryOf (line-nowhere (ready-size ready) (p .2) (c .before .before .if1 .taken) (p .3) (c .before .next .ensures) (c .if2 .left) (λ d e. ready-below ready (ready-formed ready .first (getD (callLines (kind f (a .es .stmt .0))) (a .l) 0) d e))))
+    sym (ap lineEntryOf (line-nowhere (ready-size ready) (p .2) (c .before .before .if1 .taken) (p .3) (c .before .next .ensures) (c .if2 .left) (λ d e. ready-below ready (ready-formed ready .first (getD (callLines (kind f (a .i .0))) (a .l) 0) d e))))
 
 call-line-requires : tie.Need-call-line-requires
 call-line-requires c κs = search needs
@@ -46,7 +46,7 @@ line-entry-requires c κs =
 returns-3 : tie.Need-returns-3
 returns-3 c =
     let start = c .before .before .before .before .before .before in
-    let at = c .before .call-line .ensures ∙ sym (start .pre .1 .place .lines .at (start .args .l) 0 (omega arith)) in
+    let at = c .before .call-line .ensures ∙ sym (start .pre .1 .lines .at (start .args .l) 0 (omega arith)) in
     c .line-entry .ensures ∙ ap (λ (l : ℕ). lineEntryOf (enters (flowOf (now (start .args .file))) l)) at
 
 pub line-entered-spec : {M : Type 1} → statement M

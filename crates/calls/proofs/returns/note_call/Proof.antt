@@ -48,7 +48,7 @@ note-bodies-requires c κs =
     let p = start .pre in
     let k = c .before .before .k .given .0 .0 .0 in
     let e = continued (c .before .before) in
-    (p .0, p .1, ready-below (p .0 .ready) (ready-formed (p .0 .ready) .continuation (start .args .c .0) k e), p .2 .bodies k e)
+    (p .0, p .1, ready-below (p .0 .ready) (ready-formed (p .0 .ready) .continuation (start .args .c .0) k e), p .2 .bodies k e, p .3)
 
 enum-told : tie.Need-enum-told
 enum-told c = search needs

@@ -18,7 +18,7 @@ use Rattle.statements.proofs.WellFormed.{well-formed, arrays-is, entry-is}
 use lib.Dec.{ltb}
 use Rattle.masks.specs.declared.Effect.the-variants.{Reset}
 use Rattle.solve.specs.contracts.Layout.{setRow, outRow, maskRowAt, areaEnd}
-use Rattle.solve.proofs.Room.{row-from, solver-room}
+use Rattle.solve.proofs.Room.{nodes-within, solver-room}
 use Rattle.dataflow.specs.contracts.Transfer.{RowSteps}
 use Rattle.dataflow.specs.contracts.Solving.{Unused, RuleResult}
 use Rattle.dataflow.proofs.Sets.{steps-at, entry-apart}
@@ -110,9 +110,10 @@ enqueue-requires c κs =
     let m = c .before .before .before .before .before .before .before .before in
     let n : ℕ = s .args .h .statements in
     let room = solver-room (s .pre .0 .ready) (s .pre .2) (narrow (c .before .before .before .before .before .before .before .before .before)) in
-    let low = row-from n (c .before .before .before .before .before .before .before .before .before .set-words .result) (2 * n) in
+    let end = nodes-within n (c .before .before .before .before .before .before .before .before .before .set-words .result) in
     let size = c .before .before .before .reset-row .ensures .size in (
       ready-most (s .pre .0 .ready),
+      narrow (c .before .before .before .before .before .before .before .before .before),
       omega arith,
       omega (arith, below m),
       (
@@ -124,19 +125,19 @@ enqueue-requires c κs =
 
 -- the area where the visits begin
 
-begins : (c : tie.After-enqueue Inv-loop μ-loop) → let a = c .before .before .before .before .before .before .before .before .before .before .before .before .before .args in Running (flowOf (now (a .file))) (a .h .statements) (c .before .before .before .before .before .before .before .before .before .before .set-words .result) (c .enqueue .last .0) (c .enqueue .last .0) (c .enqueue .result) 0
-begins c =
-    let s = c .before .before .before .before .before .before .before .before .before .before .before .before .before in
-    let m = c .before .before .before .before .before .before .before .before .before in
-    starts (flowOf (now (s .args .file))) (s .args .h .statements) (c .before .before .before .before .before .before .before .before .before .before .set-words .result) _ _ (m .node .result .0) (s .args .h .arrays) (ready-size (s .pre .0 .ready)) (s .pre .2) (unused (c .before .before .before .before .before .before .before .before .before .before))
-    (entry m) (below m) (count s) (entered (c .before .before .before .before)) _ _ (c .enqueue .ensures)
-
 beside : (c : tie.After-enqueue Inv-loop μ-loop) → let a = c .before .before .before .before .before .before .before .before .before .before .before .before .before .args in Keeps (queueAt (a .h .statements)) (areaEnd (a .h .statements) (c .before .before .before .before .before .before .before .before .before .before .set-words .result)) (now (a .work)) (c .enqueue .last .0)
 beside c =
     let s = c .before .before .before .before .before .before .before .before .before .before .before .before .before in
     let m = c .before .before .before .before .before .before .before .before .before in
     starts-keeps (flowOf (now (s .args .file))) (s .args .h .statements) (c .before .before .before .before .before .before .before .before .before .before .set-words .result) _ _ (m .node .result .0) (s .args .h .arrays) (ready-size (s .pre .0 .ready)) (s .pre .2) (unused (c .before .before .before .before .before .before .before .before .before .before))
     (entry m) (below m) (count s) (entered (c .before .before .before .before)) _ _ (c .enqueue .ensures)
+
+begins : (c : tie.After-enqueue Inv-loop μ-loop) → let a = c .before .before .before .before .before .before .before .before .before .before .before .before .before .args in Running (flowOf (now (a .file))) (a .h .statements) (c .before .before .before .before .before .before .before .before .before .before .set-words .result) (c .enqueue .last .0) (c .enqueue .last .0) (c .enqueue .result) 0
+begins c =
+    let s = c .before .before .before .before .before .before .before .before .before .before .before .before .before in
+    let m = c .before .before .before .before .before .before .before .before .before in
+    starts (flowOf (now (s .args .file))) (s .args .h .statements) (c .before .before .before .before .before .before .before .before .before .before .set-words .result) _ _ (m .node .result .0) (s .args .h .arrays) (ready-size (s .pre .0 .ready)) (s .pre .2) (unused (c .before .before .before .before .before .before .before .before .before .before))
+    (entry m) (below m) (count s) (entered (c .before .before .before .before)) _ _ (c .enqueue .ensures) (linked-stays (beside c) (s .pre .1))
 
 loop-holds : tie.Need-loop-holds Inv-loop μ-loop
 loop-holds c = begins (c .before .before)

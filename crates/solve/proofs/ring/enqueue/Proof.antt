@@ -1,52 +1,37 @@
--- `solve::ring::enqueue` meets its contract: a number that is no new member of the set waits already; another finds room, and is stored at the back.
+-- `solve::ring::enqueue` meets its contract: the place behind the last is free, and the length grows by one where the number did not wait.
 -- Assumes nothing.
-use Prim.Native.Nat.{ℕ, _+_, _*_, _<_}
-use mathlib.Core.Bool.{Bool, true, false}
-use mathlib.Core.List.{List}
-use mathlib.Core.Path.{_≡_, _∙_, ap, sym, subst}
+use Prim.Native.Nat.{_+_, _*_, _<_}
+use native.Mathlib.Nat.{le-refl, le-of-lt}
 use native.Mathlib.Omega.{arith}
 use denote.Ref.{now}
-use lib.Dec.{eqb}
-use lib.ListN.{length}
+use lib.ListN.{length-set}
+use Rattle.statements.proofs.WorkArea.{row-below}
+use Rattle.solve.specs.contracts.Waiting.{ringWords}
+use Rattle.solve.proofs.Room.{row-from, row-fits, node-below}
+use Rattle.solve.proofs.Waiting.{few, slot-in, enqueued}
 use borrow.Author.Needs.{needs}
-use Rattle.words.specs.contracts.Row.{has}
-use Rattle.words.specs.contracts.Change.{Inserted, inserted}
-use Rattle.words.proofs.Inserted.{length-inserted}
-use Rattle.solve.specs.contracts.Layout.{waitingAt}
-use Rattle.solve.proofs.Wrapped.{wrapped-lt}
-use Rattle.solve.proofs.Waiting.{room, waits-false, enqueued, enqueued-waiting}
 use Rattle.solve.proofs.ring.enqueue.Statement.{statement}
 use Rattle.solve.proofs.ring.enqueue.Tie as tie
 
-waiting-requires : tie.Need-waiting-requires
-waiting-requires c κs = search needs
+state-requires : tie.Need-state-requires
+state-requires c κs = search needs
 
-insert-requires : tie.Need-insert-requires
-insert-requires c κs = search needs
+mul-old : tie.Need-mul-old
+mul-old c = let s = c .before .before in omega (arith, row-fits (s .args .n) (s .args .width) (s .pre .3), s .pre .2, c .state .ensures, node-below (s .pre .0) (s .pre .1) (le-of-lt (s .pre .3)))
+
+slice-read-old : tie.Need-slice-read-old
+slice-read-old c = let s = c .before .before .before in omega (arith, row-fits (s .args .n) (s .args .width) (s .pre .3), s .pre .2, c .before .state .ensures, node-below (s .pre .0) (s .pre .1) (le-of-lt (s .pre .3)))
 
 queue-requires : tie.Need-queue-requires
 queue-requires c κs = search needs
 
--- the set's place by its name
-placed : {ws vs : List ℕ} {at base d : ℕ} {r : Bool} → at ≡ base → Inserted ws vs at d r → Inserted ws vs base d r
-placed {ws} {vs} {at} {base} {d} {r} e i = subst (λ (b : ℕ). Inserted ws vs b d r) e i
+-- the free place
 
--- the number does not wait, so there is room
-fresh : (c : tie.Then1) → let start = c .before .before .before .before .before .before .before in
-    eqb (has (now (start .args .work)) (waitingAt (start .args .n)) (start .args .d)) 0 ≡ true
-fresh c = sym (placed (c .before .before .before .before .waiting .ensures) (c .before .before .before .insert .ensures) .fresh) ∙ c .if1 .taken
-
-few : (c : tie.Then1) → let start = c .before .before .before .before .before .before .before in start .args .queue .len < 2 * (start .args .n)
-few c = let start = c .before .before .before .before .before .before .before in room (start .pre .3 .1) (start .pre .2) (waits-false (start .pre .3 .1) (start .pre .2) (fresh c))
-
-place : (c : tie.After-wrap) → c .wrap .result < 2 * (c .before .before .before .before .before .before .before .before .before .args .n)
-place c =
-    let start = c .before .before .before .before .before .before .before .before .before in
-    rw (c .wrap .ensures)
-    (wrapped-lt (2 * (start .args .n)) (start .args .queue .head + start .args .queue .len) (omega (arith, few (c .before .before), start .pre .3 .1 .front)))
+place : (c : tie.After-wrap) → c .wrap .result < ringWords (c .before .before .before .before .before .args .n)
+place c = let s = c .before .before .before .before .before in rw (c .wrap .ensures) (slot-in (s .pre .4 .1) (s .pre .3))
 
 add-wrap : tie.Need-add-wrap
-add-wrap c = omega (arith, few (c .before), c .before .before .before .before .before .before .before .before .pre .3 .1 .front)
+add-wrap c = let s = c .before .before .before .before in omega (arith, few (s .pre .4 .1) (s .pre .3), s .pre .4 .1 .front, s .pre .0)
 
 mul-wrap : tie.Need-mul-wrap
 mul-wrap c = search needs
@@ -55,46 +40,42 @@ wrap-requires : tie.Need-wrap-requires
 wrap-requires c κs = search needs
 
 add-work : tie.Need-add-work
-add-work c = omega (arith, place c)
+add-work c = omega (arith, place c, c .before .queue .ensures, row-below (c .before .before .before .before .before .pre .0) (le-refl (c .before .before .before .before .before .args .n)))
 
 mul-work : tie.Need-mul-work
-mul-work c = omega (arith, place c)
+mul-work c = omega (arith, place c, c .before .queue .ensures, row-below (c .before .before .before .before .before .pre .0) (le-refl (c .before .before .before .before .before .args .n)))
 
 slice-write-work : tie.Need-slice-write-work
-slice-write-work c =
-    let start = c .before .before .before .before .before .before .before .before .before in
-    let i = c .before .before .before .before .before .insert .ensures in
-    omega (arith, place c, ap length (i .slice) ∙ length-inserted _ _ _)
+slice-write-work c = let s = c .before .before .before .before .before in omega (arith, place c, c .before .queue .ensures, s .pre .2, row-from (s .args .n) (s .args .width) (2 * s .args .n))
 
-add-t12 : tie.Need-add-t12
-add-t12 c = omega (arith, few (c .before .before))
+joined-requires : tie.Need-joined-requires
+joined-requires c κs = search needs
+
+mul-work-2 : tie.Need-mul-work-2
+mul-work-2 c = mul-old (c .before .before .before .before)
+
+slice-write-work-2 : tie.Need-slice-write-work-2
+slice-write-work-2 c = let s = c .before .before .before .before .before .before in let long = length-set (now (s .args .work)) (c .before .before .queue .result + c .before .wrap .result) (s .args .d) in omega (arith, row-fits (s .args .n) (s .args .width) (s .pre .3), s .pre .2, c .before .before .before .before .state .ensures)
+
+sub-t18 : tie.Need-sub-t18
+sub-t18 c = search needs
+
+add-t16 : tie.Need-add-t16
+add-t16 c = let s = c .before .before .before .before .before .before in omega (arith, few (s .pre .4 .1) (s .pre .3), s .pre .0)
 
 same-length : tie.Need-same-length
 same-length c = search needs
 
 returns : tie.Need-returns
-returns c =
-    let start = c .before .before .before .before .before .before .before .before .before in
-    enqueued (start .pre .3) (start .pre .2) (start .pre .1) (fresh (c .before .before))
-    (placed (c .before .before .before .before .before .before .waiting .ensures) (c .before .before .before .before .before .insert .ensures) .slice)
-    (c .before .queue .ensures)
-    (c .wrap .ensures)
-
-same-length-2 : tie.Need-same-length-2
-same-length-2 c = search needs
-
-returns-2 : tie.Need-returns-2
-returns-2 c =
-    let start = c .before .before .before .before .before .before .before in
-    let i = placed (c .before .before .before .before .waiting .ensures) (c .before .before .before .insert .ensures) in
-    enqueued-waiting (start .pre .2) (sym (i .fresh) ∙ c .if1 .left) (i .slice)
+returns c = let s = c .before .before .before .before .before .before in enqueued (s .args .grew) (s .pre .4) (s .pre .3) (s .pre .2) (c .before .before .before .before .state .ensures) (c .before .before .queue .ensures) (c .before .wrap .ensures) (c .joined .ensures)
 
 pub enqueue-spec : {M : Type 1} → statement M
 enqueue-spec =
     tie.close
     (tie.spec
-    waiting-requires
-    insert-requires
+    state-requires
+    mul-old
+    slice-read-old
     queue-requires
     add-wrap
     mul-wrap
@@ -102,8 +83,10 @@ enqueue-spec =
     add-work
     mul-work
     slice-write-work
-    add-t12
+    joined-requires
+    mul-work-2
+    slice-write-work-2
+    sub-t18
+    add-t16
     same-length
-    returns
-    same-length-2
-    returns-2)
+    returns)

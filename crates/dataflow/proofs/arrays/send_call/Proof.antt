@@ -1,0 +1,70 @@
+-- `dataflow::arrays::send_call` meets its contract: the rows of the call's edges are made, and pushed along them.
+-- What is pushed is what the doubled graph's edges bring.
+use Prim.Native.Nat.{_≤_}
+use mathlib.Core.List.{List}
+use mathlib.Core.Option.{Option}
+use mathlib.Core.Path.{refl, sym, ap, subst}
+use native.Mathlib.Omega.{arith}
+use denote.Ref.{now}
+use Rattle.flow.specs.Format.{flowOf}
+use Rattle.records.proofs.Files.{limited}
+use Rattle.theory.specs.Doubled.{Node, Edge}
+use Rattle.statements.specs.contracts.Layout.{queueAt}
+use Rattle.statements.specs.contracts.Ready.{Keeps}
+use Rattle.statements.proofs.Keeps.{keeps-widen}
+use Rattle.calls.specs.contracts.Slots.{present}
+use Rattle.calls.proofs.Classes.{slots-call, call-says}
+use Rattle.solve.specs.contracts.Layout.{maskRowAt}
+use Rattle.dataflow.specs.contracts.Sent.{edgeRow, Sent}
+use Rattle.dataflow.proofs.Kept.{indexed-stays, ready-stays, linked-stays}
+use Rattle.dataflow.proofs.Sharing.{goes-sent}
+use Rattle.dataflow.proofs.Sends.{beside-waits, beside-shared, sends}
+use borrow.Author.Needs.{needs}
+use Rattle.dataflow.proofs.arrays.send_call.Statement.{statement}
+use Rattle.dataflow.proofs.arrays.send_call.Tie as tie
+
+call-rows-requires : tie.Need-call-rows-requires
+call-rows-requires c κs = let s = c .before .before .before in (s .pre .0, s .pre .1, s .pre .2, s .pre .3, s .pre .4, ap (λ (v : Node). v .stmt) (s .pre .5), s .pre .6, s .pre .7)
+
+-- while the rows are made, only words behind the queue are written
+beside : (c : tie.After-call-rows) → let a = c .before .before .before .before .args in Keeps (queueAt (a .h .statements)) (maskRowAt (a .h .statements) (a .width) 0) (now (a .work)) (c .call-rows .last .1 .1 .0)
+beside c = keeps-widen (omega arith) (omega arith) (c .call-rows .ensures .keeps)
+
+call-of-requires : tie.Need-call-of-requires
+call-of-requires c κs =
+    let s = c .before .before .before .before .before .before .before in
+    let keeps = beside (c .before .before .before) in
+    (ready-stays keeps (s .pre .1 .ready), linked-stays keeps (s .pre .2), s .pre .6, s .pre .4, s .pre .7)
+
+push-call-requires : tie.Need-push-call-requires
+push-call-requires c κs =
+    let s = c .before .before .before .before .before .before .before .before .before in
+    let keeps = beside (c .before .before .before .before .before) in
+    let most = limited (s .pre .1 .ready .fit) .arrays in (
+      omega (arith, s .pre .0, ap (λ h. h .arrays) (s .pre .1 .header)),
+      indexed-stays keeps (s .pre .1),
+      s .pre .4,
+      s .pre .6,
+      c .before .call-of .ensures,
+      (_, beside-waits (now (s .args .work)) (c .before .before .before .before .before .call-rows .last .1 .1 .0) (s .args .h .statements) (s .args .width) (c .before .before .before .before .before .call-rows .ensures .keeps) (s .pre .9 .1)),
+    )
+
+same-length : tie.Need-same-length
+same-length c = search needs
+
+returns : tie.Need-returns
+returns c =
+    let s = c .before .before .before .before .before .before .before .before .before .before .before .before in
+    let f = flowOf (now (s .args .file)) in
+    let n = s .args .h .statements in
+    let says = call-says f (s .args .i .0) (s .pre .7) in
+    let call = c .before .before .before .before .call-of .ensures in
+    let shared = beside-shared (now (s .args .work)) (c .before .before .before .before .before .before .before .before .call-rows .last .1 .1 .0) n (s .args .width) (c .before .before .before .before .before .before .before .before .call-rows .ensures .keeps) (s .pre .8) in
+    sends (s .pre .5) refl (c .before .before .before .before .before .before .before .before .call-rows .ensures)
+    (goes-sent shared
+    (subst (λ (xs : List (Option Edge)). Sent f (c .before .before .before .before .before .before .before .before .call-rows .last .1 .1 .0) (c .before .before .push-call .last .1 .1 .0) n (s .args .width) (edgeRow n (s .args .width)) (s .args .first) (s .args .i .0) (present xs) (c .before .before .push-call .result))
+    (sym (slots-call f (s .args .base) (s .args .i .0) (c .before .before .before .before .call-of .result .continuation .0) (call .continues) (says .2))) (c .before .before .push-call .ensures)))
+
+pub send-call-spec : {M : Type 1} → statement M
+send-call-spec =
+    tie.close (tie.spec call-rows-requires call-of-requires push-call-requires same-length returns)
