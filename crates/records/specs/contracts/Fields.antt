@@ -4,14 +4,15 @@ use Prim.Native.Nat.{ℕ, zero, suc, _+_, _-_, _*_, _/_, _%_, _^_, _≤_, _<_}
 use mathlib.Core.Bool.{cond}
 use mathlib.Core.List.{List}
 use mathlib.Core.Option.{Option, none, some}
-use lib.ListN.{take, drop}
+use mathlib.Core.Path.{_≡_}
+use lib.ListN.{length, getD, take, drop}
 use lib.Bits.{bitOr}
 use lib.Dec.{eqb}
 use Rattle.flow.specs.declared.Continuation.{Continuation}
 use Rattle.flow.specs.declared.Continuation as C
 use Rattle.flow.specs.declared.LineEntry.{LineEntry}
 use Rattle.flow.specs.declared.LineEntry as E
-use Rattle.flow.specs.Format.{kindAt, kindDim, kindGosub, kindOnGosub, dataPlace, dataCount, elementsEnd, continuationAt, recordEnd, lineCount, lineNumber, u16At}
+use Rattle.flow.specs.Format.{kindAt, kindDim, kindGosub, kindOnGosub, dataPlace, dataCount, elementsEnd, continuationAt, recordEnd, lineNumber, u16At}
 
 -- the record at p, as that part of the file
 abbrev pub recordPart : List ℕ → ℕ → List ℕ
@@ -42,11 +43,32 @@ abbrev pub lineEntryOf : Option ℕ → LineEntry
 lineEntryOf none = E.the-variants.Nothing
 lineEntryOf (some t) = E.the-variants.At (record { 0 = t })
 
--- r of the file's FL records have lines below l, and the others have not
-pub record LineRank (s : List ℕ) (l r : ℕ) : Type 0 where
-  pub all : r ≤ lineCount s
-  pub below : (j : ℕ) → j < r → lineNumber s j < l
-  pub above : (j : ℕ) → r ≤ j → j < lineCount s → l ≤ lineNumber s j
+-- of the file's FL records from `first` to below `end`, those below r have lines below l, and the others have not
+pub record LineRank (s : List ℕ) (first end l r : ℕ) : Type 0 where
+  pub from : first ≤ r
+  pub all : r ≤ end
+  pub below : (j : ℕ) → first ≤ j → j < r → lineNumber s j < l
+  pub above : (j : ℕ) → r ≤ j → j < end → l ≤ lineNumber s j
+
+-- the part, of n, that a line falls into
+abbrev pub partOf : ℕ → ℕ → ℕ
+partOf n l = l * n / 65536
+
+-- the word of part k says where its records stand among the first r FL records: from its lower 16 bits to below its upper ones
+pub record LinePart (s : List ℕ) (n r k word : ℕ) : Type 0 where
+  pub some : word % 65536 ≤ word / 65536
+  pub all : word / 65536 ≤ r
+  pub holds : (j : ℕ) → j < r → partOf n (lineNumber s j) ≡ k → (word % 65536 ≤ j) × (j < word / 65536)
+
+abbrev pub LineParts : List ℕ → List ℕ → ℕ → ℕ → ℕ → Type 0
+LineParts s ws base n r = (k : ℕ) → k < n → LinePart s n r k (getD ws (base + k) 0)
+
+-- they are noted, and nothing else is written
+pub record PartsNoted (s ws vs : List ℕ) (base n r : ℕ) : Type 0 where
+  pub size : length vs ≡ length ws
+  pub below : (x : ℕ) → x < base → getD vs x 0 ≡ getD ws x 0
+  pub above : (x : ℕ) → base + n ≤ x → getD vs x 0 ≡ getD ws x 0
+  pub parts : LineParts s vs base n r
 
 -- Sets of arrays as words: array a is bit a % 64 of word a / 64
 
