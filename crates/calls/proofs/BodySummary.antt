@@ -305,7 +305,7 @@ module _ {f : Flow} {n : ℕ} (w : WellFormed f) (sz : size f ≡ n) where
         ⊎-elim (y .own a l) (y .nested a l) (or-cases (lists.elem a (references f (x .0))) (callTouches f (x .0) a) (x .2))
 
     row : (v : ℕ) → WalkRow f (set ws (bodiesAt n + e) v) n e
-    row v = walk-kept (walk-low w sz le) (λ j m. rows-set ws (bodiesAt n + e) v (omega arith) (omega arith) e j) (open-row (p .is-open) (p .summing .bodies e le))
+    row v = walk-kept (walk-low w sz le) (λ j m. rows-set ws n (bodiesAt n + e) v (omega arith) (omega arith) e j) (open-row (p .is-open) (p .summing .bodies e le))
 
     state : (b : Bool) → found-opaque ≡ b → BodyState f (set ws (bodiesAt n + e) (summaryState b)) n e
     state true h = BodyState.is-opaque (body-set w sz (p .summing) room le opaque) (p .found h) (row opaque)

@@ -67,7 +67,7 @@ by-place {A} {ws} {vs} {n} {x} s y l h k = go (ℕ-discrete y x)
     go (yes q) = h q
     go (no d) = k (s .other y l d)
 
-module _ (ws : List ℕ) {n : ℕ} (x v : ℕ) (from : callsAt n ≤ x) (to : x < matrixAt n) where
+module _ (ws : List ℕ) (n x v : ℕ) (from : callsAt n ≤ x) (to : x < matrixAt n) where
   change-set : Change ws (set ws x v) n x
   change-set = record { keeps = keeps-set ws x v from (omega (arith, row-from n n)); other = λ y l d. getD-set-other ws x y v 0 d }
 
@@ -203,7 +203,7 @@ module _ {f : Flow} {n : ℕ} (w : WellFormed f) (sz : size f ≡ n) where
     module _ (x bits : ℕ) (from : callsAt n ≤ x) (to : x < matrixAt n) (nb : (b : ℕ) → b < n → bodiesAt n + b ≢ x) (nc : (c : ℕ) → c < n → callsAt n + c ≢ x) where
       onward-joined : Onward ws (joined ws x bits) n
       onward-joined =
-          onward-change n (change-joined ws x bits from to) (λ b l d. nb b l) (λ c l q. absurd (nc c l q))
+          onward-change n (change-joined ws n x bits from to) (λ b l d. nb b l) (λ c l q. absurd (nc c l q))
           (λ b a l q h. joined-more ws x bits (touchedAt n + b) a (omega arith) h)
           (λ c a l q h. joined-more ws x bits (callTouchedAt n + c) a (omega arith) h)
 
@@ -215,10 +215,10 @@ module _ {f : Flow} {n : ℕ} (w : WellFormed f) (sz : size f ≡ n) where
             (record {
               state = joined-other ws x bits (bodiesAt n + b) (nb b l);
               grows = λ a h. joined-more ws x bits (touchedAt n + b) a (omega arith) h;
-              row = λ i m. rows-joined ws x bits from to b i;
+              row = λ i m. rows-joined ws n x bits from to b i;
             })
             (s .bodies b l);
-        free = λ r l h i m. rows-joined ws x bits from to r i ∙ s .free r l h i m;
+        free = λ r l h i m. rows-joined ws n x bits from to r i ∙ s .free r l h i m;
         touched = λ b l. joined-within ws x bits (touchedAt n + b) (omega arith) (s .touched b l) (tb b l);
         calls = λ c l.
             call-kept
@@ -256,7 +256,7 @@ module _ {f : Flow} {n : ℕ} (w : WellFormed f) (sz : size f ≡ n) where
           (record {
             state = same-word (bodiesAt n + b) d;
             grows = λ a h. ap (λ w. bit w a) (same-word (touchedAt n + b) t) ∙ h;
-            row = λ i m. rows-set ws x v from to b i;
+            row = λ i m. rows-set ws n x v from to b i;
           })
           (s .bodies b l)
 
@@ -278,14 +278,14 @@ module _ {f : Flow} {n : ℕ} (w : WellFormed f) (sz : size f ≡ n) where
 
       pub onward-call : v ≢ unentered → Onward ws (set ws (callsAt n + c) v) n
       onward-call h =
-          onward-change n (change-set ws (callsAt n + c) v (omega arith) (omega arith)) (λ b l d q. omega arith)
+          onward-change n (change-set ws n (callsAt n + c) v (omega arith) (omega arith)) (λ b l d q. omega arith)
           (λ d l q z. let same : d ≡ c = omega arith in h (sym call-set ∙ subst (λ y. call (set ws (callsAt n + c) v) n y ≡ unentered) same z))
           (λ b a l q. absurd (omega arith)) (λ d a l q. absurd (omega arith))
 
       pub summing-call : CallState f (set ws (callsAt n + c) v) n c → Summing f (set ws (callsAt n + c) v) n
       summing-call new = record {
         bodies = λ b l. set-body (callsAt n + c) v (omega arith) (omega arith) l (λ q. omega arith) (λ q. omega arith);
-        free = λ r l h i m. rows-set ws (callsAt n + c) v (omega arith) (omega arith) r i ∙ s .free r l h i m;
+        free = λ r l h i m. rows-set ws n (callsAt n + c) v (omega arith) (omega arith) r i ∙ s .free r l h i m;
         touched = λ b l. rw (call-other (touchedAt n + b) (λ q. omega arith)) (s .touched b l);
         calls = λ d l. calls d l (ℕ-discrete d c);
         callTouched = λ d l. rw (call-other (callTouchedAt n + d) (λ q. omega arith)) (s .callTouched d l);
@@ -306,13 +306,13 @@ module _ {f : Flow} {n : ℕ} (w : WellFormed f) (sz : size f ≡ n) where
 
       pub onward-body : OnwardBut e ws (set ws (bodiesAt n + e) v) n
       onward-body =
-          onward-change e (change-set ws (bodiesAt n + e) v (omega arith) (omega arith)) (λ b l d q. omega (arith, d)) (λ c l q. absurd (omega arith))
+          onward-change e (change-set ws n (bodiesAt n + e) v (omega arith) (omega arith)) (λ b l d q. omega (arith, d)) (λ c l q. absurd (omega arith))
           (λ b a l q. absurd (omega arith)) (λ c a l q. absurd (omega arith))
 
       pub summing-body : v ≢ unentered → BodyState f (set ws (bodiesAt n + e) v) n e → Summing f (set ws (bodiesAt n + e) v) n
       summing-body h new = record {
         bodies = λ b l. bodies b l (ℕ-discrete b e);
-        free = λ r l h i m. rows-set ws (bodiesAt n + e) v (omega arith) (omega arith) r i ∙ s .free r l h i m;
+        free = λ r l h i m. rows-set ws n (bodiesAt n + e) v (omega arith) (omega arith) r i ∙ s .free r l h i m;
         touched = λ b l. rw (body-other (touchedAt n + b) (λ q. omega arith)) (s .touched b l);
         calls = λ c l. set-call (bodiesAt n + e) v (omega arith) (omega arith) l (λ q. omega arith) (λ q. omega arith) (λ b m z. entered b m z (ℕ-discrete b e));
         callTouched = λ c l. rw (body-other (callTouchedAt n + c) (λ q. omega arith)) (s .callTouched c l);

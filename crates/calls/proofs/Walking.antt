@@ -262,7 +262,7 @@ walking-first {f} {ws} {vs} {n} {e} {height} s l empty m = record {
 }
 
 -- the stack stands within the area
-pub stack-fits : {ws : List ℕ} {n e top : ℕ} → Stack ws n e top → queueAt n + top ≤ 38 * n
+pub stack-fits : {ws : List ℕ} {n e top : ℕ} → Stack ws n e top → queueAt n + top ≤ 39 * n
 stack-fits {ws} {n} {e} s = omega (arith, s .high, met-le ws n e, row-below (s .area .few) (le-refl n))
 
 pub stack-less : {ws : List ℕ} {n e top up : ℕ} → up ≡ suc top → Stack ws n e up → Stack ws n e top

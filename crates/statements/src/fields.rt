@@ -10,6 +10,7 @@ ghost use Rattle.theory.specs.Body.{kind, successors, references, callLines, co
 ghost use Rattle.theory.specs.Doubled as doubled;
 ghost use Rattle.theory.specs.Lists as lists;
 ghost use Rattle.statements.specs.contracts.Ready.{Ready, Indexed, RecordOf, MembersWord, noItem};
+use crate::layout;
 use flow::KIND_CLR;
 use flow::KIND_RETURN;
 use flow::KIND_RUN;
@@ -138,13 +139,8 @@ pub fn entered(file: &[u8], h: flow::Header, work: &[u64], i: StmtId, k: usize) 
 {
     let n = h.statements;
     let lines_at = h.lines_at;
-    let lines = h.lines;
-    records::lines::line_entry(
-        file,
-        lines_at,
-        lines,
-        records::call_line(file, offset(file, work, n, i), k),
-    )
+    let line = records::call_line(file, offset(file, work, n, i), k);
+    records::lines::line_entry(file, lines_at, work, layout::lines(n), n, line)
 }
 
 // The record of statement i, given out as that part of the file.

@@ -6,12 +6,19 @@ ghost use Rattle.flow.specs.Limits.{maxStatements, maxArrays};
 ghost use Rattle.statements.specs.contracts.Layout as at;
 use flow::StmtId;
 
+// Where the FL records of each part of the lines stand.
+pub fn lines(n: usize) -> usize
+    ensures { λ r. ⌜ r ≡ at.linesAt n ⌝ }
+{
+    n
+}
+
 // The state of each call with a continuation: transparent or opaque.
 pub fn calls(n: usize) -> usize
     requires { ⌜ n ≤ maxStatements ⌝ }
     ensures { λ r. ⌜ r ≡ at.callsAt n ⌝ }
 {
-    n
+    2 * n
 }
 
 // The arrays that each such call touches.
@@ -19,7 +26,7 @@ pub fn call_touched(n: usize) -> usize
     requires { ⌜ n ≤ maxStatements ⌝ }
     ensures { λ r. ⌜ r ≡ at.callTouchedAt n ⌝ }
 {
-    2 * n
+    3 * n
 }
 
 // The state of each body: unentered, open, transparent or opaque.
@@ -27,7 +34,7 @@ pub fn bodies(n: usize) -> usize
     requires { ⌜ n ≤ maxStatements ⌝ }
     ensures { λ r. ⌜ r ≡ at.bodiesAt n ⌝ }
 {
-    3 * n
+    4 * n
 }
 
 // The arrays that each body touches.
@@ -35,7 +42,7 @@ pub fn touched(n: usize) -> usize
     requires { ⌜ n ≤ maxStatements ⌝ }
     ensures { λ r. ⌜ r ≡ at.touchedAt n ⌝ }
 {
-    4 * n
+    5 * n
 }
 
 // Words of a row of statements.
@@ -51,7 +58,7 @@ pub fn matrix(n: usize) -> usize
     requires { ⌜ n ≤ maxStatements ⌝ }
     ensures { λ r. ⌜ r ≡ at.matrixAt n ⌝ }
 {
-    5 * n
+    6 * n
 }
 
 // Where the first k rows of the matrix end.

@@ -72,7 +72,7 @@ pub record Summary (f : Flow) (ws : List ℕ) (n c : ℕ) : Type 0 where
 
 -- a row that bodies may be joined to lies above the noted places, and above the matrix if walks are read from there
 pub record Target (ws : List ℕ) (n to : ℕ) (whole : Bool) : Type 0 where
-  pub low : n ≤ to
+  pub low : callsAt n ≤ to
   pub high : to + rowWords n ≤ length ws
   pub apart : whole ≡ true → queueAt n ≤ to
 

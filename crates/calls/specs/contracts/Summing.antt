@@ -17,7 +17,8 @@ use Rattle.theory.specs.Lists as lists
 use Rattle.theory.specs.Lists.{In}
 use Rattle.theory.specs.Body as theory
 use Rattle.theory.specs.Body.{kind, references, continuationOf, isReturn, callees, touches, opaqueCall, callTouches, Calls⁺}
-use Rattle.statements.specs.contracts.Layout.{callsAt, callTouchedAt, bodiesAt, touchedAt, enteredRowAt}
+use Rattle.records.specs.contracts.Fields.{LineParts}
+use Rattle.statements.specs.contracts.Layout.{linesAt, callsAt, callTouchedAt, bodiesAt, touchedAt, enteredRowAt}
 use Rattle.statements.specs.contracts.Ready.{Ready, Keeps, MembersWord}
 use Rattle.calls.specs.contracts.Held.{unentered, opened, transparent, opaque, EmptyRow, WalkRow}
 
@@ -91,10 +92,11 @@ Onward ws vs n = OnwardBut n ws vs n
 abbrev pub Leads : Flow → List ℕ → ℕ → ℕ → Type 0
 Leads f ws n b = (o : ℕ) → o < n → body ws n o ≡ opened → Calls⁺ f o b
 
--- the places of the records are noted, and the file's lines stand at `place`, so many
-pub record Located (s ws : List ℕ) (place count : ℕ) : Type 0 where
+-- the places of the records and the parts of the lines are noted, and the file's lines stand at `place`
+pub record Located (s ws : List ℕ) (place : ℕ) : Type 0 where
   pub ready : Ready s ws (statementsOf s)
-  pub lines : (place ≡ linesPlace s) × (count ≡ lineCount s)
+  pub parts : LineParts s ws (linesAt (statementsOf s)) (statementsOf s) (lineCount s)
+  pub lines : place ≡ linesPlace s
 
 -- statement i was passed by on the walk of body e: its references, and what it touches as a call, were joined to what the body touches; whether it makes the body opaque
 pub record WalkPassed (f : Flow) (ws vs : List ℕ) (n e i : ℕ) (found-opaque : Bool) : Type 0 where

@@ -11,12 +11,12 @@ use Rattle.flow.specs.contracts.Answers.{headerOf}
 use Rattle.flow.specs.Flow.{Item, statement, items}
 use Rattle.words.specs.contracts.Row.{bit}
 use Rattle.flow.specs.Limits.{workWords}
-use Rattle.flow.specs.Format.{flowOf, tabulate, statementsOf, recordPlace, kindReturn, kindClr, kindRun, kindAt, successorCount, successorAt, referenceCount, referenceAt, writtenAt, readAt, itemAt}
+use Rattle.flow.specs.Format.{flowOf, tabulate, statementsOf, lineCount, recordPlace, kindReturn, kindClr, kindRun, kindAt, successorCount, successorAt, referenceCount, referenceAt, writtenAt, readAt, itemAt}
 use Rattle.flow.specs.contracts.Answers.{FitFile, FitRecord}
-use Rattle.records.specs.contracts.Fields.{itemCount, callLineCount, callLineAt, continuationIn}
+use Rattle.records.specs.contracts.Fields.{LineParts, itemCount, callLineCount, callLineAt, continuationIn}
 use Rattle.theory.specs.Body.{kind, successors, references, callLines, continuationOf, isReturn}
 use Rattle.theory.specs.Doubled.{resets}
-use Rattle.statements.specs.contracts.Layout.{offsetsAt}
+use Rattle.statements.specs.contracts.Layout.{offsetsAt, linesAt}
 
 pub record Ready (s ws : List ℕ) (n : ℕ) : Type 0 where
   pub fit : FitFile s
@@ -24,9 +24,10 @@ pub record Ready (s ws : List ℕ) (n : ℕ) : Type 0 where
   pub room : workWords n ≤ length ws
   pub offsets : (i : ℕ) → i < n → getD ws (offsetsAt n + i) 0 ≡ recordPlace s i
 
--- the file is fit, the places of its records are noted, and h is its header
+-- the file is fit, the places of its records and where the FL records of each part of the lines stand are noted, and h is its header
 pub record Indexed (s : List ℕ) (h : Header) (ws : List ℕ) : Type 0 where
   pub ready : Ready s ws (h .statements)
+  pub lines : LineParts s ws (linesAt (h .statements)) (h .statements) (lineCount s)
   pub header : h ≡ headerOf s
 
 -- the elements of l are f 0, f 1, .. of n elements

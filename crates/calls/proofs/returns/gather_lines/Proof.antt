@@ -10,7 +10,7 @@ use lib.ListN.{length}
 use Rattle.words.specs.contracts.Change.{intersected}
 use Rattle.flow.specs.Format.{flowOf}
 use Rattle.theory.specs.Body.{entered}
-use Rattle.statements.specs.contracts.Layout.{rowWords, enteredRowAt, solverAt, returnsRowAt}
+use Rattle.statements.specs.contracts.Layout.{callsAt, rowWords, enteredRowAt, solverAt, returnsRowAt}
 use Rattle.statements.specs.contracts.Ready.{Keeps}
 use Rattle.statements.proofs.WorkArea.{row-from, row-words-le}
 use Rattle.statements.proofs.Keeps.{keeps-trans, keeps-widen, indexed-keeps, ready-most, ready-room, ready-formed, ready-size}
@@ -40,7 +40,7 @@ add-lines-requires c κs =
     let p = start .pre in
     let n = start .args .h .statements in
     let kept = c .before .before .before .zero-row .ensures .1 in
-    let low : n ≤ row .entered-row .result = omega (arith, row .entered-row .ensures, row-from n n) in (
+    let low : callsAt n ≤ row .entered-row .result = omega (arith, row .entered-row .ensures, row-from n n) in (
       indexed-keeps (p .0) kept low,
       p .1,
       record { low = low; high = omega (arith, inside row, kept .size); apart = λ w. omega (arith, row .entered-row .ensures) },

@@ -11,7 +11,7 @@ use lib.ListN.{getD, length}
 use Rattle.flow.specs.Format.{flowOf}
 use Rattle.theory.specs.Body.{entered}
 use Rattle.theory.proofs.Lists.{clash}
-use Rattle.statements.specs.contracts.Layout.{rowWords}
+use Rattle.statements.specs.contracts.Layout.{callsAt, rowWords}
 use Rattle.statements.specs.contracts.Ready.{Keeps}
 use Rattle.statements.proofs.WorkArea.{row-from, row-fits}
 use Rattle.statements.proofs.Keeps.{indexed-keeps, ready-most, ready-room}
@@ -57,7 +57,7 @@ add-lines-requires c κs =
     let start = row .before .before .before .before .before .before .before in
     let n = start .args .h .statements in
     let kept = c .before .before .before .zero-row .ensures .1 in
-    let low : n ≤ row .row .result = omega (arith, row .row .ensures, row-from n (start .args .i .0)) in
+    let low : callsAt n ≤ row .row .result = omega (arith, row .row .ensures, row-from n (start .args .i .0)) in
     (indexed-keeps (start .pre .0) kept low, start .pre .1, record { low = low; high = omega (arith, inside row, kept .size); apart = λ w. clash false w refl }, λ w. clash false w refl)
 
 same-length : tie.Need-same-length

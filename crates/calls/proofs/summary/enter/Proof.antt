@@ -37,7 +37,7 @@ module _ (c : tie.After-bodies) where
   ws = now (start .args .work)
 
   place : c .bodies .result ≡ bodiesAt n
-  place = c .bodies .ensures ∙ ap (_*_ 3) (c .before .statement-count .ensures .0)
+  place = c .bodies .ensures ∙ ap bodiesAt (c .before .statement-count .ensures .0)
 
   state : getD ws (c .bodies .result + start .args .e .0) 0 ≡ body ws n (start .args .e .0)
   state = ap (λ (x : ℕ). getD ws (x + start .args .e .0) 0) place
@@ -103,7 +103,7 @@ module _ (c : tie.After-bodies) (was : body (ws c) (n c) (start c .args .e .0) �
 
   empty : EmptyRow opens (n c) (start c .args .e .0)
   empty i l =
-      rows-set (ws c) (c .bodies .result + start c .args .e .0) opened (omega (arith, place c)) (omega (arith, place c, start c .pre .1)) (start c .args .e .0) i
+      rows-set (ws c) (n c) (c .bodies .result + start c .args .e .0) opened (omega (arith, place c)) (omega (arith, place c, start c .pre .1)) (start c .args .e .0) i
       ∙ unentered-row was (start c .pre .2 .bodies (start c .args .e .0) (start c .pre .1)) i l
 
 walk-requires : tie.Need-walk-requires

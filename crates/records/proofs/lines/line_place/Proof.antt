@@ -63,10 +63,13 @@ loop-again : tie.Need-loop-again Inv-loop μ-loop
 loop-again c =
     let a = c .before .before .before .before .args in
     let l = c .before .before .loop in
-    let k = l .inv .0 in
-    (k, l .inv .1, l .inv .2,
+    let k = l .inv .0 in (
+      k,
+      l .inv .1,
+      l .inv .2,
       subst (λ (r : ℕ). Between (now (a .file)) k (k + a .n) (a .line) (l .p + 6 * (l .len - l .len / 2) * r) (l .len - (l .len - l .len / 2))) (sym (c .below .ensures))
-      (halved (c .before .before .before .before .pre .0) (l .inv .2) (l .inv .3) (omega arith)))
+          (halved (c .before .before .before .before .pre .0) (l .inv .2) (l .inv .3) (omega arith)),
+    )
 
 returns : tie.Need-returns Inv-loop μ-loop
 returns c = let inv = c .before .loop .inv in

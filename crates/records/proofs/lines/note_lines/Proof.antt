@@ -22,13 +22,15 @@ abbrev μ-loop : tie.MeasureT-loop
 μ-loop file at lines work₀ base n r₀ work r = lines - r
 
 loop-holds : tie.Need-loop-holds Inv-loop μ-loop
-loop-holds c = let a = c .before .before .args in
-    (omega arith, record {
-      size = refl;
-      below = λ x l. refl;
-      above = λ x l. refl;
-      parts = λ k l. part-none (now (a .file)) (a .n) k _ (c .before .before .pre .5 k l);
-    })
+loop-holds c = let a = c .before .before .args in (
+  omega arith,
+  record {
+    size = refl;
+    below = λ x l. refl;
+    above = λ x l. refl;
+    parts = λ k l. part-none (now (a .file)) (a .n) k _ (c .before .before .pre .5 k l);
+  },
+)
 
 -- the record at hand lies within the file
 fits : (c : tie.In-loop Inv-loop μ-loop) → linePlace (now (c .before .before .before .before .args .file)) (c .before .loop .r) + 6 ≤ length (now (c .before .before .before .before .args .file))
