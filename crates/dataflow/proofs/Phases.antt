@@ -12,14 +12,15 @@ use Rattle.words.specs.contracts.Change.{zeroed}
 use Rattle.words.proofs.Zeroed.{zeroed-word, zeroed-other}
 use Rattle.flow.specs.declared.Header.{Header}
 use Rattle.flow.specs.Flow.{size}
-use Rattle.flow.specs.Format.{flowOf, recordPlace}
+use Rattle.flow.specs.Format.{flowOf, lineCount, recordPlace}
 use Rattle.words.specs.contracts.Change.{noted}
 use Rattle.flow.specs.contracts.Answers.{headerOf}
+use Rattle.records.specs.contracts.Fields.{PartsNoted}
 use Rattle.records.proofs.Noting.{noted-other}
 use Rattle.records.proofs.Statements.{size-is}
 use Rattle.theory.specs.Masks.{maskLeft}
 use Rattle.theory.specs.Live.{liveInWord, liveOutWord}
-use Rattle.statements.specs.contracts.Layout.{rowWords, callsAt, bodiesAt, matrixAt, queueAt, enteredRowAt, returnsRowAt, setWords}
+use Rattle.statements.specs.contracts.Layout.{rowWords, linesAt, callsAt, bodiesAt, matrixAt, queueAt, enteredRowAt, returnsRowAt, setWords}
 use Rattle.statements.specs.contracts.Ready.{Ready, Indexed, Keeps}
 use Rattle.statements.proofs.Noted.{ready-noted}
 use Rattle.statements.proofs.Keeps.{keeps-zeroed, ready-keeps, ready-room, indexed-keeps}
@@ -38,29 +39,38 @@ use Rattle.dataflow.proofs.NotedRows.{length-rows, rows-past, rows-at}
 
 module _ {s : List ℕ} {h : Header} where
   module _ {ws : List ℕ} (flow-fit : FitFlow s h ws) where
-    -- what is noted stands below the calls
+    -- the places noted stand below the parts of the lines
     past : (x : ℕ) → h .statements ≤ x → x < areaEnd (h .statements) (setWords (h .arrays)) → getD (noted ws 0 (h .statements) (recordPlace s)) x 0 ≡ 0
     past x l b = noted-other ws 0 (recordPlace s) (h .statements) x 0 (λ i m e. omega (arith, zero-add i)) ∙ flow-fit .zero x b
 
     pub room-fits : 0 + h .statements ≤ length ws
     room-fits = omega (arith, flow-fit .work-room)
 
-    noted-ready : {vs : List ℕ} → vs ≡ noted ws 0 (h .statements) (recordPlace s) → Ready s vs (h .statements)
-    noted-ready = ready-noted ws (flow-fit .fit) (ap (λ (x : Header). x .statements) (flow-fit .header)) (flow-fit .work-room)
+    module _ {vs : List ℕ} (e : vs ≡ noted ws 0 (h .statements) (recordPlace s)) where
+      unused : (x : ℕ) → h .statements ≤ x → x < areaEnd (h .statements) (setWords (h .arrays)) → getD vs x 0 ≡ 0
+      unused x l b = ap (λ v. getD v x 0) e ∙ past x l b
 
-    pub noted-indexed : {vs : List ℕ} → vs ≡ noted ws 0 (h .statements) (recordPlace s) → Indexed s h vs
-    noted-indexed e = record { ready = noted-ready e; header = flow-fit .header }
+      pub lines-unused : (k : ℕ) → k < h .statements → getD vs (linesAt (h .statements) + k) 0 ≡ 0
+      lines-unused k l = unused _ (omega arith) (let low = row-from (h .statements) (setWords (h .arrays)) (2 * h .statements) in omega arith)
 
-    pub no-summaries : {vs : List ℕ} → vs ≡ noted ws 0 (h .statements) (recordPlace s) → held.NoSummaries vs (h .statements)
-    no-summaries e = record { words = λ x l m. ap (λ v. getD v x 0) e ∙ past x l (let low = row-from (h .statements) (setWords (h .arrays)) (2 * h .statements) in omega arith) }
+      -- and the parts of the lines behind the places
+      module _ {us : List ℕ} (p : PartsNoted s vs us (linesAt (h .statements)) (h .statements) (lineCount s)) where
+        pub noted-indexed : Indexed s h us
+        noted-indexed = record {
+          ready = ready-keeps (ready-noted ws (flow-fit .fit) (ap (λ (x : Header). x .statements) (flow-fit .header)) (flow-fit .work-room) e) (record { size = p .size; below = p .below; above = p .above }) (omega arith);
+          lines = p .parts;
+          header = flow-fit .header;
+        }
 
-    pub summed : {vs us : List ℕ} → vs ≡ noted ws 0 (h .statements) (recordPlace s) → Summarized (flowOf s) us (h .statements)
-        → Keeps (callsAt (h .statements)) (enteredRowAt (h .statements)) vs us → SummariesMade s h us
-    summed e m k = record {
-      indexed = indexed-keeps (noted-indexed e) k (omega arith);
-      summarized = m;
-      zero = λ x l b. k .above x l ∙ ap (λ v. getD v x 0) e ∙ past x (omega (arith, area.row-from (h .statements) (h .statements))) b;
-    }
+        pub no-summaries : held.NoSummaries us (h .statements)
+        no-summaries = record { words = λ x l m. p .above x (omega arith) ∙ unused x (omega arith) (let low = row-from (h .statements) (setWords (h .arrays)) (2 * h .statements) in omega arith) }
+
+        pub summed : {ts : List ℕ} → Summarized (flowOf s) ts (h .statements) → Keeps (callsAt (h .statements)) (enteredRowAt (h .statements)) us ts → SummariesMade s h ts
+        summed m k = record {
+          indexed = indexed-keeps noted-indexed k (omega arith);
+          summarized = m;
+          zero = λ x l b. let low = area.row-from (h .statements) (h .statements) in k .above x l ∙ p .above x (omega arith) ∙ unused x (omega arith) b;
+        }
 
 -- where the words end that finding the edges uses
 

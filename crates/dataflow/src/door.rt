@@ -17,13 +17,14 @@ use crate::arrays;
 use crate::write;
 use statements::layout;
 
-// The places of the records and the summaries of the calls. The work area is zero before.
+// The places of the records, the parts of the lines and the summaries of the calls. The work area is zero before.
 fn summarize(file: &[u8], h: flow::Header, work: &mut [u64])
     requires { ⌜ FitFlow (now file) h (now work) ⌝ }
     ensures { λ _. ⌜ SummariesMade (now (file .entry)) h (now (work .exit)) ⌝ }
 {
     let n = h.statements;
     records::offsets::note_offsets(file, work, 0, n);
+    records::lines::note_lines(file, h.lines_at, h.lines, work, layout::lines(n), n);
     calls::summary::summarize_calls(file, h, work);
 }
 
