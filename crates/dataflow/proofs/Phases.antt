@@ -12,9 +12,10 @@ use Rattle.words.specs.contracts.Change.{zeroed}
 use Rattle.words.proofs.Zeroed.{zeroed-word, zeroed-other}
 use Rattle.flow.specs.declared.Header.{Header}
 use Rattle.flow.specs.Flow.{size}
-use Rattle.flow.specs.Format.{flowOf, recordPlace}
+use Rattle.flow.specs.Format.{flowOf}
 use Rattle.words.specs.contracts.Change.{noted}
 use Rattle.flow.specs.contracts.Answers.{headerOf}
+use Rattle.records.specs.contracts.Fields.{notedWord}
 use Rattle.records.proofs.Noting.{noted-other}
 use Rattle.records.proofs.Statements.{size-is}
 use Rattle.theory.specs.Masks.{maskLeft}
@@ -39,22 +40,22 @@ use Rattle.dataflow.proofs.NotedRows.{length-rows, rows-past, rows-at}
 module _ {s : List ℕ} {h : Header} where
   module _ {ws : List ℕ} (flow-fit : FitFlow s h ws) where
     -- what is noted stands below the calls
-    past : (x : ℕ) → h .statements ≤ x → x < areaEnd (h .statements) (setWords (h .arrays)) → getD (noted ws 0 (h .statements) (recordPlace s)) x 0 ≡ 0
-    past x l b = noted-other ws 0 (recordPlace s) (h .statements) x 0 (λ i m e. omega (arith, zero-add i)) ∙ flow-fit .zero x b
+    past : (x : ℕ) → h .statements ≤ x → x < areaEnd (h .statements) (setWords (h .arrays)) → getD (noted ws 0 (h .statements) (notedWord s)) x 0 ≡ 0
+    past x l b = noted-other ws 0 (notedWord s) (h .statements) x 0 (λ i m e. omega (arith, zero-add i)) ∙ flow-fit .zero x b
 
     pub room-fits : 0 + h .statements ≤ length ws
     room-fits = omega (arith, flow-fit .work-room)
 
-    noted-ready : {vs : List ℕ} → vs ≡ noted ws 0 (h .statements) (recordPlace s) → Ready s vs (h .statements)
+    noted-ready : {vs : List ℕ} → vs ≡ noted ws 0 (h .statements) (notedWord s) → Ready s vs (h .statements)
     noted-ready = ready-noted ws (flow-fit .fit) (ap (λ (x : Header). x .statements) (flow-fit .header)) (flow-fit .work-room)
 
-    pub noted-indexed : {vs : List ℕ} → vs ≡ noted ws 0 (h .statements) (recordPlace s) → Indexed s h vs
+    pub noted-indexed : {vs : List ℕ} → vs ≡ noted ws 0 (h .statements) (notedWord s) → Indexed s h vs
     noted-indexed e = record { ready = noted-ready e; header = flow-fit .header }
 
-    pub no-summaries : {vs : List ℕ} → vs ≡ noted ws 0 (h .statements) (recordPlace s) → held.NoSummaries vs (h .statements)
+    pub no-summaries : {vs : List ℕ} → vs ≡ noted ws 0 (h .statements) (notedWord s) → held.NoSummaries vs (h .statements)
     no-summaries e = record { words = λ x l m. ap (λ v. getD v x 0) e ∙ past x l (let low = row-from (h .statements) (setWords (h .arrays)) (2 * h .statements) in omega arith) }
 
-    pub summed : {vs us : List ℕ} → vs ≡ noted ws 0 (h .statements) (recordPlace s) → Summarized (flowOf s) us (h .statements)
+    pub summed : {vs us : List ℕ} → vs ≡ noted ws 0 (h .statements) (notedWord s) → Summarized (flowOf s) us (h .statements)
         → Keeps (callsAt (h .statements)) (enteredRowAt (h .statements)) vs us → SummariesMade s h us
     summed e m k = record {
       indexed = indexed-keeps (noted-indexed e) k (omega arith);

@@ -50,9 +50,3 @@ acted count effects m a = cond (ltb a count) (stepAll (effects a) (m a)) (m a)
 pub record Acted (f : Flow) (ws vs : List ℕ) (n w d i row : ℕ) : Type 0 where
   pub keeps : Keeps (setRow n) (maskRowAt n w 0) ws vs
   pub masks : (a : ℕ) → a < 64 * w → maskAt vs w row a ≡ acted (f .arrays) (statementEffects f i) (masksAt ws n w d) a
-
--- where r says no, statement i does nothing to masks
-pub record Idle (f : Flow) (i : ℕ) (r : Bool) : Type 0 where
-  pub keeps : r ≡ false → resets (kind f i) ≡ false
-  pub items : r ≡ false → items (kind f i) ≡ []
-  pub references : r ≡ false → references f i ≡ []
