@@ -1,17 +1,16 @@
 -- "At a statement, a reference turns NONE into AUTO and keeps other states; then DIM with flag 1 makes its array's mask DIMMED, CLR and RUN make all masks NONE":
 -- what the masks of a row become, array by array, and the sets of arrays by which a row steps. Assumes nothing.
 use Prim.Native.Nat.{ℕ, _+_, _*_, _<_, _≤_, max}
-use mathlib.Core.Bool.{Bool, false, cond}
-use mathlib.Core.List.{List, []}
+use mathlib.Core.Bool.{Bool, cond}
+use mathlib.Core.List.{List}
 use mathlib.Core.Logic.{_⊎_}
 use mathlib.Core.Path.{_≡_}
 use lib.Dec.{ltb}
 use lib.ListN.{length, getD}
 use Rattle.words.specs.contracts.Row.{has}
 use Rattle.masks.specs.declared.Effect.{Effect}
-use Rattle.flow.specs.Flow.{Flow, items}
-use Rattle.theory.specs.Body.{kind, references}
-use Rattle.theory.specs.Doubled.{resets, statementEffects}
+use Rattle.flow.specs.Flow.{Flow}
+use Rattle.theory.specs.Doubled.{statementEffects}
 use Rattle.theory.specs.Queue.{stepAll}
 use Rattle.statements.specs.contracts.Ready.{Keeps}
 use Rattle.solve.specs.contracts.Layout.{setRow, maskRowAt}
