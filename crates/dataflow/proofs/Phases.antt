@@ -12,10 +12,10 @@ use Rattle.words.specs.contracts.Change.{zeroed}
 use Rattle.words.proofs.Zeroed.{zeroed-word, zeroed-other}
 use Rattle.flow.specs.declared.Header.{Header}
 use Rattle.flow.specs.Flow.{size}
-use Rattle.flow.specs.Format.{flowOf, lineCount, recordPlace}
+use Rattle.flow.specs.Format.{flowOf, lineCount}
 use Rattle.words.specs.contracts.Change.{noted}
 use Rattle.flow.specs.contracts.Answers.{headerOf}
-use Rattle.records.specs.contracts.Fields.{PartsNoted}
+use Rattle.records.specs.contracts.Fields.{notedWord, PartsNoted}
 use Rattle.records.proofs.Noting.{noted-other}
 use Rattle.records.proofs.Statements.{size-is}
 use Rattle.theory.specs.Masks.{maskLeft}
@@ -40,13 +40,13 @@ use Rattle.dataflow.proofs.NotedRows.{length-rows, rows-past, rows-at}
 module _ {s : List ℕ} {h : Header} where
   module _ {ws : List ℕ} (flow-fit : FitFlow s h ws) where
     -- the places noted stand below the parts of the lines
-    past : (x : ℕ) → h .statements ≤ x → x < areaEnd (h .statements) (setWords (h .arrays)) → getD (noted ws 0 (h .statements) (recordPlace s)) x 0 ≡ 0
-    past x l b = noted-other ws 0 (recordPlace s) (h .statements) x 0 (λ i m e. omega (arith, zero-add i)) ∙ flow-fit .zero x b
+    past : (x : ℕ) → h .statements ≤ x → x < areaEnd (h .statements) (setWords (h .arrays)) → getD (noted ws 0 (h .statements) (notedWord s)) x 0 ≡ 0
+    past x l b = noted-other ws 0 (notedWord s) (h .statements) x 0 (λ i m e. omega (arith, zero-add i)) ∙ flow-fit .zero x b
 
     pub room-fits : 0 + h .statements ≤ length ws
     room-fits = omega (arith, flow-fit .work-room)
 
-    module _ {vs : List ℕ} (e : vs ≡ noted ws 0 (h .statements) (recordPlace s)) where
+    module _ {vs : List ℕ} (e : vs ≡ noted ws 0 (h .statements) (notedWord s)) where
       unused : (x : ℕ) → h .statements ≤ x → x < areaEnd (h .statements) (setWords (h .arrays)) → getD vs x 0 ≡ 0
       unused x l b = ap (λ v. getD v x 0) e ∙ past x l b
 

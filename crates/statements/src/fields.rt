@@ -9,7 +9,7 @@ ghost use Rattle.theory.specs.Body as body;
 ghost use Rattle.theory.specs.Body.{kind, successors, references, callLines, continuationOf, isReturn};
 ghost use Rattle.theory.specs.Doubled as doubled;
 ghost use Rattle.theory.specs.Lists as lists;
-ghost use Rattle.statements.specs.contracts.Ready.{Ready, Indexed, RecordOf, MembersWord, noItem};
+ghost use Rattle.statements.specs.contracts.Ready.{Ready, Indexed, RecordOf, MembersWord, actsIn, noItem};
 use crate::layout;
 use flow::KIND_CLR;
 use flow::KIND_RETURN;
@@ -22,7 +22,16 @@ pub fn offset(file: &[u8], work: &[u64], n: usize, i: StmtId) -> usize
     ensures { λ r. ⌜ RecordOf (now (file .entry)) (i .0) r ⌝ }
 {
     let at = i.0;
-    work[at] as usize
+    (work[at] % 4294967296) as usize
+}
+
+// Whether statement i does anything to masks, which is noted above the place of its record.
+pub fn acts(file: &[u8], work: &[u64], n: usize, i: StmtId) -> bool
+    requires { ⌜ Ready (now file) (now work) n × (i .0 < n) ⌝ }
+    ensures { λ r. ⌜ r ≡ actsIn (flowOf (now (file .entry))) (i .0) ⌝ }
+{
+    let at = i.0;
+    4294967296 <= work[at]
 }
 
 pub fn is_return(file: &[u8], work: &[u64], n: usize, i: StmtId) -> bool

@@ -1,18 +1,18 @@
 -- The fields of a statement's record that was found fit, where Format does not give them by one position: the data of its kind, its references as
--- a set, the part of the file that the record is, and what the second pass notes of the records' places.
+-- a set, the part of the file that the record is, and what the second pass notes of the records.
 use Prim.Native.Nat.{ℕ, zero, suc, _+_, _-_, _*_, _/_, _%_, _^_, _≤_, _<_}
-use mathlib.Core.Bool.{cond}
+use mathlib.Core.Bool.{Bool, cond, _||_}
 use mathlib.Core.List.{List}
 use mathlib.Core.Option.{Option, none, some}
 use mathlib.Core.Path.{_≡_}
 use lib.ListN.{length, getD, take, drop}
 use lib.Bits.{bitOr}
-use lib.Dec.{eqb}
+use lib.Dec.{eqb, ltb}
 use Rattle.flow.specs.declared.Continuation.{Continuation}
 use Rattle.flow.specs.declared.Continuation as C
 use Rattle.flow.specs.declared.LineEntry.{LineEntry}
 use Rattle.flow.specs.declared.LineEntry as E
-use Rattle.flow.specs.Format.{kindAt, kindDim, kindGosub, kindOnGosub, dataPlace, dataCount, elementsEnd, continuationAt, recordEnd, lineNumber, u16At}
+use Rattle.flow.specs.Format.{kindAt, kindClr, kindRun, kindDim, kindGosub, kindOnGosub, referenceCount, dataPlace, dataCount, elementsEnd, continuationAt, recordEnd, recordPlace, lineNumber, u16At}
 
 -- the record at p, as that part of the file
 abbrev pub recordPart : List ℕ → ℕ → List ℕ
@@ -21,6 +21,18 @@ recordPart s p = take (recordEnd s p - p) (drop p s)
 -- the items of a DIM
 unfoldable pub itemCount : List ℕ → ℕ → ℕ
 itemCount s p = cond (eqb (kindAt s p) kindDim) (dataCount s p) 0
+
+-- the statement does something to masks: CLR, RUN, a DIM that has items, or any with references
+unfoldable pub actsAt : List ℕ → ℕ → Bool
+actsAt s p = (eqb (kindAt s p) kindClr || eqb (kindAt s p) kindRun) || (ltb 0 (itemCount s p) || ltb 0 (referenceCount s p))
+
+-- what is noted of the record at p, and of statement i: the place, to which 2 ^ 32 is added if the statement does something to masks
+
+unfoldable pub wordAt : List ℕ → ℕ → ℕ
+wordAt s p = cond (actsAt s p) (p + 2 ^ 32) p
+
+abbrev pub notedWord : List ℕ → ℕ → ℕ
+notedWord s i = wordAt s (recordPlace s i)
 
 -- the lines of a call, of which GOSUB has one, and where it goes on
 

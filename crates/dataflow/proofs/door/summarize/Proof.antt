@@ -7,8 +7,8 @@ use denote.Ref.{now}
 use lib.ListN.{length}
 use mathlib.Core.Path.{ap, subst, _∙_}
 use Rattle.flow.specs.declared.Header.{Header}
-use Rattle.flow.specs.Format.{recordPlace, lineCount}
-use Rattle.records.specs.contracts.Fields.{PartsNoted}
+use Rattle.flow.specs.Format.{lineCount}
+use Rattle.records.specs.contracts.Fields.{notedWord, PartsNoted}
 use Rattle.records.proofs.Files.{limited}
 use Rattle.records.proofs.Noting.{length-noted}
 use Rattle.statements.specs.contracts.Layout.{linesAt}
@@ -29,7 +29,7 @@ note-lines-requires c κs =
     let start = c .before .before .before .before .before .before .before .before in
     let p = start .pre in
     let noted = c .before .before .before .before .note-offsets .ensures in
-    let size = ap length noted ∙ length-noted (now (start .args .work)) 0 (recordPlace (now (start .args .file))) (start .args .h .statements) in
+    let size = ap length noted ∙ length-noted (now (start .args .work)) 0 (notedWord (now (start .args .file))) (start .args .h .statements) in
     let most = limited (p .fit) .statements in
     (
       p .fit,
