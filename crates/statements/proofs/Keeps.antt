@@ -8,7 +8,7 @@ use mathlib.Core.Path.{_≡_, refl, sym, _∙_, subst}
 use lib.ListN.{length, getD, set, length-set}
 use lib.Seq.{getD-set-other}
 use Rattle.words.specs.contracts.Row.{has}
-use Rattle.words.specs.contracts.Change.{joined, inserted, removed, rewritten, unioned, intersected, zeroed}
+use Rattle.words.specs.contracts.Change.{joined, inserted, removed, rewritten, unioned, zeroed}
 use Rattle.words.proofs.Row.{has-cong}
 use Rattle.words.proofs.Rewritten.{length-rewritten, rewritten-other}
 use Rattle.flow.specs.declared.Header.{Header}
@@ -86,10 +86,6 @@ module _ (ws : List ℕ) {lo hi : ℕ} where
   pub keeps-unioned : (to from width : ℕ) → lo ≤ to → to + width ≤ hi → Keeps lo hi ws (unioned ws to from width)
   unfolding unioned
   keeps-unioned to from width l h = keeps-rewritten _ to width l h
-
-  pub keeps-intersected : (to a b width : ℕ) → lo ≤ to → to + width ≤ hi → Keeps lo hi ws (intersected ws to a b width)
-  unfolding intersected
-  keeps-intersected to a b width l h = keeps-rewritten _ to width l h
 
   pub keeps-zeroed : (base width : ℕ) → lo ≤ base → base + width ≤ hi → Keeps lo hi ws (zeroed ws base width)
   unfolding zeroed

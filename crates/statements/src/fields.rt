@@ -80,7 +80,15 @@ pub fn successor(file: &[u8], work: &[u64], n: usize, i: StmtId, k: usize) -> St
     requires { ⌜ Ready (now file) (now work) n × (i .0 < n) × (k < length (successors (flowOf (now file)) (i .0))) ⌝ }
     ensures { λ r. ⌜ r .0 ≡ getD (successors (flowOf (now (file .entry))) (i .0)) k 0 ⌝ }
 {
-    records::successor(file, offset(file, work, n, i), k)
+    successor_at(file, i, offset(file, work, n, i), k)
+}
+
+// The same, where the record of statement i is known to be at p.
+pub fn successor_at(file: &[u8], i: StmtId, p: usize, k: usize) -> StmtId
+    requires { ⌜ RecordOf (now file) (i .0) p × (k < length (successors (flowOf (now file)) (i .0))) ⌝ }
+    ensures { λ r. ⌜ r .0 ≡ getD (successors (flowOf (now (file .entry))) (i .0)) k 0 ⌝ }
+{
+    records::successor(file, p, k)
 }
 
 pub fn reference_count(file: &[u8], work: &[u64], n: usize, i: StmtId) -> usize

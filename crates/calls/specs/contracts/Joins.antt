@@ -2,14 +2,15 @@
 -- statements are RETURNs is noted first, as a row.
 -- Which statements a call enters, or the bodies that it enters walk: a row gains them, and every other word stays.
 -- And the rows of the calls that are transparent: each becomes the row of the statements that the call enters.
-use Prim.Native.Nat.{ℕ, _+_, _≤_, _<_, max}
+use Prim.Native.Nat.{ℕ, _+_, _/_, _%_, _≤_, _<_, max}
 use mathlib.Core.Bool.{Bool, true, false, cond, _&&_}
 use mathlib.Core.List.{List, [], _∷_}
+use mathlib.Core.Logic.{_⊎_}
 use mathlib.Core.Option.{some}
 use mathlib.Core.Path.{_≡_}
 use lib.Dec.{eqb}
 use lib.ListN.{length, getD}
-use Rattle.words.specs.contracts.Row.{has}
+use Rattle.words.specs.contracts.Row.{bit, has}
 use Rattle.flow.specs.Flow.{Flow}
 use Rattle.theory.specs.Lists as lists
 use Rattle.theory.specs.Lists.{In, any, concatMap}
@@ -33,13 +34,24 @@ pub record Gains (ws vs : List ℕ) (n hi : ℕ) (p : ℕ → Bool) (k : ℕ) : 
   pub kept : Keeps (matrixAt n) hi ws vs
   pub rows : (r j : ℕ) → r < n → j < n → has vs (rowAt n r) j ≡ max (has ws (rowAt n r) j) (cond (p r && eqb j k) 1 0)
 
-abbrev pub isEntered : List ℕ → ℕ → ℕ → Bool
-isEntered ws n s = eqb (has ws (enteredRowAt n) s) 1
+-- statement s is a bit of the word, which is word j of a row
+abbrev pub inWord : ℕ → ℕ → ℕ → Bool
+inWord word j s = eqb (s / 64) j && eqb (bit word (s % 64)) 1
 
--- vs is ws with the RETURNs on the walks of the bodies bs in the row of entered statements
-pub record Gathers (f : Flow) (ws vs : List ℕ) (n : ℕ) (bs : List ℕ) : Type 0 where
+-- statement s is in the row at `row`, and in the row of RETURNs
+abbrev pub isShared : List ℕ → ℕ → ℕ → ℕ → Bool
+isShared ws n row s = eqb (has ws row s) 1 && eqb (has ws (returnsRowAt n) s) 1
+
+-- the row at `row` stays while rows of RETURNs change: it lies above the matrix, or it is the row of a statement that is none
+pub record Apart (ws : List ℕ) (n row : ℕ) : Type 0 where
+  pub room : row + rowWords n ≤ length ws
+  pub place : (queueAt n ≤ row) ⊎ ((b : ℕ) × (b < n) × (row ≡ rowAt n b) × (has ws (returnsRowAt n) b ≡ 0))
+
+-- the row at `row` of vs has what the walks of the bodies bs meet, and no more; vs is ws but for the row of entered statements
+pub record Gathers (f : Flow) (ws vs : List ℕ) (n : ℕ) (bs : List ℕ) (row : ℕ) : Type 0 where
   pub kept : Keeps (enteredRowAt n) (solverAt n) ws vs
-  pub holds : (s : ℕ) → s < n → has vs (enteredRowAt n) s ≡ cond (any (λ e. lists.elem s (walked f e)) bs && isReturn (kind f s)) 1 0
+  pub apart : Apart vs n row
+  pub holds : (s : ℕ) → s < n → has vs row s ≡ cond (any (λ e. lists.elem s (walked f e)) bs) 1 0
 
 -- the row of RETURNs has all of them and no more
 pub record ReturnSet (f : Flow) (ws : List ℕ) (n : ℕ) : Type 0 where
