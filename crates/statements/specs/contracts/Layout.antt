@@ -1,7 +1,7 @@
 -- The work area of a flow of n statements: offsets, parts of the lines, calls, bodies, the matrix of statement sets, the queue, the row of entered statements, and the words of the
 -- solver, whose layout is crate solve's. The matrix has n rows of `rowWords n` words; all fits into 64 × n words. Each phase writes one run of words, so that
 -- what it keeps is an interval.
-use Prim.Native.Nat.{ℕ, _+_, _*_, _/_}
+use Prim.Native.Nat.{ℕ, _+_, _-_, _*_, _/_}
 use Rattle.flow.specs.Limits.{maxArrays}
 
 abbrev pub offsetsAt : ℕ → ℕ
@@ -52,9 +52,9 @@ solverAt n = queueAt n + 3 * n
 abbrev pub returnsRowAt : ℕ → ℕ
 returnsRowAt n = solverAt n
 
--- words of a set of arrays, and the most that there may be
+-- words of a set of arrays, one at the least, and the most that there may be
 abbrev pub setWords : ℕ → ℕ
-setWords arrays = (arrays + 63) / 64
+setWords arrays = (arrays - 1) / 64 + 1
 
 abbrev pub maxWidth : ℕ
 maxWidth = setWords maxArrays

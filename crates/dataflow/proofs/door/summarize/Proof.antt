@@ -30,8 +30,7 @@ note-lines-requires c κs =
     let p = start .pre in
     let noted = c .before .before .before .before .note-offsets .ensures in
     let size = ap length noted ∙ length-noted (now (start .args .work)) 0 (notedWord (now (start .args .file))) (start .args .h .statements) in
-    let most = limited (p .fit) .statements in
-    (
+    let most = limited (p .fit) .statements in (
       p .fit,
       (ap (λ (x : Header). x .«lines_at») (p .header), ap (λ (x : Header). x .lines) (p .header)),
       p .some,
