@@ -152,12 +152,3 @@ module _ (s : List ℕ) {c : Checked} (h : Header) (e : c ≡ checkedOf (verdict
 -- a list that was zeroed whole, by its length before
 pub zeroed-whole : (ws : List ℕ) (n : ℕ) → length ws ≡ n → zeroed ws 0 n ≡ replicate n 0
 zeroed-whole ws n e = subst (λ k. zeroed ws 0 k ≡ replicate k 0) e (zeroed-all ws)
-
--- the work area where it is zeroed only if b
-
-pub unfit-kept : (ws : List ℕ) (size : ℕ) (b : Bool) → b ≡ false → cond b (zeroed ws 0 size) ws ≡ ws
-unfit-kept ws size b e = ap (λ (b : Bool). cond b (zeroed ws 0 size) ws) e
-
-pub fit-zero : (ws : List ℕ) (size : ℕ) (b : Bool) → b ≡ true → size ≤ length ws → (x : ℕ) → x < size → getD (cond b (zeroed ws 0 size) ws) x 0 ≡ 0
-fit-zero ws size b e fits x l =
-    ap (λ (b : Bool). getD (cond b (zeroed ws 0 size) ws) x 0) e ∙ sym (ap (λ (y : ℕ). getD (zeroed ws 0 size) y 0) (zero-add x)) ∙ zeroed-word ws 0 size (omega arith) x l
