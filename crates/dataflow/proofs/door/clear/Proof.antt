@@ -51,7 +51,7 @@ sub-zero-row-2 : tie.Need-sub-zero-row-2
 sub-zero-row-2 c = omega (arith, from c, to c, edges-within (start c .args .n) (setWords (start c .args .arrays)))
 
 zero-row-requires-2 : tie.Need-zero-row-requires-2
-zero-row-requires-2 c κs = 
+zero-row-requires-2 c κs =
     let n = start c .args .n in
     let w = setWords (start c .args .arrays) in
     let p = start c .pre in

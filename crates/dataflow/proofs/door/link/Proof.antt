@@ -23,7 +23,7 @@ sub-zero-row : tie.Need-sub-zero-row
 sub-zero-row c = omega (arith, c .before .before .queue .ensures, c .edges-end .ensures)
 
 zero-row-requires : tie.Need-zero-row-requires
-zero-row-requires c κs = 
+zero-row-requires c κs =
     let p = c .before .before .before .before .before .before .before .before .before .pre in
     omega (arith, c .before .before .queue .ensures, c .edges-end .ensures, c .before .before .before .before .before .note-edges .kept .1 .1 .0, used-room (p .0 .indexed .ready) (p .1))
 
@@ -31,7 +31,7 @@ same-length : tie.Need-same-length
 same-length c = search needs
 
 returns : tie.Need-returns
-returns c = 
+returns c =
     let d = c .before .before .before in
     let p = d .before .before .before .before .before .before .before .before .before .pre in
     let noted = d .before .before .before .before .before .note-edges in

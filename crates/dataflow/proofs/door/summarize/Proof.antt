@@ -15,13 +15,13 @@ use Rattle.dataflow.proofs.door.summarize.Statement.{statement}
 use Rattle.dataflow.proofs.door.summarize.Tie as tie
 
 clear-requires : tie.Need-clear-requires
-clear-requires c κs = 
+clear-requires c κs =
     let p = c .before .before .before .pre in
     let l = limited (p .fit) in
     (p .some, omega (arith, l .statements, ap (λ (x : Header). x .statements) (p .header)), omega (arith, l .arrays, ap (λ (x : Header). x .arrays) (p .header)), p .work-room)
 
 note-offsets-requires : tie.Need-note-offsets-requires
-note-offsets-requires c κs = 
+note-offsets-requires c κs =
     let p = c .before .before .before .before .before .before .before .pre in
     (p .fit, (omega (arith, ap (λ (x : Header). x .statements) (p .header)), room-fits p (c .before .before .before .clear .ensures)))
 
@@ -29,7 +29,7 @@ lines-requires : tie.Need-lines-requires
 lines-requires c κs = search needs
 
 note-lines-requires : tie.Need-note-lines-requires
-note-lines-requires c κs = 
+note-lines-requires c κs =
     let p = c .before .before .before .before .before .before .before .before .before .before .before .before .pre in
     let cleared = c .before .before .before .before .before .before .before .before .clear .ensures in
     let noted = c .before .before .before .before .note-offsets .ensures in (
@@ -53,7 +53,7 @@ module _ (c : tie.After-summarize-calls-arg) where
       subst (λ (base : ℕ). PartsNoted s (c .before .before .before .before .before .before .before .before .note-offsets .last .1 .0) (c .before .before .before .note-lines .last .1 .1 .1 .0) base n (lineCount s)) (c .before .before .before .before .lines .ensures) (c .before .before .before .note-lines .ensures)
 
 summarize-calls-requires : tie.Need-summarize-calls-requires
-summarize-calls-requires c κs = 
+summarize-calls-requires c κs =
     let cleared = c .before .before .before .before .before .before .before .before .before .before .before .before .clear .ensures in
     let noted = c .before .before .before .before .before .before .before .before .note-offsets .ensures in
     (noted-indexed (start c .pre) cleared noted (parts c), no-summaries (start c .pre) cleared noted (parts c))
@@ -62,7 +62,7 @@ same-length : tie.Need-same-length
 same-length c = search needs
 
 returns : tie.Need-returns
-returns c = 
+returns c =
     let calls = c .before .before .summarize-calls .ensures in
     let d = c .before .before .before in
     summed (start d .pre) (d .before .before .before .before .before .before .before .before .before .before .before .before .clear .ensures) (d .before .before .before .before .before .before .before .before .note-offsets .ensures) (parts d) (calls .0) (calls .1)
