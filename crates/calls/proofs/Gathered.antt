@@ -32,8 +32,8 @@ use Rattle.statements.specs.contracts.Layout.{callsAt, callTouchedAt, bodiesAt,
 use Rattle.statements.specs.contracts.Ready.{Keeps, MembersWord}
 use Rattle.statements.proofs.WorkArea.{member-word, row-from}
 use Rattle.statements.proofs.Keeps.{keeps-has}
-use Rattle.calls.specs.contracts.Held.{WalkRow, Empty, CallSummaries, Summarized, Leaders, Linked, transparent, opaque}
-use Rattle.calls.specs.contracts.Joins.{Joins, Gains, Apart, Gathers, Adds, Notes, Summary, BodyRows, ReturnSet, inWord, isShared, bodyOf, bodiesOf, fromBodies}
+use Rattle.calls.specs.contracts.Held.{WalkRow, Empty, EmptyRow, CallSummaries, Summarized, Leaders, Linked, transparent, opaque}
+use Rattle.calls.specs.contracts.Joins.{Joins, Gains, Apart, Gathers, Adds, NotesCalls, Summary, BodyRows, ReturnSet, inWord, isShared, bodyOf, bodiesOf, fromBodies}
 use Rattle.calls.proofs.Joined.{joins-none, joins-then, joins-same, gains-none, gains-same, gains-insert, gains-then, gains-after, gains-joins, row-stays, adds-same, adds-all}
 use Rattle.calls.proofs.Summing.{walk-low, walk-kept}
 use Rattle.calls.proofs.BodySummary.{return-stays, return-ordinary}
@@ -277,16 +277,17 @@ summary-kept {f} {n = n} {c = c} w z s js l = record {
 }
 
 -- the edges are known once the leaders are noted too, which writes words of the bodies only
-pub linked : {f : Flow} {ws us vs ts : List ℕ} {n hi : ℕ} → size f ≡ n → Summarized f ws n → Joins f ws us n hi (λ r k. any (returnsTo f r k) (upTo n)) → Notes f us vs n 0 n
+pub linked : {f : Flow} {ws us vs ts : List ℕ} {n hi : ℕ} → size f ≡ n → Summarized f ws n → ((r : ℕ) → r < n → isReturn (kind f r) ≡ true → EmptyRow ws n r)
+    → Joins f ws us n hi (λ r k. any (returnsTo f r k) (upTo n)) → NotesCalls f us vs n 0 n
     → Keeps (bodiesAt n) (matrixAt n) vs ts → Leaders f ts n → Linked f ts n
-linked {f} {ws} {us} {vs} {ts} {n} z s js ns k ls = record {
+linked {f} {ws} {us} {vs} {ts} {n} z s free js ns k ls = record {
   calls = summaries-kept (omega arith) k (summaries-kept (omega arith) (ns .kept) (summaries-kept (omega arith) (js .kept) (s .calls)));
   bodies = λ c j l lj e. row c j ∙ ns .noted c j (omega arith) l lj (sym (k .below (callsAt n + c) (omega arith) ∙ ns .kept .below (callsAt n + c) (omega arith)) ∙ e);
   returns = λ r j lr lj is.
       let goes : ℕ → ℕ = λ m. cond (any (returnsTo f r j) (upTo m)) 1 0 in
       let only : max 0 (goes n) ≡ goes n = omega arith in
       row r j ∙ ns .others r j lr lj (λ a b e. no-call r lr is e)
-      ∙ js .joined r j lr lj is ∙ ap (λ (x : ℕ). max x (goes n)) (s .free r lr is j lj) ∙ only ∙ ap goes (sym z);
+      ∙ js .joined r j lr lj is ∙ ap (λ (x : ℕ). max x (goes n)) (free r lr is j lj) ∙ only ∙ ap goes (sym z);
   leaders = ls;
 }
   where

@@ -24,7 +24,7 @@ use Rattle.theory.specs.Lists.{In}
 use Rattle.theory.specs.Reach.{Reach}
 use Rattle.theory.specs.Body.{kind, successors, continuationOf, isReturn, orElse, walkNext, Walks}
 use Rattle.theory.proofs.Reach.{reach-below}
-use Rattle.statements.specs.contracts.Layout.{rowAt, matrixAt, queueAt, enteredRowAt}
+use Rattle.statements.specs.contracts.Layout.{rowAt, rowWords, matrixAt, queueAt, enteredRowAt}
 use Rattle.statements.specs.contracts.Ready.{Keeps}
 use Rattle.statements.proofs.WorkArea.{member-word, row-from, row-fits, row-below, area-fits}
 use Rattle.calls.specs.contracts.Held.{EmptyRow, OnlyRow, Walked}
@@ -45,6 +45,13 @@ only-trans a b = record {
 
 pub only-keeps : {ws vs : List ℕ} {n e : ℕ} → OnlyRow ws vs n e → Keeps (matrixAt n) (enteredRowAt n) ws vs
 only-keeps {n = n} {e} o = record { size = o .size; below = λ x l. o .below x (omega (arith, row-from n e)); above = o .above }
+
+-- what was written to the row before its walk does not count
+pub walked-after : {f : Flow} {ws zs vs : List ℕ} {n e : ℕ} → e < n → Keeps (rowAt n e) (rowAt n e + rowWords n) ws zs → Walked f zs vs n e → Walked f ws vs n e
+walked-after {n = n} l k w = record {
+  row = w .row;
+  only = only-trans (record { size = k .size; below = k .below; between = λ x a b. k .above x a; above = λ x a. k .above x (omega (arith, row-fits n l)) }) (w .only);
+}
 
 -- Nothing more, and more after more
 

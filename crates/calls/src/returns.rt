@@ -135,6 +135,7 @@ pub fn note_edges(file: &[u8], h: flow::Header, work: &mut [u64])
 {
     let n = h.statements;
     note_returns(file, work, n);
+    rows::clear_rows(file, work, n);
     let mut c = 0;
     while c < n {
         note_call(file, h, work, StmtId(c));

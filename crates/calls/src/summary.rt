@@ -22,6 +22,7 @@ use crate::OPAQUE;
 use crate::OPEN;
 use crate::TRANSPARENT;
 use crate::UNENTERED;
+use crate::rows;
 use crate::walk::walk;
 use flow::Continuation;
 use flow::LineEntry;
@@ -75,6 +76,8 @@ fn enter(file: &[u8], work: &mut [u64], e: StmtId) -> bool
         return false;
     }
     work[at] = OPEN;
+    // The matrix is not zeroed before: each row is when it is first needed.
+    rows::zero_row(work, n, layout::row(n, e));
     walk(file, work, n, e);
     true
 }

@@ -1,7 +1,7 @@
 -- What noting changes. Where RETURNs go: the rows of some RETURNs gain a continuation, and every other row and every word below the matrix stays; which
 -- statements are RETURNs is noted first, as a row.
 -- Which statements a call enters, or the bodies that it enters walk: a row gains them, and every other word stays.
--- And the rows of the calls that are transparent: each becomes the row of the statements that the call enters.
+-- And rows that become another set: that of each transparent call the statements that it enters, and first that of each RETURN none.
 use Prim.Native.Nat.{ℕ, _+_, _/_, _%_, _≤_, _<_, max}
 use mathlib.Core.Bool.{Bool, true, false, cond, _&&_}
 use mathlib.Core.List.{List, [], _∷_}
@@ -93,8 +93,16 @@ pub record Adds (to : ℕ) (ws vs : List ℕ) (n : ℕ) (bs : List ℕ) : Type 0
   pub kept : Keeps to (to + rowWords n) ws vs
   pub joined : (j : ℕ) → j < n → has vs to j ≡ max (has ws to j) (cond (lists.elem j bs) 1 0)
 
--- vs is ws with the statements that it enters in the row of each transparent call from lo to below hi; every other row stays
-pub record Notes (f : Flow) (ws vs : List ℕ) (n lo hi : ℕ) : Type 0 where
+-- vs is ws with its members in the row of each statement from lo to below hi of which P holds; every other row stays
+pub record Notes (P : ℕ → Type 0) (members : ℕ → List ℕ) (ws vs : List ℕ) (n lo hi : ℕ) : Type 0 where
   pub kept : Keeps (matrixAt n) (solverAt n) ws vs
-  pub noted : (c j : ℕ) → lo ≤ c → c < hi → j < n → getD ws (callsAt n + c) 0 ≡ transparent → has vs (rowAt n c) j ≡ cond (lists.elem j (entered f c)) 1 0
-  pub others : (e j : ℕ) → e < n → j < n → (lo ≤ e → e < hi → getD ws (callsAt n + e) 0 ≡ transparent → ⊥) → has vs (rowAt n e) j ≡ has ws (rowAt n e) j
+  pub noted : (c j : ℕ) → lo ≤ c → c < hi → j < n → P c → has vs (rowAt n c) j ≡ cond (lists.elem j (members c)) 1 0
+  pub others : (e j : ℕ) → e < n → j < n → (lo ≤ e → e < hi → P e → ⊥) → has vs (rowAt n e) j ≡ has ws (rowAt n e) j
+
+-- in the row of each transparent call stand the statements that it enters
+abbrev pub NotesCalls : Flow → List ℕ → List ℕ → ℕ → ℕ → ℕ → Type 0
+NotesCalls f ws vs n lo hi = Notes (λ c. getD ws (callsAt n + c) 0 ≡ transparent) (entered f) ws vs n lo hi
+
+-- the row of each RETURN is empty
+abbrev pub ClearsReturns : Flow → List ℕ → List ℕ → ℕ → ℕ → ℕ → Type 0
+ClearsReturns f ws vs n lo hi = Notes (λ r. isReturn (kind f r) ≡ true) (λ r. []) ws vs n lo hi

@@ -20,7 +20,7 @@ use Rattle.theory.specs.Body.{kind, references, continuationOf, isReturn, calle
 use Rattle.records.specs.contracts.Fields.{LineParts}
 use Rattle.statements.specs.contracts.Layout.{linesAt, callsAt, callTouchedAt, bodiesAt, touchedAt, enteredRowAt}
 use Rattle.statements.specs.contracts.Ready.{Ready, Keeps, MembersWord}
-use Rattle.calls.specs.contracts.Held.{unentered, opened, transparent, opaque, EmptyRow, WalkRow}
+use Rattle.calls.specs.contracts.Held.{unentered, opened, transparent, opaque, WalkRow}
 
 -- the states of body b and of call c, and the arrays noted as touched
 
@@ -50,7 +50,7 @@ Holds w p = (a : ℕ) → a < 64 → p a ≡ true → bit w a ≡ 1
 
 -- what the state of body b says. A RETURN's row is kept for its edges
 pub data BodyState (f : Flow) (ws : List ℕ) (n b : ℕ) : Type 0 where
-  is-unentered : body ws n b ≡ unentered → EmptyRow ws n b → BodyState f ws n b
+  is-unentered : body ws n b ≡ unentered → BodyState f ws n b
   is-open : body ws n b ≡ opened → WalkRow f ws n b → BodyState f ws n b
   is-transparent : body ws n b ≡ transparent → theory.opaque f b ≡ false → Holds (touchedBy ws n b) (touches f b) → (isReturn (kind f b) ≡ false → WalkRow f ws n b) → BodyState f ws n b
   is-opaque : body ws n b ≡ opaque → theory.opaque f b ≡ true → WalkRow f ws n b → BodyState f ws n b
@@ -69,7 +69,6 @@ pub data CallState (f : Flow) (ws : List ℕ) (n c : ℕ) : Type 0 where
 
 pub record Summing (f : Flow) (ws : List ℕ) (n : ℕ) : Type 0 where
   pub bodies : (b : ℕ) → b < n → BodyState f ws n b
-  pub free : (r : ℕ) → r < n → isReturn (kind f r) ≡ true → EmptyRow ws n r
   pub touched : (b : ℕ) → b < n → Within (touchedBy ws n b) (touches f b)
   pub calls : (c : ℕ) → c < n → CallState f ws n c
   pub callTouched : (c : ℕ) → c < n → Within (callTouchedBy ws n c) (callTouches f c)
