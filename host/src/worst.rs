@@ -103,8 +103,10 @@ impl Recipe {
 
 // ----- Flows --------------------------------------------------------------
 
+/// Lines one after another: as many as there can be in one part of the lines, among which the
+/// proved call searches.
 fn line(i: usize) -> u16 {
-    10 + 10 * i as u16
+    10 + i as u16
 }
 
 /// A part of `whole`, at least 1.

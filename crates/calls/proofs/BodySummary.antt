@@ -27,7 +27,7 @@ use Rattle.theory.proofs.Body.{walked-sound, touches-sound, touches-complete, t
 use Rattle.theory.proofs.Transparent.{Transparent, transparent-opaque, callee-transparent}
 use Rattle.statements.specs.contracts.Layout.{bodiesAt, touchedAt, matrixAt, rowAt}
 use Rattle.statements.specs.contracts.Ready.{MembersWord}
-use Rattle.calls.specs.contracts.Held.{unentered, opened, transparent, opaque, EmptyRow, WalkRow}
+use Rattle.calls.specs.contracts.Held.{unentered, opened, transparent, opaque, WalkRow}
 use Rattle.calls.specs.contracts.Summing.{body, call, touchedBy, callTouchedBy, summaryState, Within, Holds, BodyState, CallState, Summing, OnwardBut, Onward, Leads, WalkPassed, BodySummed, CallSummed}
 use Rattle.calls.proofs.Summing.{joined-has, onward-refl, onward-trans, onward-but, onward-all, walk-low, onward-touched, summing-touched, body-set, body-other, onward-body, summing-body, rows-set, walk-kept}
 
@@ -47,16 +47,10 @@ true-member {w} {a} m l h = m .member a l ∙ ap (λ b. cond b 1 0) h
 
 -- an open body's row is its walk
 pub open-row : {f : Flow} {ws : List ℕ} {n b : ℕ} → body ws n b ≡ opened → BodyState f ws n b → WalkRow f ws n b
-open-row h (BodyState.is-unentered e r) = absurd (omega (arith, h, e))
+open-row h (BodyState.is-unentered e) = absurd (omega (arith, h, e))
 open-row h (BodyState.is-open e r) = r
 open-row h (BodyState.is-transparent e o t r) = absurd (omega (arith, h, e))
 open-row h (BodyState.is-opaque e o r) = absurd (omega (arith, h, e))
-
-pub unentered-row : {f : Flow} {ws : List ℕ} {n b : ℕ} → body ws n b ≡ unentered → BodyState f ws n b → EmptyRow ws n b
-unentered-row h (BodyState.is-unentered e r) = r
-unentered-row h (BodyState.is-open e r) = absurd (omega (arith, h, e))
-unentered-row h (BodyState.is-transparent e o t r) = absurd (omega (arith, h, e))
-unentered-row h (BodyState.is-opaque e o r) = absurd (omega (arith, h, e))
 
 -- what a call says that is not opaque by its state
 pub record NotHidden (f : Flow) (ws : List ℕ) (n c : ℕ) : Type 0 where
@@ -305,7 +299,7 @@ module _ {f : Flow} {n : ℕ} (w : WellFormed f) (sz : size f ≡ n) where
         ⊎-elim (y .own a l) (y .nested a l) (or-cases (lists.elem a (references f (x .0))) (callTouches f (x .0) a) (x .2))
 
     row : (v : ℕ) → WalkRow f (set ws (bodiesAt n + e) v) n e
-    row v = walk-kept (walk-low w sz le) (λ j m. rows-set ws (bodiesAt n + e) v (omega arith) (omega arith) e j) (open-row (p .is-open) (p .summing .bodies e le))
+    row v = walk-kept (walk-low w sz le) (λ j m. rows-set ws n (bodiesAt n + e) v (omega arith) (omega arith) e j) (open-row (p .is-open) (p .summing .bodies e le))
 
     state : (b : Bool) → found-opaque ≡ b → BodyState f (set ws (bodiesAt n + e) (summaryState b)) n e
     state true h = BodyState.is-opaque (body-set w sz (p .summing) room le opaque) (p .found h) (row opaque)

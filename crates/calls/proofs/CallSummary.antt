@@ -31,7 +31,7 @@ leads-onward p h o l q = h o l (p .was-open o l (λ z. omega arith) q)
 
 -- a body that is not transparent and was entered
 not-transparent : {f : Flow} {ws : List ℕ} {n b : ℕ} → b < n → Leads f ws n b → body ws n b ≢ unentered → body ws n b ≢ transparent → BodyState f ws n b → (theory.opaque f b ≡ true) ⊎ Calls⁺ f b b
-not-transparent l lead e c (BodyState.is-unentered q r) = absurd (e q)
+not-transparent l lead e c (BodyState.is-unentered q) = absurd (e q)
 not-transparent {b = b} l lead e c (BodyState.is-open q r) = inr (lead b l q)
 not-transparent l lead e c (BodyState.is-transparent q o t r) = absurd (c q)
 not-transparent l lead e c (BodyState.is-opaque q o r) = inl o
@@ -42,7 +42,7 @@ record IsTransparent (f : Flow) (ws : List ℕ) (n b : ℕ) : Type 0 where
   touched : Holds (touchedBy ws n b) (touches f b)
 
 is-transparent : {f : Flow} {ws : List ℕ} {n b : ℕ} → body ws n b ≡ transparent → BodyState f ws n b → IsTransparent f ws n b
-is-transparent h (BodyState.is-unentered q r) = absurd (omega (arith, h, q))
+is-transparent h (BodyState.is-unentered q) = absurd (omega (arith, h, q))
 is-transparent h (BodyState.is-open q r) = absurd (omega (arith, h, q))
 is-transparent h (BodyState.is-transparent q o t r) = record { opaque = o; touched = t }
 is-transparent h (BodyState.is-opaque q o r) = absurd (omega (arith, h, q))

@@ -3,17 +3,18 @@
 use Prim.Native.Nat.{ℕ, zero, suc, _+_, _/_, _≤_, _<_}
 use mathlib.Core.List.{List}
 use mathlib.Core.Option.{Option, none, some}
-use mathlib.Core.Path.{_≡_, refl, ap, _∙_}
+use mathlib.Core.Path.{_≡_, refl, ap, subst, _∙_}
 use native.Mathlib.Omega.{arith}
 use lib.ListN.{length, getD}
 use Rattle.flow.specs.Limits.{maxFile}
 use Rattle.flow.specs.Flow.{size}
+use Rattle.flow.specs.declared.Header.{Header}
 use Rattle.flow.specs.declared.StmtId.{StmtId}
 use Rattle.flow.specs.declared.Continuation as C
 use Rattle.flow.specs.declared.LineEntry as E
 use Rattle.flow.specs.contracts.Answers.{FitFile, FitRecord}
-use Rattle.records.specs.contracts.Fields.{callLineCount, callLineAt, continuationTo, lineEntryOf}
-use Rattle.flow.specs.Format.{flowOf, statementsOf, recordPlace, successorCount, successorAt}
+use Rattle.records.specs.contracts.Fields.{LineParts, callLineCount, callLineAt, continuationTo, lineEntryOf}
+use Rattle.flow.specs.Format.{flowOf, statementsOf, lineCount, recordPlace, successorCount, successorAt}
 use Rattle.records.proofs.Files.{limited, record-fit}
 use Rattle.records.proofs.KindData.{call-line-fits}
 use Rattle.flow.proofs.Records.{references-fit}
@@ -24,9 +25,10 @@ use Rattle.theory.specs.Body.{kind, callLines, successors, walkNext}
 use Rattle.theory.proofs.Body.{walkNext-below}
 use Rattle.theory.proofs.Lists.{getD-In}
 use Rattle.statements.specs.contracts.Layout as layout
-use Rattle.statements.specs.contracts.Layout.{rowAt, rowWords, queueAt}
-use Rattle.statements.specs.contracts.Ready.{Ready}
-use Rattle.statements.proofs.Keeps.{ready-formed, ready-below, ready-room}
+use Rattle.statements.specs.contracts.Layout.{linesAt, callsAt, rowAt, rowWords, queueAt}
+use Rattle.statements.specs.contracts.Ready.{Ready, Indexed, Keeps}
+use Rattle.statements.proofs.Keeps.{ready-formed, ready-below, ready-room, ready-keeps, parts-keep}
+use Rattle.calls.specs.contracts.Summing.{Located}
 use Rattle.statements.proofs.WellFormed.{well-formed}
 use Rattle.statements.proofs.WorkArea.{member-word, row-fits}
 
@@ -90,6 +92,16 @@ enters-nothing (some t) e = let z : _≡_ {A = ℕ} 0 1 = cc in absurd (omega ar
 
 pub successor-below : {s : List ℕ} → FitFile s → (i k : ℕ) → k < length (successors (flowOf s) i) → getD (successors (flowOf s) i) k 0 < size (flowOf s)
 successor-below {s} h i k l = well-formed h .successor i (getD (successors (flowOf s) i) k 0) (getD-In (successors (flowOf s) i) k 0 l)
+
+-- what is noted of the file, by its header; it stands below the calls
+
+pub located : {s ws : List ℕ} {h : Header} → Indexed s h ws → Located s ws (h .«lines_at»)
+located {s} {ws} x =
+    let e = x .ready .count in
+    record { ready = subst (Ready s ws) e (x .ready); parts = subst (λ (n : ℕ). LineParts s ws (linesAt n) n (lineCount s)) e (x .lines); lines = ap (λ (h : Header). h .«lines_at») (x .header) }
+
+pub located-keeps : {s ws vs : List ℕ} {place lo hi : ℕ} → Located s ws place → Keeps lo hi ws vs → callsAt (statementsOf s) ≤ lo → Located s vs place
+located-keeps l k h = record { ready = ready-keeps (l .ready) k (omega arith); parts = parts-keep (l .parts) k h; lines = l .lines }
 
 -- where the number of statements was read again
 pub ready-again : {s ws : List ℕ} {n : ℕ} → n ≡ statementsOf s → Ready s ws (statementsOf s) → Ready s ws n

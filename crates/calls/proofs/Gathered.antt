@@ -1,22 +1,25 @@
--- Where the RETURNs of a call's bodies go, gathered member by member of the row that the walks were joined in, and call by call.
+-- Where the RETURNs of a call's bodies go: bit by bit of a word, word by word of a row that has the walks and of the row of RETURNs, and call by call.
 -- Each step adds what its part gives, so that the whole is what the definitions say.
-use Prim.Native.Nat.{ℕ, _+_, _≤_, _<_, min, max}
+use Prim.Native.Nat.{ℕ, _+_, _*_, _/_, _%_, _^_, _≤_, _<_, min, max}
 use mathlib.Core.Bool.{Bool, true, false, cond, not, _&&_, _||_, or-false, and-comm, and-false}
 use mathlib.Core.List.{List, [], _∷_, _++_, append-nil}
+use mathlib.Core.Logic.{_⊎_, inl, inr}
 use mathlib.Core.Option.{Option, none, some}
 use mathlib.Core.Path.{_≡_, refl, sym, _∙_, ap, ap₂, subst}
+use native.Mathlib.Decide.{decLt, ℕ-discrete}
 use native.Mathlib.Numerals.{add-one}
 use native.Mathlib.Omega.{arith}
-use borrow.Author.Tests.{eqb-true, eq-eqb, lt-ltb}
+use borrow.Author.Tests.{eqb-true, eq-eqb, ne-eqb, lt-ltb, le-ltb}
+use lib.Bits.{bitAnd}
+use lib.Count.{trailingZeros}
 use lib.Dec.{eqb, ltb}
 use lib.ListN.{length, getD}
 use Rattle.words.specs.contracts.Row as row
-use Rattle.words.specs.contracts.Row.{has}
-use Rattle.words.specs.contracts.Row.{nextMember, First}
-use Rattle.words.specs.contracts.Change.{Inserted, ReadFirst, intersected}
-use Rattle.words.proofs.Row.{has-lt}
-use Rattle.words.proofs.Intersected.{intersected-has}
-use Rattle.words.proofs.NextMember.{first}
+use Rattle.words.specs.contracts.Row.{bit, has}
+use Rattle.words.specs.contracts.Change.{Inserted, without}
+use Rattle.words.proofs.Bit.{bit-of-zero, trailing-zero}
+use Rattle.words.proofs.Lowest.{lowest-lt, lowest-one, lowest-other}
+use Rattle.words.proofs.Row.{has-lt, has-both}
 use Rattle.flow.specs.Flow.{Flow, size}
 use Rattle.theory.specs.Lists.{any, elem, concatMap, upTo}
 use Rattle.theory.specs.Reach.{Reach}
@@ -25,54 +28,104 @@ use Rattle.theory.specs.contracts.WellFormed.{WellFormed}
 use Rattle.theory.specs.Doubled.{returnsTo, isSome}
 use Rattle.theory.proofs.Lists.{clash, same-test, not-so, eqb-sym, says-one, any-append, In-elem, elem-In, elem-not, elem-append, concatMap-append}
 use Rattle.theory.proofs.Body.{entered-below, walked-sound, walked-complete}
-use Rattle.statements.specs.contracts.Layout.{callsAt, callTouchedAt, bodiesAt, matrixAt, rowAt, rowWords, queueAt, enteredRowAt, solverAt, returnsRowAt}
+use Rattle.statements.specs.contracts.Layout.{callsAt, callTouchedAt, bodiesAt, matrixAt, rowAt, rowWords, queueAt, solverAt, returnsRowAt}
 use Rattle.statements.specs.contracts.Ready.{Keeps, MembersWord}
-use Rattle.statements.proofs.WorkArea.{row-holds, row-words-le, row-from}
-use Rattle.statements.proofs.Keeps.{keeps-trans, keeps-has, keeps-intersected}
-use Rattle.statements.proofs.Members.{first-as, members-none, members-next}
-use Rattle.calls.specs.contracts.Held.{WalkRow, Empty, CallSummaries, Summarized, Leaders, Linked, transparent, opaque}
-use Rattle.calls.specs.contracts.Joins.{Joins, Gains, Gathers, Adds, Notes, Summary, BodyRows, ReturnSet, isEntered, bodyOf, bodiesOf, fromBodies}
-use Rattle.calls.proofs.Joined.{joins-none, joins-then, joins-same, gains-none, gains-same, gains-more, gains-after, gains-joins, row-stays, adds-same, adds-all}
+use Rattle.statements.proofs.WorkArea.{member-word, row-from}
+use Rattle.statements.proofs.Keeps.{keeps-has}
+use Rattle.calls.specs.contracts.Held.{WalkRow, Empty, EmptyRow, CallSummaries, Summarized, Leaders, Linked, transparent, opaque}
+use Rattle.calls.specs.contracts.Joins.{Joins, Gains, Apart, Gathers, Adds, NotesCalls, Summary, BodyRows, ReturnSet, inWord, isShared, bodyOf, bodiesOf, fromBodies}
+use Rattle.calls.proofs.Joined.{joins-none, joins-then, joins-same, gains-none, gains-same, gains-insert, gains-then, gains-after, gains-joins, row-stays, adds-same, adds-all}
 use Rattle.calls.proofs.Summing.{walk-low, walk-kept}
 use Rattle.calls.proofs.BodySummary.{return-stays, return-ordinary}
 
--- The row of entered statements, member by member
+-- A word, bit by bit
 
--- the rows of the members below r have k, and r is the next member
-pub record Noting (ws₀ ws : List ℕ) (n k r : ℕ) : Type 0 where
-  pub gains : Gains ws₀ ws n (queueAt n) (λ s. ltb s r && isEntered ws₀ n s) k
-  pub below : r ≤ n
-  pub member : r < n → row.has ws₀ (enteredRowAt n) r ≡ 1
-
-module _ {ws₀ : List ℕ} {n : ℕ} (k : ℕ) where
-  pub noting-start : Noting ws₀ ws₀ n k (nextMember ws₀ (enteredRowAt n) 0 n)
-  noting-start = record {
-    gains = gains-same gains-none (λ s l. sym (members-none found s));
-    below = found .high;
-    member = found .member;
-  }
+-- the lowest bit, and the word without it
+module _ (w j : ℕ) (h : w < 2 ^ 64) (some : 0 < w) where
+  word-first : (s : ℕ) → (eqb s (64 * j + trailingZeros 64 w) || inWord (without w (2 ^ trailingZeros 64 w)) j s) ≡ inWord w j s
+  word-first s = at (ℕ-discrete s (64 * j + t))
     where
-      found : First ws₀ (enteredRowAt n) 0 n (nextMember ws₀ (enteredRowAt n) 0 n)
-      found = first ws₀ (enteredRowAt n) 0 n (omega arith)
+      t : ℕ
+      t = trailingZeros 64 w
 
-  -- the rows of the matrix lie below the row of entered statements
-  pub noting-on : {ws vs : List ℕ} {r : ℕ} {b : Bool} → Noting ws₀ ws n k r → r < n → k < n → queueAt n ≤ length ws₀ → Inserted ws vs (rowAt n r) k b
-      → Noting ws₀ vs n k (nextMember vs (enteredRowAt n) (r + 1) n)
-  noting-on {ws} {vs} {r} inv lr lk room i = record {
-    gains = gains-same more (λ s l. members-next r (inv .member lr) found s);
-    below = found .high;
-    member = found .member;
-  }
-    where
-      more : Gains ws₀ vs n (queueAt n) (λ s. (ltb s r && isEntered ws₀ n s) || eqb s r) k
-      more = gains-more (inv .gains) i lr lk room
+      at : Dec (s ≡ 64 * j + t) → (eqb s (64 * j + t) || inWord (without w (2 ^ t)) j s) ≡ inWord w j s
+      at (yes e) =
+          let low = lowest-lt w h some in
+          let place : s % 64 ≡ t = omega arith in
+          rw (eq-eqb s (64 * j + t) e, eq-eqb (s / 64) j (omega arith), place, lowest-one w h some)
+      at (no d) = rw (ne-eqb s (64 * j + t) d) (go (ℕ-discrete (s / 64) j))
+        where
+          go : Dec (s / 64 ≡ j) → inWord (without w (2 ^ t)) j s ≡ inWord w j s
+          go (yes q) = ap (λ (x : ℕ). eqb (s / 64) j && eqb x 1) (lowest-other w h some (s % 64) (λ e. d (omega arith)))
+          go (no q) = rw (ne-eqb (s / 64) j q)
 
-      found : First ws₀ (enteredRowAt n) (r + 1) n (nextMember vs (enteredRowAt n) (r + 1) n)
-      found = first-as (first vs (enteredRowAt n) (r + 1) n (omega arith)) (λ j l. keeps-has (more .kept) (enteredRowAt n) j (λ a b. omega arith))
+  -- k joins the row of the lowest, and then those of the others
+  pub word-on : {ws us vs : List ℕ} {n k : ℕ} {b : Bool} → Inserted ws us (rowAt n (64 * j + trailingZeros 64 w)) k b → 64 * j + trailingZeros 64 w < n → k < n → queueAt n ≤ length ws
+      → Gains us vs n (queueAt n) (inWord (without w (2 ^ trailingZeros 64 w)) j) k → Gains ws vs n (queueAt n) (inWord w j) k
+  word-on i lr lk room g = gains-same (gains-then (gains-insert i lr lk room) g) (λ s l. word-first s)
 
-pub noting-done : {ws₀ ws : List ℕ} {n k r : ℕ} → Noting ws₀ ws n k r → n ≤ r → Gains ws₀ ws n (queueAt n) (isEntered ws₀ n) k
-noting-done {ws₀ = ws₀} {n = n} {r = r} inv l =
-    gains-same (inv .gains) (λ s ls. ap (λ (t : Bool). t && isEntered ws₀ n s) (lt-ltb s r (omega arith)))
+-- the bits from the lowest on are no statements
+pub word-past : {n : ℕ} (w j : ℕ) → n ≤ 64 * j + trailingZeros 64 w → (s : ℕ) → s < n → inWord w j s ≡ false
+word-past w j h s l = go (ℕ-discrete (s / 64) j)
+  where
+    go : Dec (s / 64 ≡ j) → inWord w j s ≡ false
+    go (yes q) = rw (trailing-zero 64 w (s % 64) (omega arith)) (and-false (eqb (s / 64) j))
+    go (no q) = rw (ne-eqb (s / 64) j q)
+
+pub word-none : {w : ℕ} (j : ℕ) → w ≡ 0 → (s : ℕ) → inWord w j s ≡ false
+word-none j e s = rw (e, bit-of-zero (s % 64)) (and-false (eqb (s / 64) j))
+
+-- Two rows, word by word
+
+-- the rows of the statements that are in the first j words of both have k
+pub record Noting (ws₀ ws : List ℕ) (n row k j : ℕ) : Type 0 where
+  pub gains : Gains ws₀ ws n (queueAt n) (λ s. ltb (s / 64) j && isShared ws₀ n row s) k
+  pub below : j ≤ rowWords n
+
+module _ {ws₀ : List ℕ} {n row k : ℕ} where
+  pub noting-start : Noting ws₀ ws₀ n row k 0
+  noting-start = record { gains = gains-none (λ s l. rw (le-ltb (s / 64) 0 (omega arith))); below = omega arith }
+
+  module _ {ws : List ℕ} {j : ℕ} (inv : Noting ws₀ ws n row k j) where
+    -- both rows are as they were
+
+    returns-same : (s : ℕ) → has ws (returnsRowAt n) s ≡ has ws₀ (returnsRowAt n) s
+    returns-same s = keeps-has (inv .gains .kept) (returnsRowAt n) s (λ a b. omega arith)
+
+    row-same : Apart ws₀ n row → (s : ℕ) → s < n → has ws row s ≡ has ws₀ row s
+    row-same a s l = go (a .place)
+      where
+        go : (queueAt n ≤ row) ⊎ ((b : ℕ) × (b < n) × (row ≡ rowAt n b) × (has ws₀ (returnsRowAt n) b ≡ 0)) → has ws row s ≡ has ws₀ row s
+        go (inl h) = keeps-has (inv .gains .kept) row s (λ a b. omega arith)
+        go (inr (b, lb, e, z)) =
+            let out : (ltb (b / 64) j && isShared ws₀ n row b) ≡ false = rw z (ap (λ (t : Bool). ltb (b / 64) j && t) (and-false (eqb (has ws₀ row b) 1)) ∙ and-false (ltb (b / 64) j)) in
+            subst (λ (x : ℕ). has ws x s ≡ has ws₀ x s) (sym e)
+            (inv .gains .rows b s lb l ∙ ap (λ (t : Bool). max (has ws₀ (rowAt n b) s) (cond (t && eqb s k) 1 0)) out ∙ omega arith)
+
+    pub noting-on : {vs : List ℕ} → Apart ws₀ n row → j < rowWords n
+        → Gains ws vs n (queueAt n) (inWord (bitAnd (getD ws (row + j) 0) (getD ws (returnsRowAt n + j) 0)) j) k → Noting ws₀ vs n row k (j + 1)
+    noting-on {vs} a l g = record { gains = gains-same (gains-then (inv .gains) g) (λ s ls. step s ls (ℕ-discrete (s / 64) j) (decLt (s / 64) j)); below = omega arith }
+      where
+        word : ℕ
+        word = bitAnd (getD ws (row + j) 0) (getD ws (returnsRowAt n + j) 0)
+
+        both : (a b : ℕ) → a < 2 → b < 2 → Dec (a ≡ 1) → Dec (b ≡ 1) → eqb (min a b) 1 ≡ (eqb a 1 && eqb b 1)
+        both a b la lb (yes p) (yes q) = rw (p, q)
+        both a b la lb (yes p) (no d) = rw (p, ne-eqb b 1 d, ne-eqb (min 1 b) 1 (λ e. d (omega arith)))
+        both a b la lb (no d) q = rw (ne-eqb a 1 d, ne-eqb (min a b) 1 (λ e. d (omega arith)))
+
+        step : (s : ℕ) → s < n → Dec (s / 64 ≡ j) → Dec (s / 64 < j) → ((ltb (s / 64) j && isShared ws₀ n row s) || inWord word j s) ≡ (ltb (s / 64) (j + 1) && isShared ws₀ n row s)
+        step s ls (yes e) lt =
+            let bits : bit word (s % 64) ≡ min (has ws₀ row s) (has ws₀ (returnsRowAt n) s) =
+            subst (λ (x : ℕ). bit (bitAnd (getD ws (row + x) 0) (getD ws (returnsRowAt n + x) 0)) (s % 64) ≡ min (has ws₀ row s) (has ws₀ (returnsRowAt n) s)) e
+            (has-both ws row (returnsRowAt n) s ∙ ap₂ min (row-same a s ls) (returns-same s)) in
+            rw (le-ltb (s / 64) j (omega arith), eq-eqb (s / 64) j e, lt-ltb (s / 64) (j + 1) (omega arith), bits)
+            (both (has ws₀ row s) (has ws₀ (returnsRowAt n) s) (has-lt ws₀ row s) (has-lt ws₀ (returnsRowAt n) s) (ℕ-discrete (has ws₀ row s) 1) (ℕ-discrete (has ws₀ (returnsRowAt n) s) 1))
+        step s ls (no d) (yes lt) = rw (lt-ltb (s / 64) j lt, ne-eqb (s / 64) j d, lt-ltb (s / 64) (j + 1) (omega arith)) (or-false (isShared ws₀ n row s))
+        step s ls (no d) (no lt) = rw (le-ltb (s / 64) j (omega (arith, lt)), ne-eqb (s / 64) j d, le-ltb (s / 64) (j + 1) (omega (arith, lt, d)))
+
+    pub noting-done : rowWords n ≤ j → Gains ws₀ ws n (queueAt n) (isShared ws₀ n row) k
+    noting-done h = gains-same (inv .gains) (λ s l. ap (λ (t : Bool). t && isShared ws₀ n row s) (lt-ltb (s / 64) j (omega (arith, member-word l))))
 
 -- A body's walk
 
@@ -135,42 +188,23 @@ module _ (f : Flow) where
   elem-walks s [] = refl
   elem-walks s (b ∷ bs) = elem-append s (walked f b) (bodiesOf f true bs) ∙ ap (λ (t : Bool). elem s (walked f b) || t) (elem-walks s bs)
 
-  -- the row of entered statements becomes what a row that has the bodies' walks, and no more, shares with that of RETURNs
-  pub gathers : {ws us vs : List ℕ} (n at : ℕ) (bs : List ℕ) → Keeps (enteredRowAt n) (solverAt n) ws us → ReturnSet f us n → solverAt n ≤ length us
-      → ReadFirst (enteredRowAt n) at (rowWords n) → vs ≡ intersected us (enteredRowAt n) at (returnsRowAt n) (rowWords n)
-      → ((s : ℕ) → s < n → row.has us at s ≡ cond (any (λ e. elem s (walked f e)) bs) 1 0) → Gathers f ws vs n bs
-  gathers {ws} {us} {vs} n at bs kept rs room apart cut has = record {
-    kept = keeps-trans kept (subst (λ (xs : List ℕ). Keeps (enteredRowAt n) (solverAt n) us xs) (sym cut) (keeps-intersected us (enteredRowAt n) at (returnsRowAt n) (rowWords n) (omega arith) inside));
-    holds = λ s l.
-        ap (λ (xs : List ℕ). row.has xs (enteredRowAt n) s) cut
-        ∙ intersected-has us (enteredRowAt n) at (returnsRowAt n) (rowWords n) (omega (arith, inside)) apart (λ i j a b e. omega (arith, inside)) s (omega (arith, row-holds n))
-        ∙ ap₂ min (has s l) (rs .holds s l) ∙ both (any (λ e. elem s (walked f e)) bs) (isReturn (kind f s));
-  }
-    where
-      inside : enteredRowAt n + rowWords n ≤ solverAt n
-      inside = omega (arith, row-words-le n)
-
-      both : (a b : Bool) → min (cond a 1 0) (cond b 1 0) ≡ cond (a && b) 1 0
-      both true true = omega arith
-      both true false = omega arith
-      both false b = omega arith
-
   -- from the row of a body's walk, and line by line
 
   pub body-gathered : {ws : List ℕ} {n b : ℕ} → WellFormed f → size f ≡ n → b < n → WalkRow f ws n b → (s : ℕ) → s < n → row.has ws (rowAt n b) s ≡ cond (any (λ e. elem s (walked f e)) (b ∷ [])) 1 0
   unfolding any
   body-gathered {b = b} w z lb r s l = row-walked w z lb r s l ∙ ap (λ (t : Bool). cond t 1 0) (sym (or-false (elem s (walked f b))))
 
-  pub lines-gathered : {ws us : List ℕ} {n : ℕ} (bs : List ℕ) → Empty ws n (enteredRowAt n) → Adds (enteredRowAt n) ws us n (bodiesOf f true bs)
-      → (s : ℕ) → s < n → row.has us (enteredRowAt n) s ≡ cond (any (λ e. elem s (walked f e)) bs) 1 0
+  pub lines-gathered : {ws us : List ℕ} {n to : ℕ} (bs : List ℕ) → Empty ws n to → Adds to ws us n (bodiesOf f true bs)
+      → (s : ℕ) → s < n → row.has us to s ≡ cond (any (λ e. elem s (walked f e)) bs) 1 0
   lines-gathered bs empty a s l = adds-all empty a s l ∙ ap (λ (t : Bool). cond t 1 0) (elem-walks s bs)
 
-  -- its members, which are the RETURNs of the bodies, go to k
-  pub bodies-noted : {ws us vs : List ℕ} {n : ℕ} (k : ℕ) (bs : List ℕ) → Gathers f ws us n bs → Gains us vs n (queueAt n) (isEntered us n) k
+  -- the RETURNs among them go to k
+  pub bodies-noted : {ws us vs : List ℕ} {n at : ℕ} (k : ℕ) (bs : List ℕ) → Gathers f ws us n bs at → ReturnSet f us n → Gains us vs n (queueAt n) (isShared us n at) k
       → Joins f ws vs n (solverAt n) (fromBodies f bs k)
-  bodies-noted k bs g gains =
+  bodies-noted k bs g rs gains =
       let walks : ℕ → Bool = λ s. any (λ e. elem s (walked f e)) bs in
-      gains-joins walks (gains-after (g .kept) (omega arith) gains) (λ s l. ap (λ (x : ℕ). eqb x 1) (g .holds s l) ∙ says-one (walks s && isReturn (kind f s)))
+      gains-joins walks (gains-after (g .kept) (omega arith) gains)
+      (λ s l. ap₂ (λ (x y : ℕ). eqb x 1 && eqb y 1) (g .holds s l) (rs .holds s l) ∙ ap₂ _&&_ (says-one (walks s)) (says-one (isReturn (kind f s))))
 
 -- Call by call
 
@@ -243,16 +277,17 @@ summary-kept {f} {n = n} {c = c} w z s js l = record {
 }
 
 -- the edges are known once the leaders are noted too, which writes words of the bodies only
-pub linked : {f : Flow} {ws us vs ts : List ℕ} {n hi : ℕ} → size f ≡ n → Summarized f ws n → Joins f ws us n hi (λ r k. any (returnsTo f r k) (upTo n)) → Notes f us vs n 0 n
+pub linked : {f : Flow} {ws us vs ts : List ℕ} {n hi : ℕ} → size f ≡ n → Summarized f ws n → ((r : ℕ) → r < n → isReturn (kind f r) ≡ true → EmptyRow ws n r)
+    → Joins f ws us n hi (λ r k. any (returnsTo f r k) (upTo n)) → NotesCalls f us vs n 0 n
     → Keeps (bodiesAt n) (matrixAt n) vs ts → Leaders f ts n → Linked f ts n
-linked {f} {ws} {us} {vs} {ts} {n} z s js ns k ls = record {
+linked {f} {ws} {us} {vs} {ts} {n} z s free js ns k ls = record {
   calls = summaries-kept (omega arith) k (summaries-kept (omega arith) (ns .kept) (summaries-kept (omega arith) (js .kept) (s .calls)));
   bodies = λ c j l lj e. row c j ∙ ns .noted c j (omega arith) l lj (sym (k .below (callsAt n + c) (omega arith) ∙ ns .kept .below (callsAt n + c) (omega arith)) ∙ e);
   returns = λ r j lr lj is.
       let goes : ℕ → ℕ = λ m. cond (any (returnsTo f r j) (upTo m)) 1 0 in
       let only : max 0 (goes n) ≡ goes n = omega arith in
       row r j ∙ ns .others r j lr lj (λ a b e. no-call r lr is e)
-      ∙ js .joined r j lr lj is ∙ ap (λ (x : ℕ). max x (goes n)) (s .free r lr is j lj) ∙ only ∙ ap goes (sym z);
+      ∙ js .joined r j lr lj is ∙ ap (λ (x : ℕ). max x (goes n)) (free r lr is j lj) ∙ only ∙ ap goes (sym z);
   leaders = ls;
 }
   where

@@ -62,8 +62,8 @@ joins-same {ws = ws} {n = n} a e = record {
 
 -- Rows of the matrix that k joins
 
-pub gains-none : {ws : List ℕ} {n hi k : ℕ} → Gains ws ws n hi (λ r. false) k
-gains-none = record { kept = keeps-refl; rows = λ r j l m. omega arith }
+pub gains-none : {ws : List ℕ} {n hi k : ℕ} {p : ℕ → Bool} → ((r : ℕ) → r < n → p r ≡ false) → Gains ws ws n hi p k
+gains-none h = record { kept = keeps-refl; rows = λ r j l m. rw (h r l) (omega arith) }
 
 pub gains-same : {ws vs : List ℕ} {n hi k : ℕ} {p q : ℕ → Bool} → Gains ws vs n hi p k → ((r : ℕ) → r < n → p r ≡ q r) → Gains ws vs n hi q k
 gains-same {ws = ws} {n = n} {k = k} g e = record {
@@ -71,25 +71,28 @@ gains-same {ws = ws} {n = n} {k = k} g e = record {
   rows = λ r j l m. g .rows r j l m ∙ ap (λ (t : Bool). max (has ws (rowAt n r) j) (cond (t && eqb j k) 1 0)) (e r l);
 }
 
--- one row more
-pub gains-more : {ws vs us : List ℕ} {n r k : ℕ} {p : ℕ → Bool} {b : Bool} → Gains ws vs n (queueAt n) p k → Inserted vs us (rowAt n r) k b → r < n → k < n
-    → queueAt n ≤ length ws → Gains ws us n (queueAt n) (λ s. p s || eqb s r) k
-gains-more {ws} {vs} {us} {n} {r} {k} {p} g i lr lk room = subst (λ (xs : List ℕ). Gains ws xs n (queueAt n) (λ s. p s || eqb s r) k) (sym (i .slice)) (record {
-  kept = keeps-trans (g .kept) (keeps-inserted vs (rowAt n r) k (row-from n r) inside);
-  rows = λ s j ls lj.
-      at s j ls lj ∙ ap (λ (x : ℕ). max x (cond (eqb s r && eqb j k) 1 0)) (g .rows s j ls lj) ∙ max-or (has ws (rowAt n s) j) (p s && eqb j k) (eqb s r && eqb j k)
-      ∙ ap (λ (t : Bool). max (has ws (rowAt n s) j) (cond t 1 0)) (sym (and-or-distrib-right (p s) (eqb s r) (eqb j k)));
+-- one row more, and more after more
+
+pub gains-insert : {ws us : List ℕ} {n r k : ℕ} {b : Bool} → Inserted ws us (rowAt n r) k b → r < n → k < n → queueAt n ≤ length ws → Gains ws us n (queueAt n) (λ s. eqb s r) k
+gains-insert {ws} {us} {n} {r} {k} i lr lk room = subst (λ (xs : List ℕ). Gains ws xs n (queueAt n) (λ s. eqb s r) k) (sym (i .slice)) (record {
+  kept = keeps-inserted ws (rowAt n r) k (row-from n r) inside;
+  rows = λ s j ls lj. go s j ls lj (eqb s r) refl;
 })
   where
     inside : rowAt n r + k / 64 < queueAt n
     inside = omega (arith, row-fits n lr, member-word lk)
 
-    at : (s j : ℕ) → s < n → j < n → has (inserted vs (rowAt n r) k) (rowAt n s) j ≡ max (has vs (rowAt n s) j) (cond (eqb s r && eqb j k) 1 0)
-    at s j ls lj = go (eqb s r) refl
-      where
-        go : (t : Bool) → eqb s r ≡ t → has (inserted vs (rowAt n r) k) (rowAt n s) j ≡ max (has vs (rowAt n s) j) (cond (t && eqb j k) 1 0)
-        go true e = rw (eqb-true s r e) (inserted-bit vs (rowAt n r) k (omega (arith, inside, g .kept .size)) j)
-        go false e = insert-row vs (eqb-false s r e) lk lj ∙ omega arith
+    go : (s j : ℕ) → s < n → j < n → (t : Bool) → eqb s r ≡ t → has (inserted ws (rowAt n r) k) (rowAt n s) j ≡ max (has ws (rowAt n s) j) (cond (t && eqb j k) 1 0)
+    go s j ls lj true e = rw (eqb-true s r e) (inserted-bit ws (rowAt n r) k (omega (arith, inside)) j)
+    go s j ls lj false e = insert-row ws (eqb-false s r e) lk lj ∙ omega arith
+
+pub gains-then : {ws us vs : List ℕ} {n hi k : ℕ} {p q : ℕ → Bool} → Gains ws us n hi p k → Gains us vs n hi q k → Gains ws vs n hi (λ s. p s || q s) k
+gains-then {ws} {n = n} {k = k} {p = p} {q = q} a b = record {
+  kept = keeps-trans (a .kept) (b .kept);
+  rows = λ s j ls lj.
+      b .rows s j ls lj ∙ ap (λ (x : ℕ). max x (cond (q s && eqb j k) 1 0)) (a .rows s j ls lj) ∙ max-or (has ws (rowAt n s) j) (p s && eqb j k) (q s && eqb j k)
+      ∙ ap (λ (t : Bool). max (has ws (rowAt n s) j) (cond t 1 0)) (sym (and-or-distrib-right (p s) (q s) (eqb j k)));
+}
 
 -- a change of the row of entered statements may come before
 pub gains-after : {ws vs us : List ℕ} {n hi k : ℕ} {p : ℕ → Bool} → Keeps (enteredRowAt n) (solverAt n) ws vs → hi ≤ solverAt n → Gains vs us n hi p k

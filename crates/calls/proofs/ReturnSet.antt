@@ -1,5 +1,5 @@
 -- The row of RETURNs: it lies in the work area, it is made statement by statement, it stays while the matrix and the row of entered statements are written, and
--- what is known of calls and walks stays while it is written. By the laws of `Adds`, of lists and of the layout.
+-- what is known of calls and walks stays while it and the rows of RETURNs are written. By the laws of `Adds`, of lists and of the layout.
 use Prim.Native.Nat.{ℕ, zero, suc, _+_, _≤_, _<_}
 use mathlib.Core.Bool.{Bool, true, false, cond}
 use mathlib.Core.List.{List, [], _∷_, _++_, append-nil}
@@ -8,18 +8,19 @@ use mathlib.Core.Path.{_≡_, refl, sym, _∙_, ap, subst}
 use native.Mathlib.Numerals.{add-one}
 use native.Mathlib.Omega.{arith}
 use lib.ListN.{length}
+use Rattle.words.specs.contracts.Row.{has}
 use Rattle.flow.specs.Flow.{Flow, size}
 use Rattle.theory.specs.Lists.{In, elem, concatMap, upTo}
 use Rattle.theory.specs.Body.{kind, isReturn}
 use Rattle.theory.specs.contracts.WellFormed.{WellFormed}
 use Rattle.theory.proofs.Lists.{same-test, In-elem, elem-In, concatMap-In, In-concatMap, concatMap-append, upTo-In}
-use Rattle.statements.specs.contracts.Layout.{rowWords, rowsEnd, queueAt, returnsRowAt}
+use Rattle.statements.specs.contracts.Layout.{bodiesAt, rowWords, rowsEnd, rowAt, returnsRowAt}
 use Rattle.statements.specs.contracts.Ready.{Ready, Keeps}
-use Rattle.statements.proofs.WorkArea.{row-words-le, row-from}
+use Rattle.statements.proofs.WorkArea.{row-words-le}
 use Rattle.statements.proofs.Keeps.{ready-room, keeps-has}
 use Rattle.calls.specs.contracts.Held.{Empty, Summarized}
 use Rattle.calls.specs.contracts.Joins.{Adds, ReturnSet, ifReturn}
-use Rattle.calls.proofs.Joined.{row-stays, adds-then, adds-all}
+use Rattle.calls.proofs.Joined.{adds-then, adds-all}
 use Rattle.calls.proofs.Summing.{walk-low, walk-kept, callee-low}
 use Rattle.calls.proofs.Gathered.{summaries-kept}
 
@@ -58,10 +59,10 @@ elem-returns f k s l = same-test (elem s (returnsBelow f k)) (isReturn (kind f s
 pub returns-all : (f : Flow) {ws vs : List ℕ} {n : ℕ} → Empty ws n (returnsRowAt n) → Adds (returnsRowAt n) ws vs n (returnsBelow f n) → ReturnSet f vs n
 returns-all f {n = n} empty a = record { holds = λ r l. adds-all empty a r l ∙ ap (λ (t : Bool). cond t 1 0) (elem-returns f n r l) }
 
--- what the summaries say stays
-pub summarized-stays : {f : Flow} {ws vs : List ℕ} {n lo hi : ℕ} → WellFormed f → size f ≡ n → Keeps lo hi ws vs → queueAt n ≤ lo → Summarized f ws n → Summarized f vs n
-summarized-stays {n = n} w z k h s = record {
-  calls = summaries-kept (omega (arith, row-from n n)) k (s .calls);
-  walks = λ c b l m other. let lb = callee-low w z c b m in walk-kept (walk-low w z lb) (λ i li. row-stays k h lb li) (s .walks c b l m other);
-  free = λ r l is j lj. row-stays k h l lj ∙ s .free r l is j lj;
+-- what the summaries say stays where the rows are written that belong to RETURNs, and no others
+pub summarized-stays : {f : Flow} {ws vs : List ℕ} {n lo hi : ℕ} → WellFormed f → size f ≡ n → Keeps lo hi ws vs → bodiesAt n ≤ lo
+    → ((e i : ℕ) → e < n → i < n → isReturn (kind f e) ≡ false → has vs (rowAt n e) i ≡ has ws (rowAt n e) i) → Summarized f ws n → Summarized f vs n
+summarized-stays w z k h others s = record {
+  calls = summaries-kept h k (s .calls);
+  walks = λ c b l m other. let lb = callee-low w z c b m in walk-kept (walk-low w z lb) (λ i li. others b i lb li other) (s .walks c b l m other);
 }

@@ -1,6 +1,6 @@
 -- The summaries of all calls: at first nothing is entered, and in the end, with no body open, each call's state is that of the definitions.
 -- How many bodies are unentered never rises, and falls when one is opened: so the summaries come to an end.
-use Prim.Native.Nat.{ℕ, _+_, _/_, _^_, _<_, _≤_}
+use Prim.Native.Nat.{ℕ, _+_, _^_, _<_, _≤_}
 use mathlib.Core.Bool.{Bool, true, false, cond}
 use mathlib.Core.List.{List, [], List·Memᴰ·not-nil}
 use mathlib.Core.Logic.{_≢_}
@@ -18,11 +18,9 @@ use Rattle.theory.specs.Lists.{In, sumBelow}
 use Rattle.theory.specs.Body.{kind, continuationOf, entered, ifSome, isReturn, callees, touches, opaqueCall, callTouches}
 use Rattle.theory.specs.contracts.WellFormed.{WellFormed}
 use Rattle.theory.proofs.Lists.{clash, sumBelow-le, sumBelow-lt}
-use Rattle.statements.specs.contracts.Layout.{callsAt, callTouchedAt, bodiesAt, touchedAt, matrixAt, rowAt}
+use Rattle.statements.specs.contracts.Layout.{callsAt, callTouchedAt, bodiesAt, touchedAt, matrixAt}
 use Rattle.statements.specs.contracts.Ready.{MembersWord}
-use Rattle.statements.proofs.WorkArea.{member-word, row-from, row-fits}
-use Rattle.statements.proofs.Members.{zero-has}
-use Rattle.calls.specs.contracts.Held.{unentered, opened, transparent, opaque, EmptyRow, WalkRow, NoSummaries, Summarized}
+use Rattle.calls.specs.contracts.Held.{unentered, opened, transparent, opaque, WalkRow, NoSummaries, Summarized}
 use Rattle.calls.specs.contracts.Summing.{body, call, callTouchedBy, Within, Holds, BodyState, CallState, Summing, OnwardBut, Onward, CallSummed}
 use Rattle.calls.proofs.Summing.{onward-refl, onward-trans, callee-low}
 
@@ -63,26 +61,19 @@ unentered-falls {ws} {vs} {n} {e} p l was now =
 -- At first
 
 module _ {ws : List ℕ} {n : ℕ} (z : NoSummaries ws n) where
-  state-zero : (x : ℕ) → callsAt n ≤ x → x < matrixAt n → getD ws x 0 ≡ 0
-  state-zero x l h = z .words x l (omega (arith, row-from n n))
-
-  row-empty : (b : ℕ) → b < n → EmptyRow ws n b
-  row-empty b l i m = zero-has ws (rowAt n b) i (z .words (rowAt n b + i / 64) (omega (arith, row-from n b)) (omega (arith, row-fits n l, member-word m)))
-
   nothing-within : (p : ℕ → Bool) (x : ℕ) → callsAt n ≤ x → x < matrixAt n → Within (getD ws x 0) p
-  nothing-within p x l h a m q = absurd (omega (arith, ap (λ w. bit w a) (state-zero x l h), bit-of-zero a, q))
+  nothing-within p x l h a m q = absurd (omega (arith, ap (λ w. bit w a) (z .words x l h), bit-of-zero a, q))
 
   pub fresh-summing : (f : Flow) → Summing f ws n
   fresh-summing f = record {
-    bodies = λ b l. BodyState.is-unentered (state-zero (bodiesAt n + b) (omega arith) (omega arith)) (row-empty b l);
-    free = λ r l h. row-empty r l;
+    bodies = λ b l. BodyState.is-unentered (z .words (bodiesAt n + b) (omega arith) (omega arith));
     touched = λ b l. nothing-within (touches f b) (touchedAt n + b) (omega arith) (omega arith);
-    calls = λ c l. CallState.is-none (state-zero (callsAt n + c) (omega arith) (omega arith));
+    calls = λ c l. CallState.is-none (z .words (callsAt n + c) (omega arith) (omega arith));
     callTouched = λ c l. nothing-within (callTouches f c) (callTouchedAt n + c) (omega arith) (omega arith);
   }
 
   pub fresh-shut : (b : ℕ) → b < n → body ws n b ≢ opened
-  fresh-shut b l q = omega (arith, state-zero (bodiesAt n + b) (omega arith) (omega arith), q)
+  fresh-shut b l q = omega (arith, z .words (bodiesAt n + b) (omega arith) (omega arith), q)
 
 -- The calls below c have their summaries
 
@@ -134,7 +125,7 @@ callee-entered {b = b} d m (CallState.is-opaque e r o) = r .bodies b m
 
 -- a body that was entered and is not open has its walk in its row
 entered-row : {f : Flow} {ws : List ℕ} {n b : ℕ} → body ws n b ≢ unentered → isReturn (kind f b) ≡ false → BodyState f ws n b → WalkRow f ws n b
-entered-row d h (BodyState.is-unentered e r) = absurd (d e)
+entered-row d h (BodyState.is-unentered e) = absurd (d e)
 entered-row d h (BodyState.is-open e r) = r
 entered-row d h (BodyState.is-transparent e o t r) = r h
 entered-row d h (BodyState.is-opaque e o r) = r
@@ -167,5 +158,4 @@ summarized {f} {ws₀} {ws} {n} {c} w sz words p end = record {
     touched = λ d l h. members (words (callTouchedAt n + d)) (p .summing .callTouched d l) (transparent-touches h (p .summing .calls d l));
   };
   walks = λ d b l m h. let k = callee-continues f d m in entered-row (callee-entered (p .done d (k .0) (omega arith) (k .1)) m (p .summing .calls d l)) h (p .summing .bodies b (callee-low w sz d b m));
-  free = λ r l h. p .summing .free r l h;
 }

@@ -1,7 +1,7 @@
 -- What each write of the summaries makes of them: arrays joined to a set, the state of a call or of a body summaryState, a body opened with its walk in its row.
 -- One word of the states and sets changes at a time, so every other body and call says what it said.
 use Prim.Native.Nat.{ℕ, _+_, _/_, _<_, _≤_}
-use mathlib.Core.Bool.{Bool, true, false}
+use mathlib.Core.Bool.{Bool, true}
 use mathlib.Core.List.{List}
 use mathlib.Core.Logic.{_≢_}
 use mathlib.Core.Path.{_≡_, sym, ap, _∙_, subst}
@@ -16,16 +16,15 @@ use Rattle.words.proofs.Row.{has-cong}
 use Rattle.words.proofs.Inserted.{joined-word, joined-other}
 use Rattle.flow.specs.Flow.{Flow, size}
 use Rattle.theory.specs.Lists.{In}
-use Rattle.theory.specs.Body.{kind, isReturn, callees, touches, callTouches, Walks}
+use Rattle.theory.specs.Body.{callees, touches, callTouches, Walks}
 use Rattle.theory.specs.contracts.WellFormed.{WellFormed}
-use Rattle.theory.proofs.Lists.{clash}
 use Rattle.theory.proofs.Reach.{reach-below}
 use Rattle.theory.proofs.Body.{walkNext-below, callees-below}
 use Rattle.statements.specs.contracts.Layout.{callsAt, callTouchedAt, bodiesAt, touchedAt, matrixAt, rowAt, enteredRowAt}
 use Rattle.statements.specs.contracts.Ready.{Keeps}
 use Rattle.statements.proofs.WorkArea.{member-word, row-from, row-fits, rows-apart}
 use Rattle.statements.proofs.Keeps.{keeps-trans, keeps-refl, keeps-set, keeps-joined, keeps-widen}
-use Rattle.calls.specs.contracts.Held.{unentered, opened, EmptyRow, WalkRow, Walked}
+use Rattle.calls.specs.contracts.Held.{unentered, opened, WalkRow, Walked}
 use Rattle.calls.specs.contracts.Summing.{body, call, touchedBy, callTouchedBy, Within, BodyState, CalleesEntered, CallState, Summing, OnwardBut, Onward}
 use Rattle.calls.proofs.Walking.{only-keeps}
 
@@ -67,7 +66,7 @@ by-place {A} {ws} {vs} {n} {x} s y l h k = go (ℕ-discrete y x)
     go (yes q) = h q
     go (no d) = k (s .other y l d)
 
-module _ (ws : List ℕ) {n : ℕ} (x v : ℕ) (from : callsAt n ≤ x) (to : x < matrixAt n) where
+module _ (ws : List ℕ) (n x v : ℕ) (from : callsAt n ≤ x) (to : x < matrixAt n) where
   change-set : Change ws (set ws x v) n x
   change-set = record { keeps = keeps-set ws x v from (omega (arith, row-from n n)); other = λ y l d. getD-set-other ws x y v 0 d }
 
@@ -175,7 +174,7 @@ pub walk-kept : {f : Flow} {ws vs : List ℕ} {n b : ℕ} → ((i : ℕ) → Wal
 walk-kept low s r = record { sound = λ i m h. r .sound i m (sym (s i m) ∙ h); complete = λ i w. s i (low i w) ∙ r .complete i w }
 
 body-kept : {f : Flow} {ws vs : List ℕ} {n b : ℕ} → ((i : ℕ) → Walks f b i → i < n) → SameBody ws vs n b → BodyState f ws n b → BodyState f vs n b
-body-kept low s (BodyState.is-unentered e h) = BodyState.is-unentered (s .state ∙ e) (λ i m. s .row i m ∙ h i m)
+body-kept low s (BodyState.is-unentered e) = BodyState.is-unentered (s .state ∙ e)
 body-kept low s (BodyState.is-open e r) = BodyState.is-open (s .state ∙ e) (walk-kept low (s .row) r)
 body-kept low s (BodyState.is-transparent e o t r) = BodyState.is-transparent (s .state ∙ e) o (λ a m h. s .grows a (t a m h)) (λ h. walk-kept low (s .row) (r h))
 body-kept low s (BodyState.is-opaque e o r) = BodyState.is-opaque (s .state ∙ e) o (walk-kept low (s .row) r)
@@ -203,7 +202,7 @@ module _ {f : Flow} {n : ℕ} (w : WellFormed f) (sz : size f ≡ n) where
     module _ (x bits : ℕ) (from : callsAt n ≤ x) (to : x < matrixAt n) (nb : (b : ℕ) → b < n → bodiesAt n + b ≢ x) (nc : (c : ℕ) → c < n → callsAt n + c ≢ x) where
       onward-joined : Onward ws (joined ws x bits) n
       onward-joined =
-          onward-change n (change-joined ws x bits from to) (λ b l d. nb b l) (λ c l q. absurd (nc c l q))
+          onward-change n (change-joined ws n x bits from to) (λ b l d. nb b l) (λ c l q. absurd (nc c l q))
           (λ b a l q h. joined-more ws x bits (touchedAt n + b) a (omega arith) h)
           (λ c a l q h. joined-more ws x bits (callTouchedAt n + c) a (omega arith) h)
 
@@ -215,10 +214,9 @@ module _ {f : Flow} {n : ℕ} (w : WellFormed f) (sz : size f ≡ n) where
             (record {
               state = joined-other ws x bits (bodiesAt n + b) (nb b l);
               grows = λ a h. joined-more ws x bits (touchedAt n + b) a (omega arith) h;
-              row = λ i m. rows-joined ws x bits from to b i;
+              row = λ i m. rows-joined ws n x bits from to b i;
             })
             (s .bodies b l);
-        free = λ r l h i m. rows-joined ws x bits from to r i ∙ s .free r l h i m;
         touched = λ b l. joined-within ws x bits (touchedAt n + b) (omega arith) (s .touched b l) (tb b l);
         calls = λ c l.
             call-kept
@@ -256,7 +254,7 @@ module _ {f : Flow} {n : ℕ} (w : WellFormed f) (sz : size f ≡ n) where
           (record {
             state = same-word (bodiesAt n + b) d;
             grows = λ a h. ap (λ w. bit w a) (same-word (touchedAt n + b) t) ∙ h;
-            row = λ i m. rows-set ws x v from to b i;
+            row = λ i m. rows-set ws n x v from to b i;
           })
           (s .bodies b l)
 
@@ -278,14 +276,13 @@ module _ {f : Flow} {n : ℕ} (w : WellFormed f) (sz : size f ≡ n) where
 
       pub onward-call : v ≢ unentered → Onward ws (set ws (callsAt n + c) v) n
       onward-call h =
-          onward-change n (change-set ws (callsAt n + c) v (omega arith) (omega arith)) (λ b l d q. omega arith)
+          onward-change n (change-set ws n (callsAt n + c) v (omega arith) (omega arith)) (λ b l d q. omega arith)
           (λ d l q z. let same : d ≡ c = omega arith in h (sym call-set ∙ subst (λ y. call (set ws (callsAt n + c) v) n y ≡ unentered) same z))
           (λ b a l q. absurd (omega arith)) (λ d a l q. absurd (omega arith))
 
       pub summing-call : CallState f (set ws (callsAt n + c) v) n c → Summing f (set ws (callsAt n + c) v) n
       summing-call new = record {
         bodies = λ b l. set-body (callsAt n + c) v (omega arith) (omega arith) l (λ q. omega arith) (λ q. omega arith);
-        free = λ r l h i m. rows-set ws (callsAt n + c) v (omega arith) (omega arith) r i ∙ s .free r l h i m;
         touched = λ b l. rw (call-other (touchedAt n + b) (λ q. omega arith)) (s .touched b l);
         calls = λ d l. calls d l (ℕ-discrete d c);
         callTouched = λ d l. rw (call-other (callTouchedAt n + d) (λ q. omega arith)) (s .callTouched d l);
@@ -306,13 +303,12 @@ module _ {f : Flow} {n : ℕ} (w : WellFormed f) (sz : size f ≡ n) where
 
       pub onward-body : OnwardBut e ws (set ws (bodiesAt n + e) v) n
       onward-body =
-          onward-change e (change-set ws (bodiesAt n + e) v (omega arith) (omega arith)) (λ b l d q. omega (arith, d)) (λ c l q. absurd (omega arith))
+          onward-change e (change-set ws n (bodiesAt n + e) v (omega arith) (omega arith)) (λ b l d q. omega (arith, d)) (λ c l q. absurd (omega arith))
           (λ b a l q. absurd (omega arith)) (λ c a l q. absurd (omega arith))
 
       pub summing-body : v ≢ unentered → BodyState f (set ws (bodiesAt n + e) v) n e → Summing f (set ws (bodiesAt n + e) v) n
       summing-body h new = record {
         bodies = λ b l. bodies b l (ℕ-discrete b e);
-        free = λ r l h i m. rows-set ws (bodiesAt n + e) v (omega arith) (omega arith) r i ∙ s .free r l h i m;
         touched = λ b l. rw (body-other (touchedAt n + b) (λ q. omega arith)) (s .touched b l);
         calls = λ c l. set-call (bodiesAt n + e) v (omega arith) (omega arith) l (λ q. omega arith) (λ q. omega arith) (λ b m z. entered b m z (ℕ-discrete b e));
         callTouched = λ c l. rw (body-other (callTouchedAt n + c) (λ q. omega arith)) (s .callTouched c l);
@@ -352,10 +348,9 @@ module _ {f : Flow} {n : ℕ} (w : WellFormed f) (sz : size f ≡ n) where
               let more : e < b = omega (arith, h, d) in
               m .only .between _ (omega (arith, rows-apart n more)) (omega (arith, row-fits n l, member-word k))
 
-      pub summing-open : isReturn (kind f e) ≡ false → Summing f vs n
-      summing-open not = record {
+      pub summing-open : Summing f vs n
+      summing-open = record {
         bodies = λ b l. bodies b l (ℕ-discrete b e);
-        free = λ r l h. free r l h (ℕ-discrete r e);
         touched = λ b l. rw (outer (touchedAt n + b) (omega arith) (λ q. omega arith)) (s .touched b l);
         calls = λ c l.
             call-kept
@@ -378,10 +373,6 @@ module _ {f : Flow} {n : ℕ} (w : WellFormed f) (sz : size f ≡ n) where
                 row = other-row b l d;
               })
               (s .bodies b l)
-
-          free : (r : ℕ) → r < n → isReturn (kind f r) ≡ true → Dec (r ≡ e) → EmptyRow vs n r
-          free r l h (yes q) = clash (isReturn (kind f e)) (subst (λ y. isReturn (kind f y) ≡ true) q h) not
-          free r l h (no d) = λ i k. other-row r l d i k ∙ s .free r l h i k
 
           entered : (b : ℕ) → b < n → body vs n b ≡ unentered → Dec (b ≡ e) → body ws n b ≡ unentered
           entered b l h (yes q) = absurd (let z : body vs n e ≡ unentered = subst (λ y. body vs n y ≡ unentered) q h in omega (arith, z, body-open))

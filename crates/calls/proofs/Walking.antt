@@ -3,7 +3,7 @@
 use Prim.Native.Nat.{ℕ, suc, _+_, _*_, _-_, _/_, _<_, _≤_}
 use mathlib.Core.Bool.{Bool, true, false, cond}
 use mathlib.Core.List.{List, [], _∷_, _++_, List·Memᴰ·head, List·Memᴰ·not-nil, List·Memᴰ·append-cases, List·Memᴰ·eq-of-singleton, Memᴰ·append-left, Memᴰ·append-right}
-use mathlib.Core.Logic.{_≢_, _⊎_, inl, inr, ⊎-elim}
+use mathlib.Core.Logic.{_⊎_, inl, inr, ⊎-elim}
 use mathlib.Core.Option.{Option}
 use mathlib.Core.Path.{_≡_, refl, sym, ap, _∙_, subst, subst₂}
 use native.Mathlib.Decide.{decLt, ℕ-discrete}
@@ -24,9 +24,8 @@ use Rattle.theory.specs.Lists.{In}
 use Rattle.theory.specs.Reach.{Reach}
 use Rattle.theory.specs.Body.{kind, successors, continuationOf, isReturn, orElse, walkNext, Walks}
 use Rattle.theory.proofs.Reach.{reach-below}
-use Rattle.statements.specs.contracts.Layout.{rowAt, matrixAt, queueAt, enteredRowAt}
-use Rattle.statements.specs.contracts.Ready.{Ready, Keeps}
-use Rattle.statements.proofs.Keeps.{ready-keeps}
+use Rattle.statements.specs.contracts.Layout.{rowAt, rowWords, matrixAt, queueAt, enteredRowAt}
+use Rattle.statements.specs.contracts.Ready.{Keeps}
 use Rattle.statements.proofs.WorkArea.{member-word, row-from, row-fits, row-below, area-fits}
 use Rattle.calls.specs.contracts.Held.{EmptyRow, OnlyRow, Walked}
 use Rattle.calls.specs.contracts.Walking.{met, Stack, Stacked, Entry, Met}
@@ -46,6 +45,13 @@ only-trans a b = record {
 
 pub only-keeps : {ws vs : List ℕ} {n e : ℕ} → OnlyRow ws vs n e → Keeps (matrixAt n) (enteredRowAt n) ws vs
 only-keeps {n = n} {e} o = record { size = o .size; below = λ x l. o .below x (omega (arith, row-from n e)); above = o .above }
+
+-- what was written to the row before its walk does not count
+pub walked-after : {f : Flow} {ws zs vs : List ℕ} {n e : ℕ} → e < n → Keeps (rowAt n e) (rowAt n e + rowWords n) ws zs → Walked f zs vs n e → Walked f ws vs n e
+walked-after {n = n} l k w = record {
+  row = w .row;
+  only = only-trans (record { size = k .size; below = k .below; between = λ x a b. k .above x a; above = λ x a. k .above x (omega (arith, row-fits n l)) }) (w .only);
+}
 
 -- Nothing more, and more after more
 
@@ -95,9 +101,6 @@ met-stack s m = record {
   high = let h = s .high in let q = m .count in omega arith;
 }
 
-pub met-ready : {s ws vs : List ℕ} {n e top height : ℕ} {l : List ℕ} → Ready s ws n → Met ws vs n e top height l → Ready s vs n
-met-ready r m = ready-keeps r (only-keeps (m .only)) (omega arith)
-
 -- the elements of a list, one after the other
 pub met-more : {ws vs us : List ℕ} {n e top mid height k : ℕ} (l : List ℕ) {x : ℕ} → Met ws vs n e top mid (take k l) → Met vs us n e mid height (x ∷ [])
     → k < length l → x ≡ getD l k 0 → Met ws us n e top height (take (k + 1) l)
@@ -125,26 +128,18 @@ module _ {ws : List ℕ} {n e top i : ℕ} (s : Stack ws n e top) (le : e < n) (
       go (yes q) = rw q (insert-same ws (rowAt n e) i in-row)
       go (no d) = insert-other ws (rowAt n e) i j in-row d ∙ h
 
-  pub met-old : has ws (rowAt n e) i ≢ 0 → Met ws (inserted ws (rowAt n e) i) n e top top (i ∷ [])
-  unfolding met
+  pub met-old : has ws (rowAt n e) i ≡ 1 → Met ws ws n e top top (i ∷ [])
   met-old h = record {
-    only = only-inserted;
+    only = only-refl ws n e;
     higher = le-refl top;
-    under = λ k l. inserted-other ws (rowAt n e) i (queueAt n + k) (λ q. omega (arith, member-word li, row-fits n le));
+    under = λ k l. refl;
     pushed = λ k l g. absurd (omega arith);
-    still = λ j l g. row-still j g;
-    new = λ j l g. inl (sym (same j) ∙ g);
+    still = λ j l g. g;
+    new = λ j l g. inl g;
     low = λ j m. rw (List·Memᴰ·eq-of-singleton m) li;
-    all = λ j m. rw (List·Memᴰ·eq-of-singleton m) (insert-same ws (rowAt n e) i in-row);
-    count = ap (λ (x : ℕ). x + top) (tally-cong (has (inserted ws (rowAt n e) i) (rowAt n e)) (has ws (rowAt n e)) n (λ j l. same j));
+    all = λ j m. rw (List·Memᴰ·eq-of-singleton m) h;
+    count = refl;
   }
-    where
-      same : (j : ℕ) → has (inserted ws (rowAt n e) i) (rowAt n e) j ≡ has ws (rowAt n e) j
-      same j = go (ℕ-discrete j i)
-        where
-          go : Dec (j ≡ i) → has (inserted ws (rowAt n e) i) (rowAt n e) j ≡ has ws (rowAt n e) j
-          go (yes q) = rw q (omega (arith, insert-same ws (rowAt n e) i in-row, has-lt ws (rowAt n e) i, h))
-          go (no d) = insert-other ws (rowAt n e) i j in-row d
 
   -- there is room for i on the stack
   pub not-full : has ws (rowAt n e) i ≡ 0 → top < n
@@ -214,23 +209,23 @@ module _ {ws : List ℕ} {n e top i : ℕ} (s : Stack ws n e top) (le : e < n) (
       go j l g (yes q) = inr (List·Memᴰ·head q, record { place = top; within = omega arith; is = top-is ∙ sym q })
       go j l g (no d) = inl (sym (row-same j l ∙ insert-other ws (rowAt n e) i j in-row d) ∙ g)
 
--- what the code finds when it puts i into the row that starts at base
-module _ {ws us : List ℕ} {n e top i base : ℕ} {r : Bool} (s : Stack ws n e top) (le : e < n) (li : i < n)
-    (q : base ≡ rowAt n e) (x : Inserted ws us base i r) where
-  slice : us ≡ inserted ws (rowAt n e) i
-  slice = x .slice ∙ ap (λ b. inserted ws b i) q
+-- what the code finds in the row, which starts at base, and makes of it
+module _ {ws : List ℕ} {n e top i base : ℕ} {r : Bool} (s : Stack ws n e top) (le : e < n) (li : i < n)
+    (q : base ≡ rowAt n e) (x : r ≡ eqb (has ws base i) 1) where
+  found : r ≡ eqb (has ws (rowAt n e) i) 1
+  found = x ∙ ap (λ b. eqb (has ws b i) 1) q
 
-  fresh : r ≡ eqb (has ws (rowAt n e) i) 0
-  fresh = x .fresh ∙ ap (λ b. eqb (has ws b i) 0) q
+  pub meet-old : r ≡ true → Met ws ws n e top top (i ∷ [])
+  meet-old h = met-old s le li (eqb-true _ 1 (sym found ∙ h))
 
-  pub insert-room : r ≡ true → top < n
-  insert-room h = not-full s le li (eqb-true _ 0 (sym fresh ∙ h))
+  is-new : r ≡ false → has ws (rowAt n e) i ≡ 0
+  is-new h = omega (arith, has-lt ws (rowAt n e) i, eqb-false (has ws (rowAt n e) i) 1 (sym found ∙ h))
 
-  pub insert-new : {queue : ℕ} → r ≡ true → queue ≡ queueAt n → Met ws (set us (queue + top) i) n e top (top + 1) (i ∷ [])
-  insert-new h p = rw (slice, p) (met-new s le li (eqb-true _ 0 (sym fresh ∙ h)))
+  pub meet-room : r ≡ false → top < n
+  meet-room h = not-full s le li (is-new h)
 
-  pub insert-old : r ≡ false → Met ws us n e top top (i ∷ [])
-  insert-old h = rw slice (met-old s le li (eqb-false _ 0 (sym fresh ∙ h)))
+  pub meet-new : {us : List ℕ} {queue : ℕ} {b : Bool} → r ≡ false → Inserted ws us base i b → queue ≡ queueAt n → Met ws (set us (queue + top) i) n e top (top + 1) (i ∷ [])
+  meet-new h m p = rw (m .slice ∙ ap (λ b. inserted ws b i) q, p) (met-new s le li (is-new h))
 
 -- The walk
 
@@ -262,7 +257,7 @@ walking-first {f} {ws} {vs} {n} {e} {height} s l empty m = record {
 }
 
 -- the stack stands within the area
-pub stack-fits : {ws : List ℕ} {n e top : ℕ} → Stack ws n e top → queueAt n + top ≤ 38 * n
+pub stack-fits : {ws : List ℕ} {n e top : ℕ} → Stack ws n e top → queueAt n + top ≤ 39 * n
 stack-fits {ws} {n} {e} s = omega (arith, s .high, met-le ws n e, row-below (s .area .few) (le-refl n))
 
 pub stack-less : {ws : List ℕ} {n e top up : ℕ} → up ≡ suc top → Stack ws n e up → Stack ws n e top

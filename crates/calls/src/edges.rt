@@ -76,7 +76,7 @@ pub fn line_entered(
     call: Call,
     l: usize,
 ) -> LineEntry
-    requires { ⌜ Indexed (now file) h (now work) × RecordOf (now file) (i .0) place × CallOf (flowOf (now file)) (now work) (i .0) call × (l < call .lines) ⌝ }
+    requires { ⌜ Indexed (now file) h (now work) × RecordOf (now file) (i .0) place × (i .0 < h .statements) × CallOf (flowOf (now file)) (now work) (i .0) call × (l < call .lines) ⌝ }
     ensures { λ r. ⌜ r ≡ lineEntryOf (enters (flowOf (now (file .entry))) (getD (callLines (kind (flowOf (now (file .entry))) (i .0))) l 0)) ⌝ }
 {
     let n = h.statements;
@@ -88,8 +88,8 @@ pub fn line_entered(
         return LineEntry::Nothing;
     }
     let lines_at = h.lines_at;
-    let lines = h.lines;
-    records::lines::line_entry(file, lines_at, lines, records::call_line(file, place, l))
+    let line = records::call_line(file, place, l);
+    records::lines::line_entry(file, lines_at, work, layout::lines(n), n, line)
 }
 
 // Whether the successor s of a call is left out: it is the continuation, or entered.

@@ -1,7 +1,7 @@
 // The edges of each RETURN in base 0: its row of the matrix holds the continuations of opaque calls that enter a body whose
-// walk meets it. A RETURN's own body walk is just itself, so its row is free for this. The walks of the bodies that a call enters
-// are first joined in the row of entered statements, so that a call goes through its RETURNs once, however many lines it names; and
-// the RETURNs are noted as a row of their own, to which that row is cut, so that no other statement of a walk is looked at.
+// walk meets it. A RETURN's own body walk is just itself, so its row is free for this. The walks of the bodies that a call of many
+// lines enters are first joined in the row of entered statements, so that a call goes through its RETURNs once; and the RETURNs are
+// noted as a row of their own, whose words are gone through together with those of the walk, so that no other statement of a walk is looked at.
 ghost use Prim.Native.Nat.{_+_, _<_};
 ghost use Rattle.flow.specs.Format.{flowOf};
 ghost use Rattle.theory.specs.Body.{entered};
@@ -9,7 +9,7 @@ ghost use Rattle.theory.specs.Doubled.{returnsTo};
 ghost use Rattle.statements.specs.contracts.Layout.{rowWords, bodiesAt, queueAt, solverAt, returnsRowAt};
 ghost use Rattle.statements.specs.contracts.Ready.{Ready, Indexed, Keeps};
 ghost use Rattle.calls.specs.contracts.Held.{Area, Summarized, Linked};
-ghost use Rattle.calls.specs.contracts.Joins.{Joins, Gains, Gathers, Adds, Summary, BodyRows, ReturnSet, ifReturn, isEntered, fromBodies};
+ghost use Rattle.calls.specs.contracts.Joins.{Joins, Gains, Apart, Gathers, Adds, Summary, BodyRows, ReturnSet, ifReturn, inWord, isShared, fromBodies};
 use crate::OPAQUE;
 use crate::leaders;
 use crate::rows;
@@ -40,53 +40,65 @@ fn note_returns(file: &[u8], work: &mut [u64], n: usize)
     }
 }
 
-// The RETURNs on the walks of the bodies that the call c enters, joined in the row of entered statements line by line.
-fn gather_lines(file: &[u8], h: flow::Header, work: &mut [u64], c: StmtId)
-    requires { ⌜ Indexed (now file) h (now work) × (c .0 < h .statements) × BodyRows (flowOf (now file)) (now work) (h .statements) (c .0) × ReturnSet (flowOf (now file)) (now work) (h .statements) ⌝ }
-    ensures { λ _. ⌜ Gathers (flowOf (now (file .entry))) (now (work .entry)) (now (work .exit)) (h .statements) (entered (flowOf (now (file .entry))) (c .0)) ⌝ }
+// The statements that are bits of the word, which is word j of a row, go to k.
+fn note_word(work: &mut [u64], n: usize, word: u64, j: usize, k: StmtId)
+    requires { ⌜ Area (now work) n × (j < rowWords n) × (k .0 < n) ⌝ }
+    ensures { λ _. ⌜ Gains (now (work .entry)) (now (work .exit)) n (queueAt n) (inWord word j) (k .0) ⌝ }
+{
+    let mut rest = word;
+    while rest != 0 {
+        let lowest = u64::trailing_zeros(rest) as usize;
+        let r = 64 * j + lowest;
+        // What the last word of a row has from n on is no statement.
+        if n <= r {
+            return;
+        }
+        words::insert(work, layout::row(n, StmtId(r)), k.0);
+        rest = words::difference(rest, 1u64 << lowest);
+    }
+}
+
+// The RETURNs in the row at `row` go to k. The row is not the one of a RETURN, so that it stays while they are noted.
+fn note_shared(work: &mut [u64], n: usize, row: usize, k: StmtId)
+    requires { ⌜ Area (now work) n × Apart (now work) n row × (k .0 < n) ⌝ }
+    ensures { λ _. ⌜ Gains (now (work .entry)) (now (work .exit)) n (queueAt n) (isShared (now (work .entry)) n row) (k .0) ⌝ }
+{
+    let returns = layout::returns_row(n);
+    let width = layout::row_words(n);
+    let mut j = 0;
+    while j < width {
+        let word = work[row + j] & work[returns + j];
+        note_word(work, n, word, j, k);
+        j += 1;
+    }
+}
+
+// The walks of the bodies that the call c enters, joined line by line in the row of entered statements, which comes back.
+fn gather_lines(file: &[u8], h: flow::Header, work: &mut [u64], c: StmtId) -> usize
+    requires { ⌜ Indexed (now file) h (now work) × (c .0 < h .statements) × BodyRows (flowOf (now file)) (now work) (h .statements) (c .0) ⌝ }
+    ensures { λ r. ⌜ Gathers (flowOf (now (file .entry))) (now (work .entry)) (now (work .exit)) (h .statements) (entered (flowOf (now (file .entry))) (c .0)) r ⌝ }
 {
     let n = h.statements;
     let row = layout::entered_row(n);
     rows::zero_row(work, n, row);
     rows::add_lines(file, h, work, row, c, true);
-    words::intersect(work, row, row, layout::returns_row(n), layout::row_words(n));
+    row
 }
 
 // The same. A call of one line mostly enters a body whose walk stands in a row already: nothing is joined.
-fn gather(file: &[u8], h: flow::Header, work: &mut [u64], c: StmtId)
+fn gather(file: &[u8], h: flow::Header, work: &mut [u64], c: StmtId) -> usize
     requires { ⌜ Indexed (now file) h (now work) × (c .0 < h .statements) × BodyRows (flowOf (now file)) (now work) (h .statements) (c .0) × ReturnSet (flowOf (now file)) (now work) (h .statements) ⌝ }
-    ensures { λ _. ⌜ Gathers (flowOf (now (file .entry))) (now (work .entry)) (now (work .exit)) (h .statements) (entered (flowOf (now (file .entry))) (c .0)) ⌝ }
+    ensures { λ r. ⌜ Gathers (flowOf (now (file .entry))) (now (work .entry)) (now (work .exit)) (h .statements) (entered (flowOf (now (file .entry))) (c .0)) r ⌝ }
 {
     let n = h.statements;
     if fields::line_count(file, work, n, c) == 1 {
         if let flow::LineEntry::At(b) = fields::entered(file, h, work, c, 0) {
             if !fields::is_return(file, work, n, b) {
-                let row = layout::entered_row(n);
-                words::intersect(
-                    work,
-                    row,
-                    layout::row(n, b),
-                    layout::returns_row(n),
-                    layout::row_words(n),
-                );
-                return;
+                return layout::row(n, b);
             }
         }
     }
-    gather_lines(file, h, work, c);
-}
-
-// The statements in the row of entered statements go to k.
-fn note_members(work: &mut [u64], n: usize, k: StmtId)
-    requires { ⌜ Area (now work) n × (k .0 < n) ⌝ }
-    ensures { λ _. ⌜ Gains (now (work .entry)) (now (work .exit)) n (queueAt n) (isEntered (now (work .entry)) n) (k .0) ⌝ }
-{
-    let row = layout::entered_row(n);
-    let mut r = words::next(work, row, 0, n);
-    while r < n {
-        words::insert(work, layout::row(n, StmtId(r)), k.0);
-        r = words::next(work, row, r + 1, n);
-    }
+    gather_lines(file, h, work, c)
 }
 
 // The RETURNs on the walks of the bodies that the call c enters go to k.
@@ -95,8 +107,8 @@ fn note_bodies(file: &[u8], h: flow::Header, work: &mut [u64], c: StmtId, k: Stm
     ensures { λ _. ⌜ Joins (flowOf (now (file .entry))) (now (work .entry)) (now (work .exit)) (h .statements) (solverAt (h .statements)) (fromBodies (flowOf (now (file .entry))) (entered (flowOf (now (file .entry))) (c .0)) (k .0)) ⌝ }
 {
     let n = h.statements;
-    gather(file, h, work, c);
-    note_members(work, n, k);
+    let row = gather(file, h, work, c);
+    note_shared(work, n, row, k);
 }
 
 // Statement c, if it is an opaque call with a continuation.
@@ -123,6 +135,7 @@ pub fn note_edges(file: &[u8], h: flow::Header, work: &mut [u64])
 {
     let n = h.statements;
     note_returns(file, work, n);
+    rows::clear_rows(file, work, n);
     let mut c = 0;
     while c < n {
         note_call(file, h, work, StmtId(c));

@@ -1,5 +1,5 @@
 // Rows of statements that calls enter: the bodies that the lines of a call name are joined to a row, and each call that is not opaque has
-// them in its own row of the matrix.
+// them in its own row of the matrix. And the rows of RETURNs, emptied before anything is noted there.
 ghost use Prim.Native.Nat.{_+_, _≤_, _<_};
 ghost use mathlib.Core.Bool.{true};
 ghost use mathlib.Core.Path.{_≡_};
@@ -12,7 +12,7 @@ ghost use Rattle.theory.specs.Body.{kind, callLines, entered};
 ghost use Rattle.statements.specs.contracts.Layout.{rowWords};
 ghost use Rattle.statements.specs.contracts.Ready.{Ready, Indexed, Keeps};
 ghost use Rattle.calls.specs.contracts.Held.{Empty};
-ghost use Rattle.calls.specs.contracts.Joins.{Adds, Target, BodyRow, BodyRows, Notes, bodyOf, bodiesOf};
+ghost use Rattle.calls.specs.contracts.Joins.{Adds, Target, BodyRow, BodyRows, NotesCalls, ClearsReturns, bodyOf, bodiesOf};
 use crate::TRANSPARENT;
 use flow::LineEntry;
 use flow::StmtId;
@@ -70,10 +70,32 @@ pub fn zero_row(work: &mut [u64], n: usize, to: usize)
     words::zero_row(work, to, layout::row_words(n));
 }
 
+// The row of statement r, if it is a RETURN, is emptied for its continuations.
+fn clear_row(file: &[u8], work: &mut [u64], n: usize, r: StmtId)
+    requires { ⌜ Ready (now file) (now work) n × (r .0 < n) ⌝ }
+    ensures { λ _. ⌜ ClearsReturns (flowOf (now (file .entry))) (now (work .entry)) (now (work .exit)) n (r .0) (r .0 + 1) ⌝ }
+{
+    if fields::is_return(file, work, n, r) {
+        zero_row(work, n, layout::row(n, r));
+    }
+}
+
+// The rows of all RETURNs.
+pub fn clear_rows(file: &[u8], work: &mut [u64], n: usize)
+    requires { ⌜ Ready (now file) (now work) n ⌝ }
+    ensures { λ _. ⌜ ClearsReturns (flowOf (now (file .entry))) (now (work .entry)) (now (work .exit)) n 0 n ⌝ }
+{
+    let mut r = 0;
+    while r < n {
+        clear_row(file, work, n, StmtId(r));
+        r += 1;
+    }
+}
+
 // Statement i, if it is a call that is not opaque.
 fn note_row(file: &[u8], h: flow::Header, work: &mut [u64], i: StmtId)
     requires { ⌜ Indexed (now file) h (now work) × (i .0 < h .statements) ⌝ }
-    ensures { λ _. ⌜ Notes (flowOf (now (file .entry))) (now (work .entry)) (now (work .exit)) (h .statements) (i .0) (i .0 + 1) ⌝ }
+    ensures { λ _. ⌜ NotesCalls (flowOf (now (file .entry))) (now (work .entry)) (now (work .exit)) (h .statements) (i .0) (i .0 + 1) ⌝ }
 {
     let n = h.statements;
     if work[layout::calls(n) + i.0] != TRANSPARENT {
@@ -87,7 +109,7 @@ fn note_row(file: &[u8], h: flow::Header, work: &mut [u64], i: StmtId)
 // The statements that each call that is not opaque enters, in its row of the matrix: a visit then need not look up its lines.
 pub fn note_rows(file: &[u8], h: flow::Header, work: &mut [u64])
     requires { ⌜ Indexed (now file) h (now work) ⌝ }
-    ensures { λ _. ⌜ Notes (flowOf (now (file .entry))) (now (work .entry)) (now (work .exit)) (h .statements) 0 (h .statements) ⌝ }
+    ensures { λ _. ⌜ NotesCalls (flowOf (now (file .entry))) (now (work .entry)) (now (work .exit)) (h .statements) 0 (h .statements) ⌝ }
 {
     let n = h.statements;
     let mut i = 0;

@@ -22,6 +22,7 @@ use crate::OPAQUE;
 use crate::OPEN;
 use crate::TRANSPARENT;
 use crate::UNENTERED;
+use crate::rows;
 use crate::walk::walk;
 use flow::Continuation;
 use flow::LineEntry;
@@ -75,6 +76,8 @@ fn enter(file: &[u8], work: &mut [u64], e: StmtId) -> bool
         return false;
     }
     work[at] = OPEN;
+    // The matrix is not zeroed before: each row is when it is first needed.
+    rows::zero_row(work, n, layout::row(n, e));
     walk(file, work, n, e);
     true
 }
@@ -88,9 +91,9 @@ fn next_walked(file: &[u8], work: &[u64], e: StmtId, from: usize) -> usize
     words::next(work, layout::row(n, e), from, n)
 }
 
-// The body that starts at e gets its summary, once. The file's lines stand at `lines_at`, and there are `lines` of them.
-fn sub_effect(file: &[u8], work: &mut [u64], lines_at: usize, lines: usize, e: StmtId)
-    requires { ⌜ Located (now file) (now work) «lines_at» lines × (e .0 < statementsOf (now file)) × Summing (flowOf (now file)) (now work) (statementsOf (now file)) × Leads (flowOf (now file)) (now work) (statementsOf (now file)) (e .0) ⌝ }
+// The body that starts at e gets its summary, once. The file's lines stand at `lines_at`.
+fn sub_effect(file: &[u8], work: &mut [u64], lines_at: usize, e: StmtId)
+    requires { ⌜ Located (now file) (now work) «lines_at» × (e .0 < statementsOf (now file)) × Summing (flowOf (now file)) (now work) (statementsOf (now file)) × Leads (flowOf (now file)) (now work) (statementsOf (now file)) (e .0) ⌝ }
     ensures { λ _. ⌜ BodySummed (flowOf (now (file .entry))) (now (work .entry)) (now (work .exit)) (statementsOf (now (file .entry))) (e .0) ⌝ }
 {
     if !enter(file, work, e) {
@@ -99,7 +102,7 @@ fn sub_effect(file: &[u8], work: &mut [u64], lines_at: usize, lines: usize, e: S
     let mut opaque = false;
     let mut i = next_walked(file, work, e, 0);
     while i < statement_count(file) {
-        call_summary(file, work, lines_at, lines, StmtId(i));
+        call_summary(file, work, lines_at, StmtId(i));
         let hides = pass_by(file, work, e, StmtId(i));
         opaque = opaque | hides;
         i = next_walked(file, work, e, i + 1);
@@ -123,19 +126,14 @@ fn awaits(file: &[u8], work: &[u64], c: StmtId) -> bool
 }
 
 // The statement that line k of the call c enters, if any.
-fn entered(
-    file: &[u8],
-    work: &[u64],
-    lines_at: usize,
-    lines: usize,
-    c: StmtId,
-    k: usize,
-) -> LineEntry
-    requires { ⌜ Located (now file) (now work) «lines_at» lines × (c .0 < statementsOf (now file)) × (k < length (callLines (kind (flowOf (now file)) (c .0)))) ⌝ }
+fn entered(file: &[u8], work: &[u64], lines_at: usize, c: StmtId, k: usize) -> LineEntry
+    requires { ⌜ Located (now file) (now work) «lines_at» × (c .0 < statementsOf (now file)) × (k < length (callLines (kind (flowOf (now file)) (c .0)))) ⌝ }
     ensures { λ r. ⌜ r ≡ lineEntryOf (enters (flowOf (now (file .entry))) (getD (callLines (kind (flowOf (now (file .entry))) (c .0))) k 0)) ⌝ }
 {
-    let place = fields::offset(file, work, statement_count(file), c);
-    records::lines::line_entry(file, lines_at, lines, records::call_line(file, place, k))
+    let n = statement_count(file);
+    let place = fields::offset(file, work, n, c);
+    let line = records::call_line(file, place, k);
+    records::lines::line_entry(file, lines_at, work, layout::lines(n), n, line)
 }
 
 // Joins what body b touches to what the call c touches, and says whether the body is not transparent: an open one is opaque, since it
@@ -153,8 +151,8 @@ fn join_body(file: &[u8], work: &mut [u64], c: StmtId, b: StmtId) -> bool
 
 // Statement c, if it is a call with a continuation, gets its summary, once: whether a body that it enters is opaque, and the
 // arrays that they touch.
-fn call_summary(file: &[u8], work: &mut [u64], lines_at: usize, lines: usize, c: StmtId)
-    requires { ⌜ Located (now file) (now work) «lines_at» lines × (c .0 < statementsOf (now file)) × Summing (flowOf (now file)) (now work) (statementsOf (now file)) × ((b : ℕ) → In b (callees (flowOf (now file)) (c .0)) → Leads (flowOf (now file)) (now work) (statementsOf (now file)) b) ⌝ }
+fn call_summary(file: &[u8], work: &mut [u64], lines_at: usize, c: StmtId)
+    requires { ⌜ Located (now file) (now work) «lines_at» × (c .0 < statementsOf (now file)) × Summing (flowOf (now file)) (now work) (statementsOf (now file)) × ((b : ℕ) → In b (callees (flowOf (now file)) (c .0)) → Leads (flowOf (now file)) (now work) (statementsOf (now file)) b) ⌝ }
     ensures { λ _. ⌜ CallSummed (flowOf (now (file .entry))) (now (work .entry)) (now (work .exit)) (statementsOf (now (file .entry))) (c .0) ⌝ }
 {
     if !awaits(file, work, c) {
@@ -164,8 +162,8 @@ fn call_summary(file: &[u8], work: &mut [u64], lines_at: usize, lines: usize, c:
     let mut opaque = false;
     let mut k = 0;
     while k < count {
-        if let LineEntry::At(b) = entered(file, work, lines_at, lines, c, k) {
-            sub_effect(file, work, lines_at, lines, b);
+        if let LineEntry::At(b) = entered(file, work, lines_at, c, k) {
+            sub_effect(file, work, lines_at, b);
             let opaque_body = join_body(file, work, c, b);
             opaque = opaque | opaque_body;
         }
@@ -183,7 +181,7 @@ pub fn summarize_calls(file: &[u8], h: flow::Header, work: &mut [u64])
     let n = h.statements;
     let mut c = 0;
     while c < n {
-        call_summary(file, work, h.lines_at, h.lines, StmtId(c));
+        call_summary(file, work, h.lines_at, StmtId(c));
         c += 1;
     }
 }

@@ -15,11 +15,13 @@ fn meet(work: &mut [u64], n: usize, e: StmtId, top: usize, i: StmtId) -> usize
     requires { ⌜ Stack (now work) n (e .0) top × (e .0 < n) × (i .0 < n) ⌝ }
     ensures { λ r. ⌜ Met (now (work .entry)) (now (work .exit)) n (e .0) top r (i .0 ∷ []) ⌝ }
 {
-    if words::insert(work, layout::row(n, e), i.0) {
-        work[layout::queue(n) + top] = i.0 as u64;
-        return top + 1;
+    let row = layout::row(n, e);
+    if words::contains(work, row, i.0) {
+        return top;
     }
-    top
+    words::insert(work, row, i.0);
+    work[layout::queue(n) + top] = i.0 as u64;
+    top + 1
 }
 
 fn meet_successors(
@@ -33,11 +35,12 @@ fn meet_successors(
     requires { ⌜ Ready (now file) (now work) n × Stack (now work) n (e .0) top × (e .0 < n) × (i .0 < n) ⌝ }
     ensures { λ r. ⌜ Met (now (work .entry)) (now (work .exit)) n (e .0) top r (successors (flowOf (now (file .entry))) (i .0)) ⌝ }
 {
-    let count = fields::successor_count(file, work, n, i);
+    let place = fields::offset(file, work, n, i);
+    let count = records::successor_count(file, place);
     let mut height = top;
     let mut k = 0;
     while k < count {
-        let j = fields::successor(file, work, n, i, k);
+        let j = fields::successor_at(file, i, place, k);
         height = meet(work, n, e, height, j);
         k += 1;
     }

@@ -18,8 +18,8 @@ use Rattle.theory.specs.Body.{kind, references}
 use Rattle.theory.specs.Doubled.{dims, resets, kindEffects, statementEffects}
 use Rattle.theory.specs.Queue.{stepAll}
 use Rattle.theory.specs.contracts.WellFormed.{WellFormed}
-use Rattle.theory.proofs.Lists.{clash, not-so, elem-In, any-find, and-both}
-use Rattle.statements.specs.contracts.Ready.{Keeps}
+use Rattle.theory.proofs.Lists.{clash, not-so, or-first, or-second, elem-In, any-find, and-both}
+use Rattle.statements.specs.contracts.Ready.{Keeps, actsIn}
 use Rattle.statements.proofs.Keeps.{keeps-refl}
 use Rattle.solve.specs.contracts.Layout.{setRow, outRow, backRow, maskRowAt}
 use Rattle.solve.specs.contracts.Rows.{stepWhere}
@@ -159,12 +159,20 @@ module _ {f : Flow} (wf : WellFormed f) (n w d i : ℕ) (below : d < 2 * n) {ws 
             ∙ acted-stays wf i (masksAt ws n w d) a e;
       }
 
+no-elements : {A : Type 0} (l : List A) → ltb 0 (length l) ≡ false → l ≡ []
+no-elements [] e = refl
+no-elements (x ∷ l) e = clash (ltb 0 (length (x ∷ l))) (lt-ltb 0 (length (x ∷ l)) (omega arith)) e
+
 -- a statement that does nothing to masks: the number's own row serves
-pub acts-not : {f : Flow} → WellFormed f → (n w d i : ℕ) {ws : List ℕ} → resets (kind f i) ≡ false → items (kind f i) ≡ [] → references f i ≡ [] → Acted f ws ws n w d i (maskRowAt n w d)
-unfolding any elem stepWhere
-acts-not {f} wf n w d i {ws} e none refs = record {
-  keeps = keeps-refl;
-  masks = λ a l.
-      sym (ap₂ (λ (its : List Item) (rs : List ℕ). stepWhere (λ b. any (dims b) its) Dim (stepWhere (λ b. elem b rs) Reference (masksAt ws n w d)) a) none refs)
-      ∙ acted-stays wf i (masksAt ws n w d) a e;
-}
+pub acts-not : {f : Flow} → WellFormed f → (n w d i : ℕ) {ws : List ℕ} → actsIn f i ≡ false → Acted f ws ws n w d i (maskRowAt n w d)
+unfolding any elem stepWhere actsIn
+acts-not {f} wf n w d i {ws} idle =
+    let counts = or-second (resets (kind f i)) _ idle in
+    let none = no-elements (items (kind f i)) (or-first _ _ counts) in
+    let refs = no-elements (references f i) (or-second (ltb 0 (length (items (kind f i)))) _ counts) in
+    record {
+      keeps = keeps-refl;
+      masks = λ a l.
+          sym (ap₂ (λ (its : List Item) (rs : List ℕ). stepWhere (λ b. any (dims b) its) Dim (stepWhere (λ b. elem b rs) Reference (masksAt ws n w d)) a) none refs)
+          ∙ acted-stays wf i (masksAt ws n w d) a (or-first _ _ idle);
+    }

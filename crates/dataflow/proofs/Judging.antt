@@ -1,7 +1,6 @@
 -- How the call answers: a file that is refused, areas that are too short, or an accepted flow, each gives the promise from what is known where the call returns.
 -- By the laws of verdicts: the areas' checks come after the file's.
 use Prim.Native.Nat.{ℕ, _+_, _*_, _≤_, _<_}
-use native.Mathlib.Nat.{zero-add}
 use native.Mathlib.Omega.{arith}
 use mathlib.Core.Bool.{Bool, true, false, cond, _&&_}
 use mathlib.Core.List.{List}
@@ -10,7 +9,7 @@ use lib.Dec.{leb}
 use lib.ListN.{length, getD, replicate}
 use borrow.Author.Tests.{leb-true}
 use Rattle.words.specs.contracts.Change.{zeroed}
-use Rattle.words.proofs.Zeroed.{zeroed-all, zeroed-word}
+use Rattle.words.proofs.Zeroed.{zeroed-all}
 use Rattle.flow.specs.declared.Refusal.{Refusal}
 use Rattle.flow.specs.declared.Refusal.the-variants.{Areas}
 use Rattle.flow.specs.declared.Header.{Header}
@@ -152,12 +151,3 @@ module _ (s : List ℕ) {c : Checked} (h : Header) (e : c ≡ checkedOf (verdict
 -- a list that was zeroed whole, by its length before
 pub zeroed-whole : (ws : List ℕ) (n : ℕ) → length ws ≡ n → zeroed ws 0 n ≡ replicate n 0
 zeroed-whole ws n e = subst (λ k. zeroed ws 0 k ≡ replicate k 0) e (zeroed-all ws)
-
--- the work area where it is zeroed only if b
-
-pub unfit-kept : (ws : List ℕ) (size : ℕ) (b : Bool) → b ≡ false → cond b (zeroed ws 0 size) ws ≡ ws
-unfit-kept ws size b e = ap (λ (b : Bool). cond b (zeroed ws 0 size) ws) e
-
-pub fit-zero : (ws : List ℕ) (size : ℕ) (b : Bool) → b ≡ true → size ≤ length ws → (x : ℕ) → x < size → getD (cond b (zeroed ws 0 size) ws) x 0 ≡ 0
-fit-zero ws size b e fits x l =
-    ap (λ (b : Bool). getD (cond b (zeroed ws 0 size) ws) x 0) e ∙ sym (ap (λ (y : ℕ). getD (zeroed ws 0 size) y 0) (zero-add x)) ∙ zeroed-word ws 0 size (omega arith) x l

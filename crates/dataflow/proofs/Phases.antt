@@ -9,71 +9,115 @@ use mathlib.Core.Path.{_≡_, ap, ap₂, sym, _∙_, subst}
 use lib.Bits.{bitOr}
 use lib.ListN.{length, getD}
 use Rattle.words.specs.contracts.Change.{zeroed}
-use Rattle.words.proofs.Zeroed.{zeroed-word, zeroed-other}
+use Rattle.words.proofs.Zeroed.{length-zeroed, zeroed-word, zeroed-other}
 use Rattle.flow.specs.declared.Header.{Header}
 use Rattle.flow.specs.Flow.{size}
-use Rattle.flow.specs.Format.{flowOf, recordPlace}
+use Rattle.flow.specs.Format.{flowOf, lineCount}
 use Rattle.words.specs.contracts.Change.{noted}
 use Rattle.flow.specs.contracts.Answers.{headerOf}
-use Rattle.records.proofs.Noting.{noted-other}
+use Rattle.records.specs.contracts.Fields.{notedWord, PartsNoted}
+use Rattle.flow.specs.Limits.{maxStatements}
+use Rattle.records.proofs.Files.{limited}
+use Rattle.records.proofs.Noting.{length-noted, noted-other}
 use Rattle.records.proofs.Statements.{size-is}
 use Rattle.theory.specs.Masks.{maskLeft}
 use Rattle.theory.specs.Live.{liveInWord, liveOutWord}
-use Rattle.statements.specs.contracts.Layout.{rowWords, callsAt, bodiesAt, matrixAt, queueAt, enteredRowAt, returnsRowAt, setWords}
+use Rattle.statements.specs.contracts.Layout.{rowWords, linesAt, callsAt, bodiesAt, matrixAt, queueAt, enteredRowAt, returnsRowAt, setWords}
 use Rattle.statements.specs.contracts.Ready.{Ready, Indexed, Keeps}
 use Rattle.statements.proofs.Noted.{ready-noted}
 use Rattle.statements.proofs.Keeps.{keeps-zeroed, ready-keeps, ready-room, indexed-keeps}
 use Rattle.statements.proofs.WorkArea as area
 use Rattle.solve.specs.contracts.Layout.{areaEnd}
-use Rattle.solve.proofs.Room.{row-from}
+use Rattle.solve.proofs.Room.{solver-fits}
 use Rattle.statements.proofs.WellFormed.{arrays-is}
 use Rattle.calls.specs.contracts.Held as held
 use Rattle.calls.specs.contracts.Held.{Summarized, Linked}
 use Rattle.dataflow.specs.Promise.{Written}
-use Rattle.dataflow.specs.contracts.Phases.{FitFlow, SummariesMade, SolverStart, Masked, Findings}
+use Rattle.dataflow.specs.contracts.Phases.{edgesEnd, cleared, FitFlow, SummariesMade, SolverStart, Masked, Findings}
 use Rattle.dataflow.specs.contracts.Solving as solver
 use Rattle.dataflow.specs.contracts.Bytes.{bothCopies, notedRows}
 use Rattle.dataflow.proofs.Kept.{indexed-stays, linked-stays}
 use Rattle.dataflow.proofs.NotedRows.{length-rows, rows-past, rows-at}
 
+-- what finding the edges uses ends before the solver's words do
+pub edges-within : (n w : ℕ) → edgesEnd n ≤ areaEnd n w
+edges-within n w = omega (arith, area.row-words-le n)
+
 module _ {s : List ℕ} {h : Header} where
-  module _ {ws : List ℕ} (flow-fit : FitFlow s h ws) where
-    -- what is noted stands below the calls
-    past : (x : ℕ) → h .statements ≤ x → x < areaEnd (h .statements) (setWords (h .arrays)) → getD (noted ws 0 (h .statements) (recordPlace s)) x 0 ≡ 0
-    past x l b = noted-other ws 0 (recordPlace s) (h .statements) x 0 (λ i m e. omega (arith, zero-add i)) ∙ flow-fit .zero x b
+  module _ {ws cs : List ℕ} (flow-fit : FitFlow s h ws) (c : cs ≡ cleared ws (h .statements) (setWords (h .arrays))) where
+    abbrev n : ℕ
+    n = h .statements
 
-    pub room-fits : 0 + h .statements ≤ length ws
-    room-fits = omega (arith, flow-fit .work-room)
+    abbrev w : ℕ
+    w = setWords (h .arrays)
 
-    noted-ready : {vs : List ℕ} → vs ≡ noted ws 0 (h .statements) (recordPlace s) → Ready s vs (h .statements)
-    noted-ready = ready-noted ws (flow-fit .fit) (ap (λ (x : Header). x .statements) (flow-fit .header)) (flow-fit .work-room)
+    most : n ≤ maxStatements
+    most = omega (arith, limited (flow-fit .fit) .statements, ap (λ (x : Header). x .statements) (flow-fit .header))
 
-    pub noted-indexed : {vs : List ℕ} → vs ≡ noted ws 0 (h .statements) (recordPlace s) → Indexed s h vs
-    noted-indexed e = record { ready = noted-ready e; header = flow-fit .header }
+    fits : areaEnd n w ≤ length ws
+    fits = omega (arith, flow-fit .work-room, solver-fits {w = w} (flow-fit .some) most (omega (arith, limited (flow-fit .fit) .arrays, ap (λ (x : Header). x .arrays) (flow-fit .header))))
 
-    pub no-summaries : {vs : List ℕ} → vs ≡ noted ws 0 (h .statements) (recordPlace s) → held.NoSummaries vs (h .statements)
-    no-summaries e = record { words = λ x l m. ap (λ v. getD v x 0) e ∙ past x l (let low = row-from (h .statements) (setWords (h .arrays)) (2 * h .statements) in omega arith) }
+    first : List ℕ
+    first = zeroed ws (linesAt n) (matrixAt n - linesAt n)
 
-    pub summed : {vs us : List ℕ} → vs ≡ noted ws 0 (h .statements) (recordPlace s) → Summarized (flowOf s) us (h .statements)
-        → Keeps (callsAt (h .statements)) (enteredRowAt (h .statements)) vs us → SummariesMade s h us
-    summed e m k = record {
-      indexed = indexed-keeps (noted-indexed e) k (omega arith);
-      summarized = m;
-      zero = λ x l b. k .above x l ∙ ap (λ v. getD v x 0) e ∙ past x (omega (arith, area.row-from (h .statements) (h .statements))) b;
-    }
+    same-size : length cs ≡ length ws
+    unfolding cleared first
+    same-size = ap length c ∙ length-zeroed first (edgesEnd n) (areaEnd n w - edgesEnd n) ∙ length-zeroed ws (linesAt n) (matrixAt n - linesAt n)
 
--- where the words end that finding the edges uses
+    -- the words that were zeroed: below the matrix, and behind those that the edges use
+    low : (x : ℕ) → linesAt n ≤ x → x < matrixAt n → getD cs x 0 ≡ 0
+    unfolding cleared first
+    low x l m =
+        ap (λ v. getD v x 0) c ∙ zeroed-other first (edgesEnd n) (areaEnd n w - edgesEnd n) x (λ k b e. omega (arith, area.row-from n n))
+        ∙ subst (λ (y : ℕ). getD first y 0 ≡ 0) (omega arith) (zeroed-word ws (linesAt n) (matrixAt n - linesAt n) (omega (arith, flow-fit .work-room)) (x - linesAt n) (omega arith))
 
-abbrev pub usedEnd : ℕ → ℕ
-usedEnd n = returnsRowAt n + rowWords n
+    high : (x : ℕ) → edgesEnd n ≤ x → x < areaEnd n w → getD cs x 0 ≡ 0
+    unfolding cleared first
+    high x l m =
+        ap (λ v. getD v x 0) c
+        ∙ subst (λ (y : ℕ). getD (zeroed first (edgesEnd n) (areaEnd n w - edgesEnd n)) y 0 ≡ 0) (omega arith)
+        (zeroed-word first (edgesEnd n) (areaEnd n w - edgesEnd n) (omega (arith, fits, edges-within n w, length-zeroed ws (linesAt n) (matrixAt n - linesAt n))) (x - edgesEnd n) (omega arith))
 
-pub used-room : {s ws : List ℕ} {n : ℕ} → Ready s ws n → 0 < n → usedEnd n ≤ length ws
+    pub room-fits : 0 + n ≤ length cs
+    room-fits = omega (arith, same-size, flow-fit .work-room)
+
+    -- the places noted stand below the parts of the lines
+    module _ {vs : List ℕ} (e : vs ≡ noted cs 0 n (notedWord s)) where
+      past : (x : ℕ) → n ≤ x → getD vs x 0 ≡ getD cs x 0
+      past x l = ap (λ v. getD v x 0) e ∙ noted-other cs 0 (notedWord s) n x 0 (λ i m q. omega (arith, zero-add i))
+
+      pub lines-unused : (k : ℕ) → k < n → getD vs (linesAt n + k) 0 ≡ 0
+      lines-unused k l = past _ (omega arith) ∙ low _ (omega arith) (omega arith)
+
+      pub lines-room : linesAt n + n ≤ length vs
+      lines-room = omega (arith, ap length e, length-noted cs 0 (notedWord s) n, same-size, flow-fit .work-room)
+
+      -- and the parts of the lines behind the places
+      module _ {us : List ℕ} (p : PartsNoted s vs us (linesAt n) n (lineCount s)) where
+        pub noted-indexed : Indexed s h us
+        noted-indexed = record {
+          ready = ready-keeps (ready-noted cs (flow-fit .fit) (ap (λ (x : Header). x .statements) (flow-fit .header)) (omega (arith, same-size, flow-fit .work-room)) e) (record { size = p .size; below = p .below; above = p .above }) (omega arith);
+          lines = p .parts;
+          header = flow-fit .header;
+        }
+
+        pub no-summaries : held.NoSummaries us n
+        no-summaries = record { words = λ x l m. p .above x (omega arith) ∙ past x (omega arith) ∙ low x (omega arith) m }
+
+        pub summed : {ts : List ℕ} → Summarized (flowOf s) ts n → Keeps (callsAt n) (enteredRowAt n) us ts → SummariesMade s h ts
+        summed m k = record {
+          indexed = indexed-keeps noted-indexed k (omega arith);
+          summarized = m;
+          zero = λ x l b. let from = area.row-from n n in k .above x (omega arith) ∙ p .above x (omega arith) ∙ past x (omega arith) ∙ high x l b;
+        }
+
+pub used-room : {s ws : List ℕ} {n : ℕ} → Ready s ws n → 0 < n → edgesEnd n ≤ length ws
 used-room {n = n} r p = omega (arith, ready-room r p, area.row-words-le n)
 
 -- with the words of the queue and of the rows of entered statements and of RETURNs zeroed, the forward solver can begin
 pub linked : {s : List ℕ} {h : Header} {ws vs us : List ℕ} → SummariesMade s h ws → 0 < h .statements
-    → Linked (flowOf s) vs (h .statements) → Keeps (bodiesAt (h .statements)) (usedEnd (h .statements)) ws vs
-    → us ≡ zeroed vs (queueAt (h .statements)) (usedEnd (h .statements) - queueAt (h .statements)) → SolverStart s h us
+    → Linked (flowOf s) vs (h .statements) → Keeps (bodiesAt (h .statements)) (edgesEnd (h .statements)) ws vs
+    → us ≡ zeroed vs (queueAt (h .statements)) (edgesEnd (h .statements) - queueAt (h .statements)) → SolverStart s h us
 linked {s} {h} {ws} {vs} {us} begun some l k c =
     subst (SolverStart s h) (sym c)
     (record {
@@ -87,7 +131,7 @@ linked {s} {h} {ws} {vs} {us} begun some l k c =
     queue = queueAt (h .statements)
 
     end : ℕ
-    end = usedEnd (h .statements)
+    end = edgesEnd (h .statements)
 
     indexed′ : Indexed s h vs
     indexed′ = indexed-keeps (begun .indexed) k (omega arith)

@@ -4,11 +4,11 @@ ghost use mathlib.Core.Bool.{true, false};
 ghost use mathlib.Core.List.{List};
 ghost use mathlib.Core.Path.{_≡_};
 ghost use Prim.Native.Nat.{ℕ, _*_, _<_, _≤_};
-ghost use lib.ListN.{length, getD};
+ghost use lib.ListN.{getD};
 ghost use Rattle.flow.specs.declared.Base.the-variants.{Zero};
 ghost use Rattle.flow.specs.Format.{flowOf};
 ghost use Rattle.theory.specs.Lists.{optionList};
-ghost use Rattle.theory.specs.Body.{kind, successors, callLines, isReturn};
+ghost use Rattle.theory.specs.Body.{kind, callLines, isReturn};
 ghost use Rattle.theory.specs.Doubled as theory;
 ghost use Rattle.statements.specs.contracts.Layout.{queueAt, setWords, maxWidth};
 ghost use Rattle.statements.specs.contracts.Ready.{Ready, Indexed, RecordOf, Keeps};
@@ -40,14 +40,6 @@ use statements::fields;
 use statements::layout::row;
 use statements::layout::set_words;
 
-// Successor k of statement i, whose record stands at `place`.
-fn successor(file: &[u8], i: StmtId, place: usize, k: usize) -> StmtId
-    requires { ⌜ RecordOf (now file) (i .0) place × (k < length (successors (flowOf (now file)) (i .0))) ⌝ }
-    ensures { λ r. ⌜ r .0 ≡ getD (successors (flowOf (now (file .entry))) (i .0)) k 0 ⌝ }
-{
-    records::successor(file, place, k)
-}
-
 // The row at `from` goes to the successors of statement i.
 fn push_listed(
     file: &[u8],
@@ -67,7 +59,7 @@ fn push_listed(
     let mut queue = first;
     let mut k = 0;
     while k < count {
-        let j = successor(file, i, place, k);
+        let j = fields::successor_at(file, i, place, k);
         queue = push::push(work, n, width, queue, from, node(n, base, j));
         k += 1;
     }
@@ -262,7 +254,7 @@ fn push_others(
     let mut queue = first;
     let mut k = 0;
     while k < count {
-        let j = successor(file, i, place, k);
+        let j = fields::successor_at(file, i, place, k);
         queue = push_other(file, work, n, width, queue, base, i, call, j);
         k += 1;
     }

@@ -1,29 +1,49 @@
 // The call that answers a flow file: the file is judged, then the areas; only then is anything written.
-ghost use Prim.Native.Nat.{_*_, _<_, _≤_, min};
-ghost use mathlib.Core.Bool.{cond};
+ghost use Prim.Native.Nat.{_*_, _<_, _≤_};
 ghost use mathlib.Core.Path.{_≡_};
 ghost use lib.ListN.{length};
-ghost use Rattle.words.specs.contracts.Change.{zeroed};
 ghost use Rattle.flow.specs.Format.{flowOf};
 ghost use Rattle.theory.specs.Live.{liveInWord, liveOutWord};
-ghost use Rattle.flow.specs.Limits.{maxStatements, maxArrays};
+ghost use Rattle.flow.specs.Limits.{maxStatements, maxArrays, workWords};
 ghost use Rattle.statements.specs.contracts.Layout.{setWords};
 ghost use Rattle.statements.specs.contracts.Ready.{Ready};
-ghost use Rattle.solve.specs.contracts.Layout.{areaEnd};
 ghost use Rattle.dataflow.specs.Promise.{Promise, Written};
-ghost use Rattle.dataflow.specs.contracts.Phases.{FitFlow, SummariesMade, SolverStart, Masked, FitAreas, Findings};
+ghost use Rattle.dataflow.specs.contracts.Phases.{edgesEnd, cleared, FitFlow, SummariesMade, SolverStart, Masked, FitAreas, Findings};
 use crate::Answer;
 use crate::arrays;
 use crate::write;
 use statements::layout;
 
-// The places of the records and the summaries of the calls. The work area is zero before.
+// Where the words end that finding the edges uses.
+fn edges_end(n: usize) -> usize
+    requires { ⌜ n ≤ maxStatements ⌝ }
+    ensures { λ r. ⌜ r ≡ edgesEnd n ⌝ }
+{
+    layout::returns_row(n) + layout::row_words(n)
+}
+
+// The words that the phases count on are zeroed: those of the lines and of the summaries, and those of the solver. All others, and so the matrix, which is the largest part of the area,
+// are zeroed or written where they are first needed.
+fn clear(work: &mut [u64], n: usize, arrays: usize)
+    requires { ⌜ (0 < n) × (n ≤ maxStatements) × (arrays ≤ maxArrays) × (workWords n ≤ length (now work)) ⌝ }
+    ensures { λ _. ⌜ now (work .exit) ≡ cleared (now (work .entry)) n (setWords arrays) ⌝ }
+{
+    let lines = layout::lines(n);
+    words::zero_row(work, lines, layout::matrix(n) - lines);
+    let from = edges_end(n);
+    let end = solve::layout::end(n, layout::set_words(arrays));
+    words::zero_row(work, from, end - from);
+}
+
+// The places of the records, the parts of the lines and the summaries of the calls.
 fn summarize(file: &[u8], h: flow::Header, work: &mut [u64])
     requires { ⌜ FitFlow (now file) h (now work) ⌝ }
     ensures { λ _. ⌜ SummariesMade (now (file .entry)) h (now (work .exit)) ⌝ }
 {
     let n = h.statements;
+    clear(work, n, h.arrays);
     records::offsets::note_offsets(file, work, 0, n);
+    records::lines::note_lines(file, h.lines_at, h.lines, work, layout::lines(n), n);
     calls::summary::summarize_calls(file, h, work);
 }
 
@@ -36,8 +56,7 @@ fn link(file: &[u8], h: flow::Header, work: &mut [u64])
     let n = h.statements;
     calls::returns::note_edges(file, h, work);
     let queue = layout::queue(n);
-    let end = layout::returns_row(n) + layout::row_words(n);
-    words::zero_row(work, queue, end - queue);
+    words::zero_row(work, queue, edges_end(n) - queue);
 }
 
 fn solve_arrays(file: &[u8], h: flow::Header, masks: &mut [u8], work: &mut [u64]) -> u64
@@ -58,7 +77,7 @@ fn solve_names(file: &[u8], n: usize, live_in: &mut [u64], live_out: &mut [u64],
     live::live_names(file, work, live_in, live_out, n);
 }
 
-// What the phases find of a file and areas that are fit. The work area is zero before.
+// What the phases find of a file and areas that are fit.
 fn solve_flow(
     file: &[u8],
     h: flow::Header,
@@ -78,27 +97,8 @@ fn solve_flow(
     visits
 }
 
-// How many words of a work area of this size the phases use.
-fn used_words(n: usize, arrays: usize, size: usize) -> usize
-    requires { ⌜ (n ≤ maxStatements) × (arrays ≤ maxArrays) ⌝ }
-    ensures { λ r. ⌜ r ≡ min (areaEnd n (setWords arrays)) size ⌝ }
-{
-    let end = solve::layout::end(n, layout::set_words(arrays));
-    if end < size { end } else { size }
-}
-
-// The first `size` words are zeroed where the areas are fit; else nothing is written.
-fn zero_if(work: &mut [u64], size: usize, fit: bool)
-    requires { ⌜ size ≤ length (now work) ⌝ }
-    ensures { λ _. ⌜ now (work .exit) ≡ cond fit (zeroed (now (work .entry)) 0 size) (now (work .entry)) ⌝ }
-{
-    if fit {
-        words::zero_row(work, 0, size);
-    }
-}
-
 // The answer to every file and all lent areas. Nothing is written before both are judged, so that a refusal changes nothing; the work area
-// is zeroed before the phases as far as they use it, since they count on it, and whole after them, for the caller.
+// is zeroed whole after the phases, for the caller.
 pub fn states(
     file: &[u8],
     masks: &mut [u8],
@@ -125,9 +125,6 @@ pub fn states(
         work.len(),
     );
     let size = work.len();
-    // Before the refusal is returned: this is the one write that short areas could meet, and `zero_if` is told not to make it. A wrong program that
-    // makes it is thus a single change of this line, and is tried.
-    zero_if(work, used_words(n, arrays, size), fit);
     if !fit {
         return Answer::Refused(flow::Refusal::Areas);
     }

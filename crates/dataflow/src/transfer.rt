@@ -21,7 +21,7 @@ ghost use Rattle.calls.specs.contracts.Held.{Linked};
 ghost use Rattle.calls.specs.contracts.Class.{transparentCall};
 ghost use Rattle.solve.specs.contracts.Layout.{outRow, backRow, maskRowAt, areaEnd};
 ghost use Rattle.solve.specs.contracts.Rows.{RowIs, maskAt, stepWhere, member};
-ghost use Rattle.dataflow.specs.contracts.Transfer.{SetIs, SetGains, RowSteps, RowsApart, Acted, Idle};
+ghost use Rattle.dataflow.specs.contracts.Transfer.{SetIs, SetGains, RowSteps, RowsApart, Acted};
 ghost use Rattle.dataflow.specs.contracts.Sent.{edgeRow, Prepared};
 use flow::NodeId;
 use flow::StmtId;
@@ -141,20 +141,6 @@ fn dim_row(
     rows::step_members(work, width, to, from, set, Effect::Dim);
 }
 
-// Whether statement i, whose record is at p, does anything to masks.
-fn acts(file: &[u8], i: StmtId, p: usize) -> bool
-    requires { ⌜ RecordOf (now file) (i .0) p ⌝ }
-    ensures { λ r. ⌜ Idle (flowOf (now (file .entry))) (i .0) r ⌝ }
-{
-    if fields::resets(file, i, p) {
-        return true;
-    }
-    if 0 < records::item_count(file, p) {
-        return true;
-    }
-    0 < records::reference_count(file, p)
-}
-
 // The act of statement i on the masks of d, into the row for its edges. The row of the other edge serves between the two steps of a DIM.
 fn transfer(
     file: &[u8],
@@ -196,11 +182,11 @@ pub fn plain_row(
     i: StmtId,
     p: usize,
 ) -> usize
-    requires { ⌜ (width ≡ setWords (h .arrays)) × Indexed (now file) h (now work) × (d .0 < 2 * h .statements) × RecordOf (now file) (i .0) p ⌝ }
+    requires { ⌜ (width ≡ setWords (h .arrays)) × Indexed (now file) h (now work) × (d .0 < 2 * h .statements) × RecordOf (now file) (i .0) p × (i .0 < h .statements) ⌝ }
     ensures { λ r. ⌜ Acted (flowOf (now (file .entry))) (now (work .entry)) (now (work .exit)) (h .statements) width (d .0) (i .0) r × ((r ≡ outRow (h .statements) width) ⊎ (r ≡ maskRowAt (h .statements) width (d .0))) ⌝ }
 {
     let n = h.statements;
-    if acts(file, i, p) {
+    if fields::acts(file, work, n, i) {
         transfer(file, h, work, width, d, i, p);
         return layout::out_row(n, width);
     }

@@ -7,6 +7,7 @@ pub mod Tabulated
 pub mod Statements
 pub mod Sets
 pub mod Noting
+pub mod LineParts
 pub mod LineSearch
 pub mod Ranged
 pub mod Given

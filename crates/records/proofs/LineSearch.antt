@@ -20,20 +20,22 @@ use Rattle.records.specs.contracts.Fields.{LineRank}
 use Rattle.flow.proofs.Numbers.{leAt-lt}
 use Rattle.records.proofs.Files.{line-fits, lines-rise}
 
--- p is the place of record lo; records below lo have lower lines, and records from lo + len on have not
-pub record Between (s : List ℕ) (l p len : ℕ) : Type 0 where
+-- of the records from `first` to below `end`, p is the place of record lo; those below lo have lower lines, and those from lo + len on have not
+pub record Between (s : List ℕ) (first end l p len : ℕ) : Type 0 where
   pub lo : ℕ
   pub place : p ≡ linePlace s lo
-  pub all : lo + len ≤ lineCount s
-  pub below : (j : ℕ) → j < lo → lineNumber s j < l
-  pub above : (j : ℕ) → lo + len ≤ j → j < lineCount s → l ≤ lineNumber s j
+  pub from : first ≤ lo
+  pub all : lo + len ≤ end
+  pub below : (j : ℕ) → first ≤ j → j < lo → lineNumber s j < l
+  pub above : (j : ℕ) → lo + len ≤ j → j < end → l ≤ lineNumber s j
 
-pub between-all : (s : List ℕ) (l : ℕ) → Between s l (linesPlace s) (lineCount s)
-between-all s l = record {
-  lo = 0;
-  place = omega arith;
+pub between-all : (s : List ℕ) (l first n : ℕ) → Between s first (first + n) l (linePlace s first) n
+between-all s l first n = record {
+  lo = first;
+  place = refl;
+  from = omega arith;
   all = omega arith;
-  below = λ j m. absurd (omega arith);
+  below = λ j k m. absurd (omega arith);
   above = λ j m k. absurd (omega arith);
 }
 
@@ -43,14 +45,14 @@ passed-most half true = omega arith
 passed-most half false = omega arith
 
 -- the last record of the lower half, which is the longer, lies within the file and decides a step
-module _ {s : List ℕ} {l p len : ℕ} (fits : FitFile s) (b : Between s l p len) (left : 0 < len) where
+module _ {s : List ℕ} {first end l p len : ℕ} (fits : FitFile s) (within : end ≤ lineCount s) (b : Between s first end l p len) (left : 0 < len) where
   pub middle-fits : p + 6 * (len - len / 2) ≤ length s
   middle-fits =
       let place = b .place in
       let all = b .all in
       let h = line-fits fits (b .lo + (len - len / 2) - 1) (omega arith) in omega arith
 
-  pub halved : Between s l (p + 6 * (len - len / 2) * cond (ltb (u16At s (p + 6 * (len - len / 2) - 4)) l) 1 0) (len - (len - len / 2))
+  pub halved : Between s first end l (p + 6 * (len - len / 2) * cond (ltb (u16At s (p + 6 * (len - len / 2) - 4)) l) 1 0) (len - (len - len / 2))
   halved = go (ltb (u16At s (p + 6 * half - 4)) l) refl
     where
       half : ℕ
@@ -60,7 +62,7 @@ module _ {s : List ℕ} {l p len : ℕ} (fits : FitFile s) (b : Between s l p le
       m = b .lo + half - 1
 
       inside : m < lineCount s
-      inside = let within = b .all in omega arith
+      inside = let all = b .all in omega arith
 
       read : u16At s (p + 6 * half - 4) ≡ lineNumber s m
       read = let place = b .place in let at : p + 6 * half - 4 ≡ linePlace s m + 2 = omega arith in ap (u16At s) at
@@ -68,27 +70,29 @@ module _ {s : List ℕ} {l p len : ℕ} (fits : FitFile s) (b : Between s l p le
       up-to : lineNumber s m < l → (j : ℕ) → j ≤ m → lineNumber s j < l
       up-to h j k = ⊎-elim (λ e. rw e h) (λ q. omega (arith, lines-rise fits j m q inside)) (eq-or-lt-of-le k)
 
-      from : l ≤ lineNumber s m → (j : ℕ) → m ≤ j → j < lineCount s → l ≤ lineNumber s j
-      from h j k q = ⊎-elim (λ e. rw (← e) h) (λ r. omega (arith, lines-rise fits m j r q)) (eq-or-lt-of-le k)
+      from : l ≤ lineNumber s m → (j : ℕ) → m ≤ j → j < end → l ≤ lineNumber s j
+      from h j k q = ⊎-elim (λ e. rw (← e) h) (λ r. omega (arith, lines-rise fits m j r (omega arith))) (eq-or-lt-of-le k)
 
-      go : (t : Bool) → ltb (u16At s (p + 6 * half - 4)) l ≡ t → Between s l (p + 6 * half * cond t 1 0) (len - half)
+      go : (t : Bool) → ltb (u16At s (p + 6 * half - 4)) l ≡ t → Between s first end l (p + 6 * half * cond t 1 0) (len - half)
       go true e = record {
         lo = b .lo + half;
         place = let place = b .place in omega arith;
-        all = let within = b .all in omega arith;
-        below = λ j k. up-to (omega (arith, read, ltb-true (u16At s (p + 6 * half - 4)) l e)) j (omega arith);
+        from = let from = b .from in omega arith;
+        all = let all = b .all in omega arith;
+        below = λ j h k. up-to (omega (arith, read, ltb-true (u16At s (p + 6 * half - 4)) l e)) j (omega arith);
         above = λ j k. b .above j (omega arith);
       }
       go false e = record {
         lo = b .lo;
         place = let place = b .place in omega arith;
-        all = let within = b .all in omega arith;
+        from = b .from;
+        all = let all = b .all in omega arith;
         below = b .below;
         above = λ j k. from (omega (arith, read, ltb-false (u16At s (p + 6 * half - 4)) l e)) j (omega arith);
       }
 
-pub rank : {s : List ℕ} {l p len : ℕ} → Between s l p len → len ≤ 0 → (k : ℕ) × (p ≡ linePlace s k) × LineRank s l k
-rank b h = (b .lo, b .place, record { all = let a = b .all in omega arith; below = b .below; above = λ j k. b .above j (omega arith) })
+pub rank : {s : List ℕ} {first end l p len : ℕ} → Between s first end l p len → len ≤ 0 → (k : ℕ) × (p ≡ linePlace s k) × LineRank s first end l k
+rank b h = (b .lo, b .place, record { from = b .from; all = let a = b .all in omega arith; below = b .below; above = λ j k. b .above j (omega arith) })
 
 -- where the records end, if there are any
 pub lines-end : {s : List ℕ} → FitFile s → linesPlace s + 6 * lineCount s ≤ max (linesPlace s) (length s)
@@ -161,16 +165,16 @@ line-past s l bytes h =
     first-none (λ k. record { number = lineNumber s k; first = lineFirst s k }) l (lineCount s)
     (λ j b e. omega (arith, leAt-lt 2 s (linePlace s j + 2) bytes))
 
--- the record at a line's rank is the first with the line, or no record has the line
+-- among the records of its part, the one at a line's rank is the first of all with the line, or no record has the line
 
-module _ {s : List ℕ} {l r : ℕ} (rank : LineRank s l r) where
-  pub entered : r < lineCount s → lineNumber s r ≡ l → enters (flowOf s) l ≡ some (lineFirst s r)
+module _ {s : List ℕ} {first end l r : ℕ} (rank : LineRank s first end l r) (within : end ≤ lineCount s) (part : (j : ℕ) → j < lineCount s → lineNumber s j ≡ l → (first ≤ j) × (j < end)) where
+  pub entered : r < end → lineNumber s r ≡ l → enters (flowOf s) l ≡ some (lineFirst s r)
   unfolding flowOf
   entered h e =
-      first-some (λ k. record { number = lineNumber s k; first = lineFirst s k }) l (lineCount s) r h e
-      (λ j b q. omega (arith, rank .below j b))
+      first-some (λ k. record { number = lineNumber s k; first = lineFirst s k }) l (lineCount s) r (omega arith) e
+      (λ j b q. omega (arith, rank .below j (part j (omega arith) q .0) b))
 
-  pub not-entered : FitFile s → (r < lineCount s → lineNumber s r ≡ l → ⊥) → enters (flowOf s) l ≡ none
+  pub not-entered : FitFile s → (r < end → lineNumber s r ≡ l → ⊥) → enters (flowOf s) l ≡ none
   unfolding flowOf
   not-entered fits h =
       first-none (λ k. record { number = lineNumber s k; first = lineFirst s k }) l (lineCount s)
@@ -178,11 +182,12 @@ module _ {s : List ℕ} {l r : ℕ} (rank : LineRank s l r) where
     where
       high : (j : ℕ) → j < lineCount s → lineNumber s j ≡ l → r ≤ j → ⊥
       high j b e q =
+          let last = part j b e .1 in
           let here : lineNumber s r ≡ l → ⊥ = h (omega arith) in
           ⊎-elim (λ m. here (rw m e))
           (λ m. omega (arith, lines-rise fits r j m b, rank .above r (omega arith) (omega arith)))
           (eq-or-lt-of-le q)
 
       other : (j : ℕ) → j < lineCount s → lineNumber s j ≡ l → (t : Bool) → ltb j r ≡ t → ⊥
-      other j b e true q = omega (arith, rank .below j (ltb-true j r q))
+      other j b e true q = omega (arith, rank .below j (part j b e .0) (ltb-true j r q))
       other j b e false q = high j b e (ltb-false j r q)

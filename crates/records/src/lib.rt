@@ -4,12 +4,14 @@ ghost use Prim.Native.Nat.{_+_, _≤_, _<_};
 ghost use lib.ListN.{length};
 ghost use Rattle.flow.specs.Format.{lineAt, kindAt, successorCount, successorAt, referencesPlace, referenceCount, referenceAt, namesPlace, writtenAt, readAt, dataPlace, itemAt, recordEnd};
 ghost use Rattle.flow.specs.contracts.Answers.{FitRecord};
-ghost use Rattle.records.specs.contracts.Fields.{recordPart, itemCount, callLineCount, callLineAt, continuationIn, continuationTo, bitIn, setWord};
+ghost use Rattle.records.specs.contracts.Fields.{recordPart, itemCount, actsAt, callLineCount, callLineAt, continuationIn, continuationTo, bitIn, setWord};
 use flow::Continuation;
 use flow::Item;
+use flow::KIND_CLR;
 use flow::KIND_DIM;
 use flow::KIND_GOSUB;
 use flow::KIND_ON_GOSUB;
+use flow::KIND_RUN;
 use flow::NO_CONTINUATION;
 use flow::StmtId;
 use flow::bytes::u8_at;
@@ -134,6 +136,18 @@ pub fn item(file: &[u8], p: usize, k: usize) -> Item
         array: u8_at(file, at),
         flag: u8_at(file, at + 1),
     }
+}
+
+// Whether the statement does anything to masks.
+pub fn acts(file: &[u8], p: usize) -> bool
+    requires { ⌜ FitRecord (now file) p ⌝ }
+    ensures { λ r. ⌜ r ≡ actsAt (now (file .entry)) p ⌝ }
+{
+    let kind = kind(file, p);
+    if kind == KIND_CLR || kind == KIND_RUN {
+        return true;
+    }
+    0 < item_count(file, p) || 0 < reference_count(file, p)
 }
 
 // The lines of a call, of which GOSUB has one; other kinds have none.

@@ -1,26 +1,29 @@
--- A statement's record is found by its number: the noted place is that of a fit record, and what it says is the statement of the flow.
+-- A statement's record is found by its number: the noted place is that of a fit record, and what it says is the statement of the flow; the mark says
+-- whether the statement acts.
 -- By what a fit file gives its readers; the tests of a kind go by its number.
-use Prim.Native.Nat.{ℕ, zero, suc, _<_, _≤_}
+use Prim.Native.Nat.{ℕ, zero, suc, _+_, _%_, _^_, _<_, _≤_}
 use native.Mathlib.Omega.{arith}
-use mathlib.Core.Bool.{_||_}
+use native.Mathlib.Nat.{zero-add}
+use mathlib.Core.Bool.{Bool, true, false, cond, _||_}
 use mathlib.Core.List.{List, [], _∷_}
 use mathlib.Core.Option.{Option}
 use mathlib.Core.Path.{_≡_, refl, sym, ap, _∙_, subst}
-use borrow.Author.Tests.{lt-ltb}
-use lib.Dec.{eqb, ltb}
+use borrow.Author.Tests.{lt-ltb, le-leb, lt-leb}
+use lib.Dec.{eqb, ltb, leb}
 use lib.ListN.{length, getD}
 use Rattle.flow.specs.Limits.{maxKind}
 use Rattle.flow.specs.Flow.{Kind, Item, statement, items}
 use Rattle.flow.specs.Format.{flowOf, tabulate, recordPlace, statementsOf, kindAt, kindOf, byData, plainKind, successorCount, successorAt, referenceCount, referenceAt, itemAt}
 use Rattle.flow.specs.contracts.Answers.{FitRecord}
-use Rattle.records.specs.contracts.Fields.{itemCount, callLineCount, callLineAt}
-use Rattle.records.proofs.Files.{record-fit}
+use Rattle.records.specs.contracts.Fields.{itemCount, actsAt, wordAt, notedWord, callLineCount, callLineAt}
+use Rattle.flow.proofs.Records.{start-fits}
+use Rattle.records.proofs.Files.{limited, record-fit}
 use Rattle.records.proofs.Values.{in-range}
 use Rattle.records.proofs.Statements.{Says, says}
 use Rattle.records.proofs.Tabulated.{length-tabulate, getD-tabulate}
 use Rattle.theory.specs.Body.{isReturn, counts, wipes}
 use Rattle.theory.specs.Doubled.{resets}
-use Rattle.statements.specs.contracts.Ready.{Ready, Elements, RecordOf}
+use Rattle.statements.specs.contracts.Ready.{Ready, Elements, RecordOf, actsIn}
 
 elements : {A : Type 0} {l : List A} (n : ℕ) (f : ℕ → A) → l ≡ tabulate n f → Elements l n f
 elements n f e = record {
@@ -81,7 +84,35 @@ record-said {s} {i} {p} e h t =
       continuation = t .continuation;
     }
 
-pub record-of : {s ws : List ℕ} {n i p : ℕ} → Ready s ws n → i < n → p ≡ recordPlace s i → RecordOf s i p
-record-of {s} {ws} {n} {i} {p} r l e =
+record-of : {s ws : List ℕ} {n i : ℕ} → Ready s ws n → i < n → RecordOf s i (recordPlace s i)
+record-of {s} {ws} {n} {i} r l =
     let within : i < statementsOf s = subst (λ (m : ℕ). i < m) (r .count) l in
-    subst (λ (q : ℕ). RecordOf s i q) (sym e) (record-said refl (record-fit (r .fit) i within) (says s i within))
+    record-said refl (record-fit (r .fit) i within) (says s i within)
+
+-- what is noted of statement i: the place of its record is below the mark, since a fit file is short
+module _ {s ws : List ℕ} {n i : ℕ} (r : Ready s ws n) (l : i < n) where
+  word : getD ws i 0 ≡ notedWord s i
+  word = ap (λ x. getD ws x 0) (sym (zero-add i)) ∙ r .offsets i l
+
+  small : recordPlace s i < 2 ^ 32
+  small = omega (arith, limited (r .fit) .file, start-fits (record-of r l .fit))
+
+  pub noted-record : RecordOf s i (getD ws i 0 % 2 ^ 32)
+  unfolding wordAt
+  noted-record = subst (λ (p : ℕ). RecordOf s i p) (sym (ap (λ w. w % 2 ^ 32) word ∙ place (actsAt s (recordPlace s i)))) (record-of r l)
+    where
+      place : (b : Bool) → cond b (recordPlace s i + 2 ^ 32) (recordPlace s i) % 2 ^ 32 ≡ recordPlace s i
+      place true = omega (arith, small)
+      place false = omega (arith, small)
+
+  acts-said : actsAt s (recordPlace s i) ≡ actsIn (flowOf s) i
+  unfolding actsAt actsIn
+  acts-said = let said = record-of r l in rw (said .resets, said .items .count, said .references .count)
+
+  pub noted-acts : leb (2 ^ 32) (getD ws i 0) ≡ actsIn (flowOf s) i
+  unfolding wordAt
+  noted-acts = ap (leb (2 ^ 32)) word ∙ mark (actsAt s (recordPlace s i)) ∙ acts-said
+    where
+      mark : (b : Bool) → leb (2 ^ 32) (cond b (recordPlace s i + 2 ^ 32) (recordPlace s i)) ≡ b
+      mark true = le-leb (2 ^ 32) (recordPlace s i + 2 ^ 32) (omega arith)
+      mark false = lt-leb (2 ^ 32) (recordPlace s i) small

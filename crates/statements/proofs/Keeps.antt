@@ -8,17 +8,18 @@ use mathlib.Core.Path.{_≡_, refl, sym, _∙_, subst}
 use lib.ListN.{length, getD, set, length-set}
 use lib.Seq.{getD-set-other}
 use Rattle.words.specs.contracts.Row.{has}
-use Rattle.words.specs.contracts.Change.{joined, inserted, removed, rewritten, unioned, intersected, zeroed}
+use Rattle.words.specs.contracts.Change.{joined, inserted, removed, rewritten, unioned, zeroed}
 use Rattle.words.proofs.Row.{has-cong}
 use Rattle.words.proofs.Rewritten.{length-rewritten, rewritten-other}
 use Rattle.flow.specs.declared.Header.{Header}
 use Rattle.flow.specs.Limits.{maxStatements}
 use Rattle.flow.specs.Flow.{size}
 use Rattle.flow.specs.Format.{flowOf}
+use Rattle.records.specs.contracts.Fields.{LinePart, LineParts}
 use Rattle.records.proofs.Files.{limited}
 use Rattle.records.proofs.Statements.{size-is}
 use Rattle.theory.specs.contracts.WellFormed.{WellFormed}
-use Rattle.statements.specs.contracts.Layout.{solverAt}
+use Rattle.statements.specs.contracts.Layout.{linesAt, callsAt, solverAt}
 use Rattle.statements.specs.contracts.Ready.{Ready, Indexed, Keeps}
 use Rattle.statements.proofs.WorkArea.{area-fits}
 use Rattle.statements.proofs.WellFormed.{well-formed}
@@ -86,10 +87,6 @@ module _ (ws : List ℕ) {lo hi : ℕ} where
   unfolding unioned
   keeps-unioned to from width l h = keeps-rewritten _ to width l h
 
-  pub keeps-intersected : (to a b width : ℕ) → lo ≤ to → to + width ≤ hi → Keeps lo hi ws (intersected ws to a b width)
-  unfolding intersected
-  keeps-intersected to a b width l h = keeps-rewritten _ to width l h
-
   pub keeps-zeroed : (base width : ℕ) → lo ≤ base → base + width ≤ hi → Keeps lo hi ws (zeroed ws base width)
   unfolding zeroed
   keeps-zeroed base width l h = keeps-rewritten _ base width l h
@@ -103,8 +100,11 @@ ready-keeps r k l = record {
   offsets = λ i m. k .below _ (omega arith) ∙ r .offsets i m;
 }
 
-pub indexed-keeps : {s ws vs : List ℕ} {h : Header} {lo hi : ℕ} → Indexed s h ws → Keeps lo hi ws vs → h .statements ≤ lo → Indexed s h vs
-indexed-keeps r k l = record { ready = ready-keeps (r .ready) k l; header = r .header }
+pub parts-keep : {s ws vs : List ℕ} {n r lo hi : ℕ} → LineParts s ws (linesAt n) n r → Keeps lo hi ws vs → callsAt n ≤ lo → LineParts s vs (linesAt n) n r
+parts-keep {s} {n = n} {r} p k l i m = subst (λ (w : ℕ). LinePart s n r i w) (sym (k .below _ (omega arith))) (p i m)
+
+pub indexed-keeps : {s ws vs : List ℕ} {h : Header} {lo hi : ℕ} → Indexed s h ws → Keeps lo hi ws vs → callsAt (h .statements) ≤ lo → Indexed s h vs
+indexed-keeps r k l = record { ready = ready-keeps (r .ready) k (omega arith); lines = parts-keep (r .lines) k l; header = r .header }
 
 -- a fit file has few enough statements for the layout, and the parts below the solver's lie within the area, with a set of doubled numbers
 

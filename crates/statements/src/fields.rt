@@ -9,7 +9,8 @@ ghost use Rattle.theory.specs.Body as body;
 ghost use Rattle.theory.specs.Body.{kind, successors, references, callLines, continuationOf, isReturn};
 ghost use Rattle.theory.specs.Doubled as doubled;
 ghost use Rattle.theory.specs.Lists as lists;
-ghost use Rattle.statements.specs.contracts.Ready.{Ready, Indexed, RecordOf, MembersWord, noItem};
+ghost use Rattle.statements.specs.contracts.Ready.{Ready, Indexed, RecordOf, MembersWord, actsIn, noItem};
+use crate::layout;
 use flow::KIND_CLR;
 use flow::KIND_RETURN;
 use flow::KIND_RUN;
@@ -21,7 +22,16 @@ pub fn offset(file: &[u8], work: &[u64], n: usize, i: StmtId) -> usize
     ensures { λ r. ⌜ RecordOf (now (file .entry)) (i .0) r ⌝ }
 {
     let at = i.0;
-    work[at] as usize
+    (work[at] % 4294967296) as usize
+}
+
+// Whether statement i does anything to masks, which is noted above the place of its record.
+pub fn acts(file: &[u8], work: &[u64], n: usize, i: StmtId) -> bool
+    requires { ⌜ Ready (now file) (now work) n × (i .0 < n) ⌝ }
+    ensures { λ r. ⌜ r ≡ actsIn (flowOf (now (file .entry))) (i .0) ⌝ }
+{
+    let at = i.0;
+    4294967296 <= work[at]
 }
 
 pub fn is_return(file: &[u8], work: &[u64], n: usize, i: StmtId) -> bool
@@ -70,7 +80,15 @@ pub fn successor(file: &[u8], work: &[u64], n: usize, i: StmtId, k: usize) -> St
     requires { ⌜ Ready (now file) (now work) n × (i .0 < n) × (k < length (successors (flowOf (now file)) (i .0))) ⌝ }
     ensures { λ r. ⌜ r .0 ≡ getD (successors (flowOf (now (file .entry))) (i .0)) k 0 ⌝ }
 {
-    records::successor(file, offset(file, work, n, i), k)
+    successor_at(file, i, offset(file, work, n, i), k)
+}
+
+// The same, where the record of statement i is known to be at p.
+pub fn successor_at(file: &[u8], i: StmtId, p: usize, k: usize) -> StmtId
+    requires { ⌜ RecordOf (now file) (i .0) p × (k < length (successors (flowOf (now file)) (i .0))) ⌝ }
+    ensures { λ r. ⌜ r .0 ≡ getD (successors (flowOf (now (file .entry))) (i .0)) k 0 ⌝ }
+{
+    records::successor(file, p, k)
 }
 
 pub fn reference_count(file: &[u8], work: &[u64], n: usize, i: StmtId) -> usize
@@ -138,13 +156,8 @@ pub fn entered(file: &[u8], h: flow::Header, work: &[u64], i: StmtId, k: usize) 
 {
     let n = h.statements;
     let lines_at = h.lines_at;
-    let lines = h.lines;
-    records::lines::line_entry(
-        file,
-        lines_at,
-        lines,
-        records::call_line(file, offset(file, work, n, i), k),
-    )
+    let line = records::call_line(file, offset(file, work, n, i), k);
+    records::lines::line_entry(file, lines_at, work, layout::lines(n), n, line)
 }
 
 // The record of statement i, given out as that part of the file.

@@ -4,7 +4,7 @@ pub mod Row
 pub mod Inserted
 pub mod Rewritten
 pub mod Unioned
-pub mod Intersected
+pub mod Lowest
 pub mod Zeroed
 pub mod NextMember
 pub mod Removed

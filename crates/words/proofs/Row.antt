@@ -2,14 +2,15 @@
 -- By the bits of a word, over any width and place of the row. Assumes nothing.
 use mathlib.Core.Path.{_≡_, sym, ap, ap₂, _∙_, subst}
 use mathlib.Core.List.{List}
-use Prim.Native.Nat.{ℕ, _+_, _*_, _/_, _%_, _^_, _≤_, _<_}
+use Prim.Native.Nat.{ℕ, _+_, _*_, _/_, _%_, _^_, _≤_, _<_, min}
 use native.Mathlib.Decide.{decLt, ℕ-discrete}
 use native.Mathlib.Omega.{arith}
+use lib.Bits.{bitAnd}
 use lib.ListN.{length, getD, set}
 use lib.Count.{ones}
 use lib.Seq.{getD-set-same, getD-set-other, set-out}
 use Rattle.words.specs.contracts.Row.{bit, has, Words, tally, members}
-use Rattle.words.proofs.Bit.{bit-lt}
+use Rattle.words.proofs.Bit.{bit-lt, bit-and}
 use Rattle.words.proofs.Tally.{tally-cong, tally-le, tally-add, ones-tally}
 
 pub has-lt : (ws : List ℕ) (base i : ℕ) → has ws base i < 2
@@ -36,6 +37,11 @@ has-word ws base k j l =
     let word : (64 * k + j) / 64 ≡ k = omega arith in
     let place : (64 * k + j) % 64 ≡ j = omega arith in
     ap₂ (λ (x y : ℕ). bit (getD ws (base + x) 0) y) word place
+
+-- what two rows share, by their words
+pub has-both : (ws : List ℕ) (a b i : ℕ) → bit (bitAnd (getD ws (a + i / 64) 0) (getD ws (b + i / 64) 0)) (i % 64) ≡ min (has ws a i) (has ws b i)
+unfolding has
+has-both ws a b i = bit-and (getD ws (a + i / 64) 0) (getD ws (b + i / 64) 0) (i % 64)
 
 -- one word more counts its ones
 pub members-suc : (ws : List ℕ) (base k : ℕ) → getD ws (base + k) 0 < 2 ^ 64 → members ws base (k + 1) ≡ members ws base k + ones (getD ws (base + k) 0)

@@ -5,7 +5,7 @@ ghost use Prim.Native.Nat.{_+_, _-_, _*_, _/_, _^_, _≤_, _<_, min};
 ghost use lib.Dec.{eqb};
 ghost use lib.ListN.{length};
 ghost use Rattle.words.specs.contracts.Row.{has, members, nextMember};
-ghost use Rattle.words.specs.contracts.Change.{Joined, Inserted, removed, Unioned, intersected, zeroed, without, Chosen};
+ghost use Rattle.words.specs.contracts.Change.{Joined, Inserted, removed, Unioned, zeroed, without, Chosen};
 
 pub fn contains(ws: &[u64], base: usize, i: usize) -> bool
     requires { ⌜ base + i / 64 < length (now ws) ⌝ }
@@ -72,18 +72,6 @@ pub fn union(ws: &mut [u64], to: usize, from: usize, width: usize) -> bool
         k += 1;
     }
     grew
-}
-
-// The row at `to` becomes what the rows at `a` and `b` share, lowest word first.
-pub fn intersect(ws: &mut [u64], to: usize, a: usize, b: usize, width: usize)
-    requires { ⌜ (to + width ≤ length (now ws)) × (a + width ≤ length (now ws)) × (b + width ≤ length (now ws)) ⌝ }
-    ensures { λ _. ⌜ now (ws .exit) ≡ intersected (now (ws .entry)) to a b width ⌝ }
-{
-    let mut k = 0;
-    while k < width {
-        ws[to + k] = ws[a + k] & ws[b + k];
-        k += 1;
-    }
 }
 
 // The bits of `a` that are not in `b`.

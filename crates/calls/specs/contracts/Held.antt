@@ -13,7 +13,7 @@ use Rattle.theory.specs.Lists as lists
 use Rattle.theory.specs.Lists.{In, any, upTo}
 use Rattle.theory.specs.Body.{kind, continuationOf, isReturn, callees, entered, Walks, opaqueCall, callTouches}
 use Rattle.theory.specs.Doubled.{returnsTo}
-use Rattle.statements.specs.contracts.Layout.{callsAt, callTouchedAt, bodiesAt, rowAt, rowWords, queueAt, enteredRowAt}
+use Rattle.statements.specs.contracts.Layout.{callsAt, callTouchedAt, bodiesAt, matrixAt, rowAt, rowWords, queueAt, enteredRowAt}
 use Rattle.statements.specs.contracts.Ready.{MembersWord}
 
 -- the work area of n statements
@@ -59,9 +59,9 @@ pub record Walked (f : Flow) (ws vs : List ℕ) (n e : ℕ) : Type 0 where
   pub row : WalkRow f vs n e
   pub only : OnlyRow ws vs n e
 
--- no call and no body has a summary yet, and the matrix is empty
+-- no call and no body has a summary yet
 pub record NoSummaries (ws : List ℕ) (n : ℕ) : Type 0 where
-  pub words : (x : ℕ) → callsAt n ≤ x → x < queueAt n → getD ws x 0 ≡ 0
+  pub words : (x : ℕ) → callsAt n ≤ x → x < matrixAt n → getD ws x 0 ≡ 0
 
 -- the summary of each call with a continuation; any other statement has none
 pub record CallSummaries (f : Flow) (ws : List ℕ) (n : ℕ) : Type 0 where
@@ -69,11 +69,10 @@ pub record CallSummaries (f : Flow) (ws : List ℕ) (n : ℕ) : Type 0 where
   pub call : (c k : ℕ) → c < n → continuationOf (kind f c) ≡ some k → getD ws (callsAt n + c) 0 ≡ cond (opaqueCall f c) opaque transparent
   pub touched : (c : ℕ) → c < n → getD ws (callsAt n + c) 0 ≡ transparent → MembersWord (getD ws (callTouchedAt n + c) 0) (callTouches f c)
 
--- the summaries, the walks of the bodies that the calls enter, and the RETURNs' rows still empty
+-- the summaries, and the walks of the bodies that the calls enter
 pub record Summarized (f : Flow) (ws : List ℕ) (n : ℕ) : Type 0 where
   pub calls : CallSummaries f ws n
   pub walks : (c b : ℕ) → c < n → In b (callees f c) → isReturn (kind f b) ≡ false → WalkRow f ws n b
-  pub free : (r : ℕ) → r < n → isReturn (kind f r) ≡ true → EmptyRow ws n r
 
 -- l leads statement r: their rows are the same
 pub record Leads (ws : List ℕ) (n r l : ℕ) : Type 0 where

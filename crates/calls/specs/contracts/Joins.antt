@@ -1,15 +1,16 @@
 -- What noting changes. Where RETURNs go: the rows of some RETURNs gain a continuation, and every other row and every word below the matrix stays; which
 -- statements are RETURNs is noted first, as a row.
 -- Which statements a call enters, or the bodies that it enters walk: a row gains them, and every other word stays.
--- And the rows of the calls that are transparent: each becomes the row of the statements that the call enters.
-use Prim.Native.Nat.{ℕ, _+_, _≤_, _<_, max}
+-- And rows that become another set: that of each transparent call the statements that it enters, and first that of each RETURN none.
+use Prim.Native.Nat.{ℕ, _+_, _/_, _%_, _≤_, _<_, max}
 use mathlib.Core.Bool.{Bool, true, false, cond, _&&_}
 use mathlib.Core.List.{List, [], _∷_}
+use mathlib.Core.Logic.{_⊎_}
 use mathlib.Core.Option.{some}
 use mathlib.Core.Path.{_≡_}
 use lib.Dec.{eqb}
 use lib.ListN.{length, getD}
-use Rattle.words.specs.contracts.Row.{has}
+use Rattle.words.specs.contracts.Row.{bit, has}
 use Rattle.flow.specs.Flow.{Flow}
 use Rattle.theory.specs.Lists as lists
 use Rattle.theory.specs.Lists.{In, any, concatMap}
@@ -33,13 +34,24 @@ pub record Gains (ws vs : List ℕ) (n hi : ℕ) (p : ℕ → Bool) (k : ℕ) : 
   pub kept : Keeps (matrixAt n) hi ws vs
   pub rows : (r j : ℕ) → r < n → j < n → has vs (rowAt n r) j ≡ max (has ws (rowAt n r) j) (cond (p r && eqb j k) 1 0)
 
-abbrev pub isEntered : List ℕ → ℕ → ℕ → Bool
-isEntered ws n s = eqb (has ws (enteredRowAt n) s) 1
+-- statement s is a bit of the word, which is word j of a row
+abbrev pub inWord : ℕ → ℕ → ℕ → Bool
+inWord word j s = eqb (s / 64) j && eqb (bit word (s % 64)) 1
 
--- vs is ws with the RETURNs on the walks of the bodies bs in the row of entered statements
-pub record Gathers (f : Flow) (ws vs : List ℕ) (n : ℕ) (bs : List ℕ) : Type 0 where
+-- statement s is in the row at `row`, and in the row of RETURNs
+abbrev pub isShared : List ℕ → ℕ → ℕ → ℕ → Bool
+isShared ws n row s = eqb (has ws row s) 1 && eqb (has ws (returnsRowAt n) s) 1
+
+-- the row at `row` stays while rows of RETURNs change: it lies above the matrix, or it is the row of a statement that is none
+pub record Apart (ws : List ℕ) (n row : ℕ) : Type 0 where
+  pub room : row + rowWords n ≤ length ws
+  pub place : (queueAt n ≤ row) ⊎ ((b : ℕ) × (b < n) × (row ≡ rowAt n b) × (has ws (returnsRowAt n) b ≡ 0))
+
+-- the row at `row` of vs has what the walks of the bodies bs meet, and no more; vs is ws but for the row of entered statements
+pub record Gathers (f : Flow) (ws vs : List ℕ) (n : ℕ) (bs : List ℕ) (row : ℕ) : Type 0 where
   pub kept : Keeps (enteredRowAt n) (solverAt n) ws vs
-  pub holds : (s : ℕ) → s < n → has vs (enteredRowAt n) s ≡ cond (any (λ e. lists.elem s (walked f e)) bs && isReturn (kind f s)) 1 0
+  pub apart : Apart vs n row
+  pub holds : (s : ℕ) → s < n → has vs row s ≡ cond (any (λ e. lists.elem s (walked f e)) bs) 1 0
 
 -- the row of RETURNs has all of them and no more
 pub record ReturnSet (f : Flow) (ws : List ℕ) (n : ℕ) : Type 0 where
@@ -72,7 +84,7 @@ pub record Summary (f : Flow) (ws : List ℕ) (n c : ℕ) : Type 0 where
 
 -- a row that bodies may be joined to lies above the noted places, and above the matrix if walks are read from there
 pub record Target (ws : List ℕ) (n to : ℕ) (whole : Bool) : Type 0 where
-  pub low : n ≤ to
+  pub low : callsAt n ≤ to
   pub high : to + rowWords n ≤ length ws
   pub apart : whole ≡ true → queueAt n ≤ to
 
@@ -81,8 +93,16 @@ pub record Adds (to : ℕ) (ws vs : List ℕ) (n : ℕ) (bs : List ℕ) : Type 0
   pub kept : Keeps to (to + rowWords n) ws vs
   pub joined : (j : ℕ) → j < n → has vs to j ≡ max (has ws to j) (cond (lists.elem j bs) 1 0)
 
--- vs is ws with the statements that it enters in the row of each transparent call from lo to below hi; every other row stays
-pub record Notes (f : Flow) (ws vs : List ℕ) (n lo hi : ℕ) : Type 0 where
+-- vs is ws with its members in the row of each statement from lo to below hi of which P holds; every other row stays
+pub record Notes (P : ℕ → Type 0) (members : ℕ → List ℕ) (ws vs : List ℕ) (n lo hi : ℕ) : Type 0 where
   pub kept : Keeps (matrixAt n) (solverAt n) ws vs
-  pub noted : (c j : ℕ) → lo ≤ c → c < hi → j < n → getD ws (callsAt n + c) 0 ≡ transparent → has vs (rowAt n c) j ≡ cond (lists.elem j (entered f c)) 1 0
-  pub others : (e j : ℕ) → e < n → j < n → (lo ≤ e → e < hi → getD ws (callsAt n + e) 0 ≡ transparent → ⊥) → has vs (rowAt n e) j ≡ has ws (rowAt n e) j
+  pub noted : (c j : ℕ) → lo ≤ c → c < hi → j < n → P c → has vs (rowAt n c) j ≡ cond (lists.elem j (members c)) 1 0
+  pub others : (e j : ℕ) → e < n → j < n → (lo ≤ e → e < hi → P e → ⊥) → has vs (rowAt n e) j ≡ has ws (rowAt n e) j
+
+-- in the row of each transparent call stand the statements that it enters
+abbrev pub NotesCalls : Flow → List ℕ → List ℕ → ℕ → ℕ → ℕ → Type 0
+NotesCalls f ws vs n lo hi = Notes (λ c. getD ws (callsAt n + c) 0 ≡ transparent) (entered f) ws vs n lo hi
+
+-- the row of each RETURN is empty
+abbrev pub ClearsReturns : Flow → List ℕ → List ℕ → ℕ → ℕ → ℕ → Type 0
+ClearsReturns f ws vs n lo hi = Notes (λ r. isReturn (kind f r) ≡ true) (λ r. []) ws vs n lo hi

@@ -17,9 +17,10 @@ use Rattle.theory.specs.Lists as lists
 use Rattle.theory.specs.Lists.{In}
 use Rattle.theory.specs.Body as theory
 use Rattle.theory.specs.Body.{kind, references, continuationOf, isReturn, callees, touches, opaqueCall, callTouches, Calls⁺}
-use Rattle.statements.specs.contracts.Layout.{callsAt, callTouchedAt, bodiesAt, touchedAt, enteredRowAt}
+use Rattle.records.specs.contracts.Fields.{LineParts}
+use Rattle.statements.specs.contracts.Layout.{linesAt, callsAt, callTouchedAt, bodiesAt, touchedAt, enteredRowAt}
 use Rattle.statements.specs.contracts.Ready.{Ready, Keeps, MembersWord}
-use Rattle.calls.specs.contracts.Held.{unentered, opened, transparent, opaque, EmptyRow, WalkRow}
+use Rattle.calls.specs.contracts.Held.{unentered, opened, transparent, opaque, WalkRow}
 
 -- the states of body b and of call c, and the arrays noted as touched
 
@@ -49,7 +50,7 @@ Holds w p = (a : ℕ) → a < 64 → p a ≡ true → bit w a ≡ 1
 
 -- what the state of body b says. A RETURN's row is kept for its edges
 pub data BodyState (f : Flow) (ws : List ℕ) (n b : ℕ) : Type 0 where
-  is-unentered : body ws n b ≡ unentered → EmptyRow ws n b → BodyState f ws n b
+  is-unentered : body ws n b ≡ unentered → BodyState f ws n b
   is-open : body ws n b ≡ opened → WalkRow f ws n b → BodyState f ws n b
   is-transparent : body ws n b ≡ transparent → theory.opaque f b ≡ false → Holds (touchedBy ws n b) (touches f b) → (isReturn (kind f b) ≡ false → WalkRow f ws n b) → BodyState f ws n b
   is-opaque : body ws n b ≡ opaque → theory.opaque f b ≡ true → WalkRow f ws n b → BodyState f ws n b
@@ -68,7 +69,6 @@ pub data CallState (f : Flow) (ws : List ℕ) (n c : ℕ) : Type 0 where
 
 pub record Summing (f : Flow) (ws : List ℕ) (n : ℕ) : Type 0 where
   pub bodies : (b : ℕ) → b < n → BodyState f ws n b
-  pub free : (r : ℕ) → r < n → isReturn (kind f r) ≡ true → EmptyRow ws n r
   pub touched : (b : ℕ) → b < n → Within (touchedBy ws n b) (touches f b)
   pub calls : (c : ℕ) → c < n → CallState f ws n c
   pub callTouched : (c : ℕ) → c < n → Within (callTouchedBy ws n c) (callTouches f c)
@@ -91,10 +91,11 @@ Onward ws vs n = OnwardBut n ws vs n
 abbrev pub Leads : Flow → List ℕ → ℕ → ℕ → Type 0
 Leads f ws n b = (o : ℕ) → o < n → body ws n o ≡ opened → Calls⁺ f o b
 
--- the places of the records are noted, and the file's lines stand at `place`, so many
-pub record Located (s ws : List ℕ) (place count : ℕ) : Type 0 where
+-- the places of the records and the parts of the lines are noted, and the file's lines stand at `place`
+pub record Located (s ws : List ℕ) (place : ℕ) : Type 0 where
   pub ready : Ready s ws (statementsOf s)
-  pub lines : (place ≡ linesPlace s) × (count ≡ lineCount s)
+  pub parts : LineParts s ws (linesAt (statementsOf s)) (statementsOf s) (lineCount s)
+  pub lines : place ≡ linesPlace s
 
 -- statement i was passed by on the walk of body e: its references, and what it touches as a call, were joined to what the body touches; whether it makes the body opaque
 pub record WalkPassed (f : Flow) (ws vs : List ℕ) (n e i : ℕ) (found-opaque : Bool) : Type 0 where

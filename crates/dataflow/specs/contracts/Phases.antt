@@ -1,9 +1,10 @@
 -- What the phases start from, and what they leave together: the file is fit, its header is known, the areas have room and the work area is zero as far as it is used; after them the masks, the
 -- live words are those of the definitions, and the count is that of the queue rule's course.
-use Prim.Native.Nat.{ℕ, _*_, _+_, _<_, _≤_}
+use Prim.Native.Nat.{ℕ, _*_, _+_, _-_, _<_, _≤_}
 use mathlib.Core.List.{List}
 use mathlib.Core.Path.{_≡_}
 use lib.ListN.{length, getD}
+use Rattle.words.specs.contracts.Change.{zeroed}
 use Rattle.flow.specs.declared.Header.{Header}
 use Rattle.flow.specs.Flow.{Flow, size}
 use Rattle.flow.specs.Limits.{workWords}
@@ -13,20 +14,27 @@ use Rattle.theory.specs.Doubled.{doubled}
 use Rattle.theory.specs.Queue.{Solver, Over}
 use Rattle.theory.specs.Masks.{maskLeft}
 use Rattle.theory.specs.Live.{liveInWord, liveOutWord}
-use Rattle.statements.specs.contracts.Layout.{queueAt, enteredRowAt, setWords}
+use Rattle.statements.specs.contracts.Layout.{linesAt, matrixAt, rowWords, queueAt, returnsRowAt, setWords}
 use Rattle.statements.specs.contracts.Ready.{Ready, Indexed}
 use Rattle.solve.specs.contracts.Layout.{areaEnd}
 use Rattle.flow.specs.Format.{flowOf}
 use Rattle.calls.specs.contracts.Held.{Summarized, Linked}
 use Rattle.dataflow.specs.Promise.{Written}
 
--- a fit file, its header, and a work area that is zero as far as it is used
+-- where the words end that finding the edges uses
+abbrev pub edgesEnd : ℕ → ℕ
+edgesEnd n = returnsRowAt n + rowWords n
+
+-- with the words zeroed that the phases count on: those of the lines and of the summaries, and those of the solver
+unfoldable pub cleared : List ℕ → ℕ → ℕ → List ℕ
+cleared ws n w = zeroed (zeroed ws (linesAt n) (matrixAt n - linesAt n)) (edgesEnd n) (areaEnd n w - edgesEnd n)
+
+-- a fit file, its header, and a work area with room
 pub record FitFlow (s : List ℕ) (h : Header) (work : List ℕ) : Type 0 where
   pub fit : FitFile s
   pub header : h ≡ headerOf s
   pub some : 0 < h .statements
   pub work-room : workWords (h .statements) ≤ length work
-  pub zero : (x : ℕ) → x < areaEnd (h .statements) (setWords (h .arrays)) → getD work x 0 ≡ 0
 
 -- and areas with room
 pub record FitAreas (s : List ℕ) (h : Header) (masks liveIn liveOut work : List ℕ) : Type 0 where
@@ -48,7 +56,7 @@ pub record Findings (f : Flow) (masks masks′ liveIn liveIn′ liveOut liveOut�
 pub record SummariesMade (s : List ℕ) (h : Header) (ws : List ℕ) : Type 0 where
   pub indexed : Indexed s h ws
   pub summarized : Summarized (flowOf s) ws (h .statements)
-  pub zero : (x : ℕ) → enteredRowAt (h .statements) ≤ x → x < areaEnd (h .statements) (setWords (h .arrays)) → getD ws x 0 ≡ 0
+  pub zero : (x : ℕ) → edgesEnd (h .statements) ≤ x → x < areaEnd (h .statements) (setWords (h .arrays)) → getD ws x 0 ≡ 0
 
 -- what the forward solver starts from: the edges are known, and its words are zero
 pub record SolverStart (s : List ℕ) (h : Header) (ws : List ℕ) : Type 0 where

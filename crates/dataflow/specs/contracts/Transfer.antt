@@ -1,17 +1,16 @@
 -- "At a statement, a reference turns NONE into AUTO and keeps other states; then DIM with flag 1 makes its array's mask DIMMED, CLR and RUN make all masks NONE":
 -- what the masks of a row become, array by array, and the sets of arrays by which a row steps. Assumes nothing.
 use Prim.Native.Nat.{ℕ, _+_, _*_, _<_, _≤_, max}
-use mathlib.Core.Bool.{Bool, false, cond}
-use mathlib.Core.List.{List, []}
+use mathlib.Core.Bool.{Bool, cond}
+use mathlib.Core.List.{List}
 use mathlib.Core.Logic.{_⊎_}
 use mathlib.Core.Path.{_≡_}
 use lib.Dec.{ltb}
 use lib.ListN.{length, getD}
 use Rattle.words.specs.contracts.Row.{has}
 use Rattle.masks.specs.declared.Effect.{Effect}
-use Rattle.flow.specs.Flow.{Flow, items}
-use Rattle.theory.specs.Body.{kind, references}
-use Rattle.theory.specs.Doubled.{resets, statementEffects}
+use Rattle.flow.specs.Flow.{Flow}
+use Rattle.theory.specs.Doubled.{statementEffects}
 use Rattle.theory.specs.Queue.{stepAll}
 use Rattle.statements.specs.contracts.Ready.{Keeps}
 use Rattle.solve.specs.contracts.Layout.{setRow, maskRowAt}
@@ -50,9 +49,3 @@ acted count effects m a = cond (ltb a count) (stepAll (effects a) (m a)) (m a)
 pub record Acted (f : Flow) (ws vs : List ℕ) (n w d i row : ℕ) : Type 0 where
   pub keeps : Keeps (setRow n) (maskRowAt n w 0) ws vs
   pub masks : (a : ℕ) → a < 64 * w → maskAt vs w row a ≡ acted (f .arrays) (statementEffects f i) (masksAt ws n w d) a
-
--- where r says no, statement i does nothing to masks
-pub record Idle (f : Flow) (i : ℕ) (r : Bool) : Type 0 where
-  pub keeps : r ≡ false → resets (kind f i) ≡ false
-  pub items : r ≡ false → items (kind f i) ≡ []
-  pub references : r ≡ false → references f i ≡ []

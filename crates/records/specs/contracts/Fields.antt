@@ -1,17 +1,18 @@
 -- The fields of a statement's record that was found fit, where Format does not give them by one position: the data of its kind, its references as
--- a set, the part of the file that the record is, and what the second pass notes of the records' places.
+-- a set, the part of the file that the record is, and what the second pass notes of the records.
 use Prim.Native.Nat.{ℕ, zero, suc, _+_, _-_, _*_, _/_, _%_, _^_, _≤_, _<_}
-use mathlib.Core.Bool.{cond}
+use mathlib.Core.Bool.{Bool, cond, _||_}
 use mathlib.Core.List.{List}
 use mathlib.Core.Option.{Option, none, some}
-use lib.ListN.{take, drop}
+use mathlib.Core.Path.{_≡_}
+use lib.ListN.{length, getD, take, drop}
 use lib.Bits.{bitOr}
-use lib.Dec.{eqb}
+use lib.Dec.{eqb, ltb}
 use Rattle.flow.specs.declared.Continuation.{Continuation}
 use Rattle.flow.specs.declared.Continuation as C
 use Rattle.flow.specs.declared.LineEntry.{LineEntry}
 use Rattle.flow.specs.declared.LineEntry as E
-use Rattle.flow.specs.Format.{kindAt, kindDim, kindGosub, kindOnGosub, dataPlace, dataCount, elementsEnd, continuationAt, recordEnd, lineCount, lineNumber, u16At}
+use Rattle.flow.specs.Format.{kindAt, kindClr, kindRun, kindDim, kindGosub, kindOnGosub, referenceCount, dataPlace, dataCount, elementsEnd, continuationAt, recordEnd, recordPlace, lineNumber, u16At}
 
 -- the record at p, as that part of the file
 abbrev pub recordPart : List ℕ → ℕ → List ℕ
@@ -20,6 +21,18 @@ recordPart s p = take (recordEnd s p - p) (drop p s)
 -- the items of a DIM
 unfoldable pub itemCount : List ℕ → ℕ → ℕ
 itemCount s p = cond (eqb (kindAt s p) kindDim) (dataCount s p) 0
+
+-- the statement does something to masks: CLR, RUN, a DIM that has items, or any with references
+unfoldable pub actsAt : List ℕ → ℕ → Bool
+actsAt s p = (eqb (kindAt s p) kindClr || eqb (kindAt s p) kindRun) || (ltb 0 (itemCount s p) || ltb 0 (referenceCount s p))
+
+-- what is noted of the record at p, and of statement i: the place, to which 2 ^ 32 is added if the statement does something to masks
+
+unfoldable pub wordAt : List ℕ → ℕ → ℕ
+wordAt s p = cond (actsAt s p) (p + 2 ^ 32) p
+
+abbrev pub notedWord : List ℕ → ℕ → ℕ
+notedWord s i = wordAt s (recordPlace s i)
 
 -- the lines of a call, of which GOSUB has one, and where it goes on
 
@@ -42,11 +55,32 @@ abbrev pub lineEntryOf : Option ℕ → LineEntry
 lineEntryOf none = E.the-variants.Nothing
 lineEntryOf (some t) = E.the-variants.At (record { 0 = t })
 
--- r of the file's FL records have lines below l, and the others have not
-pub record LineRank (s : List ℕ) (l r : ℕ) : Type 0 where
-  pub all : r ≤ lineCount s
-  pub below : (j : ℕ) → j < r → lineNumber s j < l
-  pub above : (j : ℕ) → r ≤ j → j < lineCount s → l ≤ lineNumber s j
+-- of the file's FL records from `first` to below `end`, those below r have lines below l, and the others have not
+pub record LineRank (s : List ℕ) (first end l r : ℕ) : Type 0 where
+  pub from : first ≤ r
+  pub all : r ≤ end
+  pub below : (j : ℕ) → first ≤ j → j < r → lineNumber s j < l
+  pub above : (j : ℕ) → r ≤ j → j < end → l ≤ lineNumber s j
+
+-- the part, of n, that a line falls into
+abbrev pub partOf : ℕ → ℕ → ℕ
+partOf n l = l * n / 65536
+
+-- the word of part k says where its records stand among the first r FL records: from its lower 16 bits to below its upper ones
+pub record LinePart (s : List ℕ) (n r k word : ℕ) : Type 0 where
+  pub some : word % 65536 ≤ word / 65536
+  pub all : word / 65536 ≤ r
+  pub holds : (j : ℕ) → j < r → partOf n (lineNumber s j) ≡ k → (word % 65536 ≤ j) × (j < word / 65536)
+
+abbrev pub LineParts : List ℕ → List ℕ → ℕ → ℕ → ℕ → Type 0
+LineParts s ws base n r = (k : ℕ) → k < n → LinePart s n r k (getD ws (base + k) 0)
+
+-- they are noted, and nothing else is written
+pub record PartsNoted (s ws vs : List ℕ) (base n r : ℕ) : Type 0 where
+  pub size : length vs ≡ length ws
+  pub below : (x : ℕ) → x < base → getD vs x 0 ≡ getD ws x 0
+  pub above : (x : ℕ) → base + n ≤ x → getD vs x 0 ≡ getD ws x 0
+  pub parts : LineParts s vs base n r
 
 -- Sets of arrays as words: array a is bit a % 64 of word a / 64
 

@@ -1,26 +1,29 @@
--- The work area of a flow of n statements: offsets, calls, bodies, the matrix of statement sets, the queue, the row of entered statements, and the words of the
+-- The work area of a flow of n statements: offsets, parts of the lines, calls, bodies, the matrix of statement sets, the queue, the row of entered statements, and the words of the
 -- solver, whose layout is crate solve's. The matrix has n rows of `rowWords n` words; all fits into 64 × n words. Each phase writes one run of words, so that
 -- what it keeps is an interval.
-use Prim.Native.Nat.{ℕ, _+_, _*_, _/_}
+use Prim.Native.Nat.{ℕ, _+_, _-_, _*_, _/_}
 use Rattle.flow.specs.Limits.{maxArrays}
 
 abbrev pub offsetsAt : ℕ → ℕ
 offsetsAt n = 0
 
+abbrev pub linesAt : ℕ → ℕ
+linesAt n = n
+
 abbrev pub callsAt : ℕ → ℕ
-callsAt n = n
+callsAt n = 2 * n
 
 abbrev pub callTouchedAt : ℕ → ℕ
-callTouchedAt n = 2 * n
+callTouchedAt n = 3 * n
 
 abbrev pub bodiesAt : ℕ → ℕ
-bodiesAt n = 3 * n
+bodiesAt n = 4 * n
 
 abbrev pub touchedAt : ℕ → ℕ
-touchedAt n = 4 * n
+touchedAt n = 5 * n
 
 abbrev pub matrixAt : ℕ → ℕ
-matrixAt n = 5 * n
+matrixAt n = 6 * n
 
 -- words of a row of statements
 unfoldable pub rowWords : ℕ → ℕ
@@ -49,9 +52,9 @@ solverAt n = queueAt n + 3 * n
 abbrev pub returnsRowAt : ℕ → ℕ
 returnsRowAt n = solverAt n
 
--- words of a set of arrays, and the most that there may be
+-- words of a set of arrays, one at the least, and the most that there may be
 abbrev pub setWords : ℕ → ℕ
-setWords arrays = (arrays + 63) / 64
+setWords arrays = (arrays - 1) / 64 + 1
 
 abbrev pub maxWidth : ℕ
 maxWidth = setWords maxArrays

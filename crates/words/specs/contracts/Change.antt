@@ -43,9 +43,6 @@ rewritten f ws base (suc k) = set (rewritten f ws base k) (base + k) (f (rewritt
 unfoldable pub unioned : List ℕ → ℕ → ℕ → ℕ → List ℕ
 unioned ws to from width = rewritten (λ vs k. bitOr (getD vs (to + k) 0) (getD vs (from + k) 0)) ws to width
 
-unfoldable pub intersected : List ℕ → ℕ → ℕ → ℕ → ℕ → List ℕ
-intersected ws to a b width = rewritten (λ vs k. bitAnd (getD vs (a + k) 0) (getD vs (b + k) 0)) ws to width
-
 -- no word of the row at `from` is written before it is read: so it is where the rows are one, are apart, or `to` is the lower
 abbrev pub ReadFirst : ℕ → ℕ → ℕ → Type 0
 ReadFirst to from width = (j k : ℕ) → j < k → k < width → from + k ≢ to + j

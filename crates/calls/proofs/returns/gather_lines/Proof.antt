@@ -1,23 +1,18 @@
--- `gather_lines` meets its contract: the row of entered statements is zeroed, the bodies' walks join it, and it is cut to the RETURNs.
--- By the laws of `Adds` and `Gathers`. Assumes nothing.
-use Prim.Native.Nat.{ℕ, _+_, _≤_}
-use mathlib.Core.Bool.{true}
-use mathlib.Core.Path.{_≡_, subst}
+-- `gather_lines` meets its contract: the row of entered statements is zeroed, the bodies' walks join it, which lies above the matrix.
+-- By the laws of `Adds`. Assumes nothing.
+use Prim.Native.Nat.{_+_, _≤_}
+use mathlib.Core.Logic.{inl}
 use native.Mathlib.Omega.{arith}
 use borrow.Author.Needs.{needs}
 use denote.Ref.{now}
 use lib.ListN.{length}
-use Rattle.words.specs.contracts.Change.{intersected}
 use Rattle.flow.specs.Format.{flowOf}
 use Rattle.theory.specs.Body.{entered}
-use Rattle.statements.specs.contracts.Layout.{rowWords, enteredRowAt, solverAt, returnsRowAt}
+use Rattle.statements.specs.contracts.Layout.{callsAt, rowWords, enteredRowAt, solverAt}
 use Rattle.statements.specs.contracts.Ready.{Keeps}
 use Rattle.statements.proofs.WorkArea.{row-from, row-words-le}
 use Rattle.statements.proofs.Keeps.{keeps-trans, keeps-widen, indexed-keeps, ready-most, ready-room, ready-formed, ready-size}
-use Rattle.calls.specs.contracts.Held.{Empty}
-use Rattle.calls.specs.contracts.Joins.{Adds, bodiesOf}
-use Rattle.calls.proofs.Gathered.{rows-stay, gathers, lines-gathered}
-use Rattle.calls.proofs.ReturnSet.{return-set-stays}
+use Rattle.calls.proofs.Gathered.{rows-stay, lines-gathered}
 use Rattle.calls.proofs.returns.gather_lines.Statement.{statement}
 use Rattle.calls.proofs.returns.gather_lines.Tie as tie
 
@@ -40,7 +35,7 @@ add-lines-requires c κs =
     let p = start .pre in
     let n = start .args .h .statements in
     let kept = c .before .before .before .zero-row .ensures .1 in
-    let low : n ≤ row .entered-row .result = omega (arith, row .entered-row .ensures, row-from n n) in (
+    let low : callsAt n ≤ row .entered-row .result = omega (arith, row .entered-row .ensures, row-from n n) in (
       indexed-keeps (p .0) kept low,
       p .1,
       record { low = low; high = omega (arith, inside row, kept .size); apart = λ w. omega (arith, row .entered-row .ensures) },
@@ -60,51 +55,19 @@ module _ (c : tie.After-add-lines) where
       let n = start .args .h .statements in
       keeps-widen (omega (arith, row .entered-row .ensures)) (omega (arith, row .entered-row .ensures, row-words-le n)) (keeps-trans (c .before .before .before .before .zero-row .ensures .1) (c .add-lines .ensures .kept))
 
-  room : solverAt (start .args .h .statements) + start .args .h .statements ≤ length (c .add-lines .last .1 .1 .0)
-  room = omega (arith, kept .size, ready-room (start .pre .0 .ready) (omega arith))
-
-returns-row-requires : tie.Need-returns-row-requires
-returns-row-requires c κs = ready-most (start (c .before .before .before) .pre .0 .ready)
-
-row-words-requires : tie.Need-row-words-requires
-row-words-requires c κs = ready-most (start (c .before .before .before .before) .pre .0 .ready)
-
-intersect-requires : tie.Need-intersect-requires
-intersect-requires c κs =
-    let d = c .before .before .before .before .before in
-    let words = c .row-words .ensures in
-    let least = row-words-le (start d .args .h .statements) in
-    let low : row d .entered-row .result + c .row-words .result ≤ length (d .add-lines .last .1 .1 .0) = omega (arith, room d, row d .entered-row .ensures) in
-    (low, low, omega (arith, room d, c .before .returns-row .ensures))
-
 same-length : tie.Need-same-length
 same-length c = search needs
 
 returns : tie.Need-returns
 returns c =
-    let d = c .before .before .before .before .before .before .before .before in
+    let d = c .before .before in
     let a = start d .args in
-    let f = flowOf (now (a .file)) in
-    let n = a .h .statements in
-    let us = d .before .before .before .before .zero-row .last .0 in
-    let vs = d .add-lines .last .1 .1 .0 in
-    let bs = entered f (a .c .0) in
-    let e = row d .entered-row .ensures in
-    let cut : c .before .before .intersect .last .0 ≡ intersected vs (enteredRowAt n) (enteredRowAt n) (returnsRowAt n) (rowWords n) =
-    cc (c .before .before .intersect .ensures, e, c .before .before .before .before .returns-row .ensures, c .before .before .before .row-words .ensures) in
-    gathers f n (enteredRowAt n) bs (kept d) (return-set-stays (kept d) (omega arith) (start d .pre .3)) (omega (arith, room d)) (λ i j x y z. omega arith) cut
-    (lines-gathered f bs (subst (λ (x : ℕ). Empty us n x) e (d .before .before .before .before .zero-row .ensures .0))
-    (subst (λ (x : ℕ). Adds x us vs n (bodiesOf f true bs)) e (d .add-lines .ensures)))
+    let size = kept d .size in
+    let f = flowOf (now (a .file)) in record {
+      kept = kept d;
+      apart = record { room = omega (arith, inside (row d)); place = inl (omega (arith, row d .entered-row .ensures)) };
+      holds = lines-gathered f (entered f (a .c .0)) (d .before .before .before .before .zero-row .ensures .0) (d .add-lines .ensures);
+    }
 
 pub gather-lines-spec : {M : Type 1} → statement M
-gather-lines-spec =
-    tie.close
-    (tie.spec
-    entered-row-requires
-    zero-row-requires
-    add-lines-requires
-    returns-row-requires
-    row-words-requires
-    intersect-requires
-    same-length
-    returns)
+gather-lines-spec = tie.close (tie.spec entered-row-requires zero-row-requires add-lines-requires same-length returns)

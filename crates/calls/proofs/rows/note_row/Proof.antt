@@ -11,12 +11,13 @@ use lib.ListN.{getD, length}
 use Rattle.flow.specs.Format.{flowOf}
 use Rattle.theory.specs.Body.{entered}
 use Rattle.theory.proofs.Lists.{clash}
-use Rattle.statements.specs.contracts.Layout.{rowWords}
+use Rattle.statements.specs.contracts.Layout.{callsAt, rowAt, rowWords}
 use Rattle.statements.specs.contracts.Ready.{Keeps}
 use Rattle.statements.proofs.WorkArea.{row-from, row-fits}
-use Rattle.statements.proofs.Keeps.{indexed-keeps, ready-most, ready-room}
+use Rattle.statements.proofs.Keeps.{keeps-trans, indexed-keeps, ready-most, ready-room}
 use Rattle.calls.specs.contracts.Held.{Empty}
 use Rattle.calls.specs.contracts.Joins.{Adds}
+use Rattle.calls.proofs.Joined.{adds-all}
 use Rattle.calls.proofs.Gathered.{bodies-alone}
 use Rattle.calls.proofs.CallRows.{notes-skip, notes-row}
 use Rattle.calls.proofs.rows.note_row.Statement.{statement}
@@ -57,7 +58,7 @@ add-lines-requires c κs =
     let start = row .before .before .before .before .before .before .before in
     let n = start .args .h .statements in
     let kept = c .before .before .before .zero-row .ensures .1 in
-    let low : n ≤ row .row .result = omega (arith, row .row .ensures, row-from n (start .args .i .0)) in
+    let low : callsAt n ≤ row .row .result = omega (arith, row .row .ensures, row-from n (start .args .i .0)) in
     (indexed-keeps (start .pre .0) kept low, start .pre .1, record { low = low; high = omega (arith, inside row, kept .size); apart = λ w. clash false w refl }, λ w. clash false w refl)
 
 same-length : tie.Need-same-length
@@ -78,8 +79,8 @@ returns-2 c =
     let e = row .row .ensures in
     let zeroed = c .before .before .before .before .before .before .zero-row .ensures in
     let state = sym (ap (λ (b : ℕ). getD ws (b + i) 0) (calls .calls .ensures)) ∙ row .before .if1 .left in
-    notes-row (start .pre .1) state (subst (λ (x : ℕ). Empty us n x) e (zeroed .0)) (subst (λ (x : ℕ). Keeps x (x + rowWords n) ws us) e (zeroed .1))
-    (subst₂ (λ (x : ℕ) (xs : List ℕ). Adds x us vs n xs) e (bodies-alone f (entered f i)) (c .before .before .add-lines .ensures))
+    let adds : Adds (rowAt n i) us vs n (entered f i) = subst₂ (λ (x : ℕ) (xs : List ℕ). Adds x us vs n xs) e (bodies-alone f (entered f i)) (c .before .before .add-lines .ensures) in
+    notes-row (start .pre .1) state (keeps-trans (subst (λ (x : ℕ). Keeps x (x + rowWords n) ws us) e (zeroed .1)) (adds .kept)) (adds-all (subst (λ (x : ℕ). Empty us n x) e (zeroed .0)) adds)
 
 pub note-row-spec : {M : Type 1} → statement M
 note-row-spec =

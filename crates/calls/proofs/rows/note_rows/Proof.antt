@@ -1,18 +1,18 @@
 -- `note_rows` meets its contract. The invariant: the rows of the transparent calls before i are noted. The measure is how many statements are left.
 -- By the laws of `Notes`. Assumes nothing.
 use Prim.Native.Nat.{ℕ, _-_, _≤_}
-use mathlib.Core.Path.{_≡_, subst}
+use mathlib.Core.Path.{_≡_, sym, _∙_, subst}
 use native.Mathlib.Omega.{arith}
 use denote.Ref.{now}
 use Rattle.flow.specs.Format.{flowOf}
 use Rattle.statements.proofs.Keeps.{indexed-keeps}
-use Rattle.calls.specs.contracts.Joins.{Notes}
+use Rattle.calls.specs.contracts.Joins.{NotesCalls}
 use Rattle.calls.proofs.CallRows.{notes-none, notes-then}
 use Rattle.calls.proofs.rows.note_rows.Statement.{statement}
 use Rattle.calls.proofs.rows.note_rows.Tie as tie
 
 abbrev Inv-loop : tie.InvT-loop
-Inv-loop file h work₀ n i₀ work i = (i ≤ n) × Notes (flowOf file) work₀ work n 0 i
+Inv-loop file h work₀ n i₀ work i = (i ≤ n) × NotesCalls (flowOf file) work₀ work n 0 i
 
 abbrev μ-loop : tie.MeasureT-loop
 μ-loop file h work₀ n i₀ work i = n - i
@@ -33,7 +33,8 @@ loop-less c = omega arith
 
 loop-again : tie.Need-loop-again Inv-loop μ-loop
 loop-again c =
-    (omega arith, notes-then (omega arith) (omega arith) (omega arith) (c .before .before .before .before .before .loop .inv .1) (c .before .before .note-row .ensures))
+    let noted = c .before .before .before .before .before .loop .inv .1 in
+    (omega arith, notes-then (λ s l q. noted .kept .below _ (omega arith) ∙ q) (λ s l q. sym (noted .kept .below _ (omega arith)) ∙ q) (omega arith) (omega arith) (omega arith) noted (c .before .before .note-row .ensures))
 
 same-length : tie.Need-same-length Inv-loop μ-loop
 same-length c = c .before .loop .inv .1 .kept .size
@@ -42,7 +43,7 @@ returns : tie.Need-returns Inv-loop μ-loop
 returns c =
     let a = c .before .before .before .before .args in
     let all : c .before .loop .i ≡ a .h .statements = omega arith in
-    subst (λ (m : ℕ). Notes (flowOf (now (a .file))) (now (a .work)) (c .before .loop .work) (a .h .statements) 0 m) all (c .before .loop .inv .1)
+    subst (λ (m : ℕ). NotesCalls (flowOf (now (a .file))) (now (a .work)) (c .before .loop .work) (a .h .statements) 0 m) all (c .before .loop .inv .1)
 
 pub note-rows-spec : {M : Type 1} → statement M
 note-rows-spec =

@@ -17,8 +17,8 @@ use Rattle.theory.specs.Body.{kind, callLines, continuationOf, callees, Walks}
 use Rattle.statements.specs.contracts.Layout.{matrixAt, callsAt, bodiesAt}
 use Rattle.statements.specs.contracts.Ready.{Ready}
 use Rattle.statements.proofs.Keeps.{ready-keeps, ready-most, ready-size, ready-formed}
-use Rattle.calls.specs.contracts.Summing.{OnwardBut, Leads, Awaits, Opened, Entered, BodySummed, CallSummed}
-use Rattle.calls.proofs.Checked.{enters-at, enters-nothing, ready-again}
+use Rattle.calls.specs.contracts.Summing.{OnwardBut, Leads, Located, Awaits, Opened, Entered, BodySummed, CallSummed}
+use Rattle.calls.proofs.Checked.{enters-at, enters-nothing, ready-again, located-keeps}
 use Rattle.calls.proofs.Summing.{onward-refl, onward-trans, onward-but, callee-low}
 use Rattle.calls.proofs.BodySummary.{BodyLoop, PassedBelow, body-next, passed-none, body-turn, body-done, body-leads, next-low}
 use Rattle.calls.proofs.CallSummary.{CallLoop, call-first, call-nothing, call-line, call-done, leads-onward, line-callee}
@@ -104,16 +104,16 @@ sub-claims t = (
 )
 
 abbrev call-summary-Inv-loop : call-summary-lts.InvT-loop
-call-summary-Inv-loop file work₀ lines-at lines c count opaque₀ k₀ work opaque k = CallLoop (flowOf file) work₀ work (statementsOf file) (c .0) opaque k
+call-summary-Inv-loop file work₀ lines-at c count opaque₀ k₀ work opaque k = CallLoop (flowOf file) work₀ work (statementsOf file) (c .0) opaque k
 
 abbrev call-summary-μ-loop : call-summary-lts.MeasureT-loop
-call-summary-μ-loop file work₀ lines-at lines c count opaque₀ k₀ work opaque k = count - k
+call-summary-μ-loop file work₀ lines-at c count opaque₀ k₀ work opaque k = count - k
 
 abbrev sub-effect-Inv-loop : sub-effect-lts.InvT-loop
-sub-effect-Inv-loop file work₀ lines-at lines e opaque₀ i₀ work opaque i = BodyLoop (flowOf file) work₀ work (statementsOf file) (e .0) opaque i
+sub-effect-Inv-loop file work₀ lines-at e opaque₀ i₀ work opaque i = BodyLoop (flowOf file) work₀ work (statementsOf file) (e .0) opaque i
 
 abbrev sub-effect-μ-loop : sub-effect-lts.MeasureT-loop
-sub-effect-μ-loop file work₀ lines-at lines e opaque₀ i₀ work opaque i = statementsOf file - i
+sub-effect-μ-loop file work₀ lines-at e opaque₀ i₀ work opaque i = statementsOf file - i
 
 -- call_summary
 
@@ -165,8 +165,11 @@ module _ (t : ℕ) (c : call-summary-lts.In-loop (call-claims t) (call-summary-a
   call-inside : c .before .loop .k < length (call-lines t call-begun)
   call-inside = omega (arith, c .loop-test .taken, call-begun .line-count .ensures)
 
+  call-located : Located (call-start t call-begun .args .file .now) (c .before .loop .work) (call-start t call-begun .args .lines-at)
+  call-located = located-keeps (call-start t call-begun .pre .1 .0) (c .before .loop .inv .onward .keeps) (omega arith)
+
   call-ready : Ready (call-start t call-begun .args .file .now) (c .before .loop .work) (call-n t call-begun)
-  call-ready = ready-keeps (call-start t call-begun .pre .1 .0 .ready) (c .before .loop .inv .onward .keeps) (omega arith)
+  call-ready = call-located .ready
 
 -- a line enters b
 module _ (t : ℕ) (c : call-summary-lts.After-b (call-claims t) (call-summary-at t) call-summary.Post call-summary-Inv-loop call-summary-μ-loop) where
@@ -191,7 +194,7 @@ module _ (t : ℕ) (c : call-summary-lts.After-b (call-claims t) (call-summary-a
 call-summary-entered-requires : (t : ℕ) → call-summary-lts.Need-entered-requires (call-claims t) (call-summary-at t) call-summary.Post call-summary-Inv-loop call-summary-μ-loop
 call-summary-entered-requires t c κs =
     let p = call-start t (call-begun t (c .before)) .pre .1 in
-    (record { ready = call-ready t (c .before); lines = p .0 .lines }, p .1, call-inside t (c .before))
+    (call-located t (c .before), p .1, call-inside t (c .before))
 
 call-summary-enum-known-b : (t : ℕ) → call-summary-lts.Need-enum-known-b (call-claims t) (call-summary-at t) call-summary.Post call-summary-Inv-loop call-summary-μ-loop
 call-summary-enum-known-b t c = search needs
@@ -202,7 +205,7 @@ call-summary-sub-effect-requires t c κs =
     let turn = call-turn t d in
     let s = from t d in
     let less : 2 * unenteredCount (turn .before .loop .work) (call-n t (call-begun t turn)) < t = omega (arith, s .pre .0, unentered-le (turn .before .loop .inv .onward)) in
-    (less, (record { ready = call-ready t turn; lines = s .pre .1 .0 .lines }, callee-below t d, turn .before .loop .inv .summing, call-leads t d))
+    (less, (call-located t turn, callee-below t d, turn .before .loop .inv .summing, call-leads t d))
 
 call-summary-join-body-requires : (t : ℕ) → call-summary-lts.Need-join-body-requires (call-claims t) (call-summary-at t) call-summary.Post call-summary-Inv-loop call-summary-μ-loop
 call-summary-join-body-requires t c κs =
@@ -250,7 +253,7 @@ module _ (t : ℕ) (c : call-summary-lts.After-calls (call-claims t) (call-summa
   call-passed = c .before .before .before .before
 
   call-place : c .calls .result ≡ callsAt (call-n t (call-passed .before))
-  call-place = c .calls .ensures ∙ c .before .statement-count2 .ensures .0
+  call-place = c .calls .ensures ∙ ap callsAt (c .before .statement-count2 .ensures .0)
 
   call-room : matrixAt (call-n t (call-passed .before)) ≤ length (call-passed .loop .work)
   call-room = omega (arith, call-start t (call-passed .before) .pre .1 .0 .ready .room, call-passed .loop .inv .onward .keeps .size)
@@ -335,8 +338,11 @@ module _ (t : ℕ) (c : sub-effect-lts.Then2 (sub-claims t) (sub-effect-at t) su
   turn-onward : OnwardBut (given .args .e .0) (given .args .work .now) (c .before .before .loop .work) (n t turn-opened)
   turn-onward = onward-trans (body-opened t turn-opened .onward) (onward-but (given .args .e .0) (c .before .before .loop .inv .below .onward))
 
+  turn-located : Located (given .args .file .now) (c .before .before .loop .work) (given .args .lines-at)
+  turn-located = located-keeps (given .pre .1 .0) (turn-onward .keeps) (omega arith)
+
   turn-ready : Ready (given .args .file .now) (c .before .before .loop .work) (n t turn-opened)
-  turn-ready = ready-keeps (given .pre .1 .0 .ready) (turn-onward .keeps) (omega arith)
+  turn-ready = turn-located .ready
 
 sub-effect-call-summary-requires : (t : ℕ) → sub-effect-lts.Need-call-summary-requires (sub-claims t) (sub-effect-at t) sub-effect.Post sub-effect-Inv-loop sub-effect-μ-loop
 sub-effect-call-summary-requires t c κs =
@@ -347,7 +353,7 @@ sub-effect-call-summary-requires t c κs =
     let less : 2 * unenteredCount (turn .before .before .loop .work) (n t d) + 1 < t =
     omega (arith, s .pre .0, unentered-le (p .onward), unentered-falls (body-opened t d .onward) (s .pre .1 .1) (body-opened t d .was) (body-opened t d .is))
     in
-    (less, (record { ready = turn-ready t turn; lines = s .pre .1 .0 .lines }, turn-below t turn, p .summing, λ b m. body-leads (turn-onward t turn) (s .pre .1 .3) (on-walk t turn) m))
+    (less, (turn-located t turn, turn-below t turn, p .summing, λ b m. body-leads (turn-onward t turn) (s .pre .1 .3) (on-walk t turn) m))
 
 sub-effect-pass-by-requires : (t : ℕ) → sub-effect-lts.Need-pass-by-requires (sub-claims t) (sub-effect-at t) sub-effect.Post sub-effect-Inv-loop sub-effect-μ-loop
 sub-effect-pass-by-requires t c κs =
@@ -401,7 +407,7 @@ module _ (t : ℕ) (c : sub-effect-lts.After-bodies (sub-claims t) (sub-effect-a
   walk-opened = walk-passed .before .before .before
 
   body-place : c .bodies .result ≡ bodiesAt (n t walk-opened)
-  body-place = c .bodies .ensures ∙ ap (_*_ 3) (c .before .statement-count2 .ensures .0)
+  body-place = c .bodies .ensures ∙ ap bodiesAt (c .before .statement-count2 .ensures .0)
 
   body-size : length (walk-passed .loop .work) ≡ length (entry t walk-opened .args .work .now)
   body-size = walk-passed .loop .inv .below .onward .keeps .size ∙ body-opened t walk-opened .onward .keeps .size

@@ -5,6 +5,7 @@ use mathlib.Core.Path.{sym, ap, _∙_}
 use borrow.Author.Needs.{needs}
 use denote.Ref.{now}
 use lib.ListN.{getD}
+use Rattle.statements.specs.contracts.Layout.{callsAt}
 use Rattle.calls.proofs.Checked.{continues-to, continues-nowhere, ready-again}
 use Rattle.calls.proofs.Summaries.{none-some}
 use Rattle.calls.proofs.summary.awaits.Statement.{statement}
@@ -28,7 +29,7 @@ shared-slice-read-if1 c = search needs
 returns : tie.Need-returns
 returns c =
     let a = c .before .before .before .before .before .before .before .args in
-    λ k e q. c .if1 .taken (ap (λ (x : ℕ). getD (now (a .work)) (x + a .c .0) 0) (c .before .before .before .calls .ensures ∙ c .before .before .before .before .statement-count .ensures .0) ∙ q)
+    λ k e q. c .if1 .taken (ap (λ (x : ℕ). getD (now (a .work)) (x + a .c .0) 0) (c .before .before .before .calls .ensures ∙ ap callsAt (c .before .before .before .before .statement-count .ensures .0)) ∙ q)
 
 continuation-requires : tie.Need-continuation-requires
 continuation-requires c κs =

@@ -1,21 +1,23 @@
--- `enter` meets its contract: the body was entered before, is a RETURN, or is opened and its walk put into its row.
+-- `enter` meets its contract: the body was entered before, is a RETURN, or is opened and its walk put into its row, which is zeroed first.
 -- By the laws of bodies. Assumes nothing.
-use Prim.Native.Nat.{ℕ, _+_, _*_, _≤_}
+use Prim.Native.Nat.{ℕ, _+_, _<_, _≤_}
 use mathlib.Core.List.{List}
-use mathlib.Core.Path.{_≡_, sym, ap, _∙_, subst, subst₂}
+use mathlib.Core.Path.{_≡_, sym, ap, _∙_, subst}
 use native.Mathlib.Omega.{arith}
 use borrow.Author.Needs.{needs}
 use denote.Ref.{now}
 use lib.ListN.{length, getD, set}
 use Rattle.flow.specs.Format.{flowOf, statementsOf}
-use Rattle.statements.specs.contracts.Layout.{bodiesAt, matrixAt}
-use Rattle.statements.specs.contracts.Ready.{Ready}
-use Rattle.statements.proofs.Keeps.{ready-keeps, keeps-set, ready-formed, ready-size}
-use Rattle.calls.specs.contracts.Held.{unentered, opened, transparent, EmptyRow, Walked}
+use Rattle.statements.specs.contracts.Layout.{bodiesAt, matrixAt, rowAt, rowWords}
+use Rattle.statements.specs.contracts.Ready.{Ready, Keeps}
+use Rattle.statements.proofs.WorkArea.{row-from, row-fits}
+use Rattle.statements.proofs.Keeps.{ready-keeps, ready-most, ready-room, keeps-set, ready-formed, ready-size}
+use Rattle.calls.specs.contracts.Held.{opened, transparent, Empty, EmptyRow, Walked}
 use Rattle.calls.specs.contracts.Summing.{body, OnwardBut, BodySummed}
 use Rattle.calls.proofs.Checked.{ready-again}
-use Rattle.calls.proofs.Summing.{onward-refl, body-open, onward-open, summing-open, rows-set}
-use Rattle.calls.proofs.BodySummary.{return-done, unentered-row}
+use Rattle.calls.proofs.Walking.{walked-after}
+use Rattle.calls.proofs.Summing.{onward-refl, body-open, onward-open, summing-open}
+use Rattle.calls.proofs.BodySummary.{return-done}
 use Rattle.calls.proofs.summary.enter.Statement.{statement}
 use Rattle.calls.proofs.summary.enter.Tie as tie
 
@@ -37,7 +39,7 @@ module _ (c : tie.After-bodies) where
   ws = now (start .args .work)
 
   place : c .bodies .result ≡ bodiesAt n
-  place = c .bodies .ensures ∙ ap (_*_ 3) (c .before .statement-count .ensures .0)
+  place = c .bodies .ensures ∙ ap bodiesAt (c .before .statement-count .ensures .0)
 
   state : getD ws (c .bodies .result + start .args .e .0) 0 ≡ body ws n (start .args .e .0)
   state = ap (λ (x : ℕ). getD ws (x + start .args .e .0) 0) place
@@ -93,42 +95,69 @@ mul-work-2 c = search needs
 slice-write-work-2 : tie.Need-slice-write-work-2
 slice-write-work-2 c = search needs
 
+row-requires : tie.Need-row-requires
+row-requires c κs = search needs
+
 -- it is opened
-module _ (c : tie.After-bodies) (was : body (ws c) (n c) (start c .args .e .0) ≡ unentered) where
+module _ (c : tie.After-bodies) where
   abbrev opens : List ℕ
   opens = set (ws c) (c .bodies .result + start c .args .e .0) opened
 
-  ready : Ready (now (start c .args .file)) opens (n c)
-  ready = ready-keeps {lo = n c} {hi = matrixAt (n c)} (start c .pre .0) (keeps-set (ws c) _ opened (omega (arith, place c)) (omega (arith, place c, start c .pre .1))) (omega arith)
+  opens-keeps : Keeps (n c) (matrixAt (n c)) (ws c) opens
+  opens-keeps = keeps-set (ws c) _ opened (omega (arith, place c)) (omega (arith, place c, start c .pre .1))
 
-  empty : EmptyRow opens (n c) (start c .args .e .0)
-  empty i l =
-      rows-set (ws c) (c .bodies .result + start c .args .e .0) opened (omega (arith, place c)) (omega (arith, place c, start c .pre .1)) (start c .args .e .0) i
-      ∙ unentered-row was (start c .pre .2 .bodies (start c .args .e .0) (start c .pre .1)) i l
+zero-row-requires : tie.Need-zero-row-requires
+zero-row-requires c κs =
+    let b = c .before .before .before .before .before .before .before .before in
+    let count = b .before .statement-count .ensures .0 in
+    let r = ready-again count (start b .pre .0) in
+    let l : start b .args .e .0 < b .before .statement-count .result = omega (arith, count, start b .pre .1) in
+    (ready-most r, omega (arith, c .row .ensures, row-fits _ l, ready-room r (omega arith), opens-keeps b .size))
+
+-- its row is zeroed
+module _ (c : tie.After-zero-row) where
+  abbrev at : tie.After-bodies
+  at = c .before .before .before .before .before .before .before .before .before
+
+  abbrev e : ℕ
+  e = start at .args .e .0
+
+  abbrev zeroed : List ℕ
+  zeroed = c .zero-row .last .0
+
+  emptied : EmptyRow zeroed (n at) e × Keeps (rowAt (n at) e) (rowAt (n at) e + rowWords (n at)) (opens at) zeroed
+  emptied =
+      subst (λ (m : ℕ). EmptyRow zeroed m e × Keeps (rowAt m e) (rowAt m e + rowWords m) (opens at) zeroed) (at .before .statement-count .ensures .0)
+      (subst (λ (x : ℕ). Empty zeroed (at .before .statement-count .result) x × Keeps x (x + rowWords (at .before .statement-count .result)) (opens at) zeroed) (c .before .row .ensures) (c .zero-row .ensures))
+
+  ready : Ready (now (start at .args .file)) zeroed (n at)
+  ready = ready-keeps (ready-keeps (start at .pre .0) (opens-keeps at) (omega arith)) (emptied .1) (omega (arith, row-from (n at) e))
 
 walk-requires : tie.Need-walk-requires
 walk-requires c κs =
-    let unent = c .before .before .before .before in
-    let b = unent .before .before .before in
-    let e = b .before .statement-count .ensures .0 in
-    let was = sym (state b) ∙ unent .if1 .left in
-    (ready-again e (ready b was), rw e (start b .pre .1), rw e (empty b was))
+    let d = c .before .before .before in
+    let count = at d .before .statement-count .ensures .0 in
+    (ready-again count (ready d), rw count (start (at d) .pre .1), rw count (emptied d .0))
 
 -- its walk is in its row
 module _ (c : tie.After-walk) where
-  abbrev at : tie.After-bodies
-  at = c .before .before .before .before .before .before .before .before
+  abbrev cleared : tie.After-zero-row
+  cleared = c .before .before .before .before
+
+  abbrev from : tie.After-bodies
+  from = at cleared
 
   abbrev walked : List ℕ
   walked = c .walk .last .1 .0
 
-  is-walked : Walked (flowOf (now (start at .args .file))) (set (ws at) (bodiesAt (n at) + start at .args .e .0) opened) walked (n at) (start at .args .e .0)
+  is-walked : Walked (flowOf (now (start from .args .file))) (set (ws from) (bodiesAt (n from) + e cleared) opened) walked (n from) (e cleared)
   is-walked =
-      subst₂ (λ (x m : ℕ). Walked (flowOf (now (start at .args .file))) (set (ws at) (x + start at .args .e .0) opened) walked m (start at .args .e .0)) (place at) (at .before .statement-count .ensures .0)
-      (c .walk .ensures)
+      subst (λ (x : ℕ). Walked (flowOf (now (start from .args .file))) (set (ws from) (x + e cleared) opened) walked (n from) (e cleared)) (place from)
+      (walked-after (start from .pre .1) (emptied cleared .1)
+      (subst (λ (m : ℕ). Walked (flowOf (now (start from .args .file))) (zeroed cleared) walked m (e cleared)) (from .before .statement-count .ensures .0) (c .walk .ensures)))
 
-  onward : OnwardBut (start at .args .e .0) (ws at) walked (n at)
-  onward = let r = start at .pre .0 in onward-open (ready-formed r) (ready-size r) (start at .pre .2) (room at) (start at .pre .1) is-walked
+  onward : OnwardBut (e cleared) (ws from) walked (n from)
+  onward = let r = start from .pre .0 in onward-open (ready-formed r) (ready-size r) (start from .pre .2) (room from) (start from .pre .1) is-walked
 
 same-length-2 : tie.Need-same-length-2
 same-length-2 c = onward (c .before .before) .keeps .size
@@ -136,11 +165,11 @@ same-length-2 c = onward (c .before .before) .keeps .size
 returns-3 : tie.Need-returns-3
 returns-3 c =
     let d = c .before .before in
-    let b = at d in
+    let b = from d in
     let r = start b .pre .0 in
-    let unent = d .before .before .before .before .before in
+    let unent = cleared d .before .before .before .before .before .before in
     record {
-      summing = summing-open (ready-formed r) (ready-size r) (start b .pre .2) (room b) (start b .pre .1) (is-walked d) (sym (d .before .before .before .is-return .ensures) ∙ d .before .before .if2 .left);
+      summing = summing-open (ready-formed r) (ready-size r) (start b .pre .2) (room b) (start b .pre .1) (is-walked d);
       onward = onward d;
       was = sym (state b) ∙ unent .if1 .left;
       is = body-open (ready-formed r) (ready-size r) (start b .pre .2) (room b) (start b .pre .1) (is-walked d);
@@ -164,6 +193,8 @@ enter-spec =
     returns-2
     mul-work-2
     slice-write-work-2
+    row-requires
+    zero-row-requires
     walk-requires
     same-length-2
     returns-3)

@@ -8,6 +8,7 @@ use denote.Ref.{now}
 use lib.Dec.{eqb}
 use lib.ListN.{getD}
 use Rattle.words.specs.contracts.Change.{joined}
+use Rattle.statements.specs.contracts.Layout.{callTouchedAt, bodiesAt, touchedAt}
 use Rattle.calls.specs.contracts.Held.{transparent}
 use Rattle.calls.proofs.summary.join_body.Statement.{statement}
 use Rattle.calls.proofs.summary.join_body.Tie as tie
@@ -59,8 +60,8 @@ returns c =
     let e = read .statement-count .ensures .0 in
     record {
       slice = c .before .before .union-word .ensures .slice
-          ∙ ap₂ (λ (x y : ℕ). joined ws (x + a .c .0) (getD ws (y + a .b .0) 0)) (c .before .before .before .before .call-touched .ensures ∙ ap (_*_ 2) e) (c .before .before .before .before .before .before .before .before .touched .ensures ∙ ap (_*_ 4) e);
-      state = ap (λ (x : ℕ). not (eqb (getD ws (x + a .b .0) 0) transparent)) (c .before .before .before .before .before .before .before .before .before .before .before .bodies .ensures ∙ ap (_*_ 3) e);
+          ∙ ap₂ (λ (x y : ℕ). joined ws (x + a .c .0) (getD ws (y + a .b .0) 0)) (c .before .before .before .before .call-touched .ensures ∙ ap callTouchedAt e) (c .before .before .before .before .before .before .before .before .touched .ensures ∙ ap touchedAt e);
+      state = ap (λ (x : ℕ). not (eqb (getD ws (x + a .b .0) 0) transparent)) (c .before .before .before .before .before .before .before .before .before .before .before .bodies .ensures ∙ ap bodiesAt e);
     }
 
 pub join-body-spec : {M : Type 1} → statement M

@@ -9,6 +9,7 @@ use lib.Bits.{bitOr}
 use lib.Dec.{eqb}
 use lib.ListN.{getD}
 use Rattle.words.specs.contracts.Change.{joined}
+use Rattle.statements.specs.contracts.Layout.{callsAt, callTouchedAt, touchedAt}
 use Rattle.calls.specs.contracts.Held.{opaque}
 use Rattle.calls.proofs.Checked.{ready-again}
 use Rattle.calls.proofs.summary.pass_by.Statement.{statement}
@@ -79,8 +80,8 @@ returns c =
       own = refs .result;
       set = refs .ensures;
       slice = c .before .before .union-word .ensures .slice
-          ∙ ap₂ (λ (x y : ℕ). joined ws (x + a .e .0) (bitOr (refs .result) (getD ws (y + a .i .0) 0))) (c .before .before .before .before .touched .ensures ∙ ap (_*_ 4) e) (inner .call-touched .ensures ∙ ap (_*_ 2) e);
-      state = ap₂ (λ (x : ℕ) (b : Bool). eqb (getD ws (x + a .i .0) 0) opaque || b) (found .calls .ensures ∙ e) (wiped .wipes .ensures);
+          ∙ ap₂ (λ (x y : ℕ). joined ws (x + a .e .0) (bitOr (refs .result) (getD ws (y + a .i .0) 0))) (c .before .before .before .before .touched .ensures ∙ ap touchedAt e) (inner .call-touched .ensures ∙ ap callTouchedAt e);
+      state = ap₂ (λ (x : ℕ) (b : Bool). eqb (getD ws (x + a .i .0) 0) opaque || b) (found .calls .ensures ∙ ap callsAt e) (wiped .wipes .ensures);
     }
 
 pub pass-by-spec : {M : Type 1} → statement M

@@ -1,13 +1,12 @@
 -- `calls::summary::summarize_calls` meets its contract. The invariant: the calls below c have their summaries, and no body is open.
 -- So in the end each call's state is that of the definitions.
 use Prim.Native.Nat.{_-_}
-use mathlib.Core.Path.{ap}
 use native.Mathlib.Omega.{arith}
 use denote.Ref.{now}
 use Rattle.words.specs.contracts.Row.{Words}
-use Rattle.flow.specs.declared.Header.{Header}
 use Rattle.flow.specs.Format.{flowOf}
-use Rattle.statements.proofs.Keeps.{ready-keeps, ready-most, ready-size, ready-formed}
+use Rattle.statements.proofs.Keeps.{indexed-keeps, ready-most, ready-size, ready-formed}
+use Rattle.calls.proofs.Checked.{located}
 use Rattle.calls.proofs.Summaries.{SummedBelow, below-first, below-next, summarized, fresh-summing, fresh-shut}
 use Rattle.calls.proofs.summary.summarize_calls.Statement.{statement}
 use Rattle.calls.proofs.summary.summarize_calls.Tie as tie
@@ -25,12 +24,8 @@ call-summary-requires : tie.Need-call-summary-requires Inv-loop μ-loop
 call-summary-requires c κs =
     let s = c .before .before .before .before .before in
     let p = c .before .before .loop .inv .0 in
-    let h = s .pre .0 .header in
     let e = s .pre .0 .ready .count in (
-      record {
-        ready = rw (← e) (ready-keeps (s .pre .0 .ready) (p .onward .keeps) (omega arith));
-        lines = (ap (λ (x : Header). x .«lines_at») h, ap (λ (x : Header). x .lines) h);
-      },
+      located (indexed-keeps (s .pre .0) (p .onward .keeps) (omega arith)),
       rw (← e) (c .before .loop-test .taken),
       rw (← e) (p .summing),
       λ b m. rw (← e) (λ o l q. absurd (fresh-shut (s .pre .1) o l (p .onward .was-open o l (λ z. omega arith) q))),

@@ -34,14 +34,14 @@ loop-holds c = sending-none
 counted : (c : tie.After-successor-count Inv-loop μ-loop) → let a = c .before .before .before .args in c .successor-count .result ≡ length (successors (flowOf (now (a .file))) (a .i .0))
 counted c = c .successor-count .ensures ∙ sym (c .before .before .before .pre .2 .successors .count)
 
-successor-requires : tie.Need-successor-requires Inv-loop μ-loop
-successor-requires c κs = let s = c .before .before .before .before .before in (s .pre .2, omega (arith, counted (c .before .before), c .loop-test .taken))
+successor-at-requires : tie.Need-successor-at-requires Inv-loop μ-loop
+successor-at-requires c κs = let s = c .before .before .before .before .before in (s .pre .2, omega (arith, counted (c .before .before), c .loop-test .taken))
 
 -- the successor at hand is a statement
-below : (c : tie.After-successor Inv-loop μ-loop) → c .successor .result .0 < c .before .before .before .before .before .before .args .n
+below : (c : tie.After-successor-at Inv-loop μ-loop) → c .successor-at .result .0 < c .before .before .before .before .before .before .args .n
 below c =
     let s = c .before .before .before .before .before .before in
-    omega (arith, ready-size (s .pre .1), c .successor .ensures, successor-below (s .pre .1 .fit) (s .args .i .0) (c .before .before .loop .k) (omega (arith, counted (c .before .before .before), c .before .loop-test .taken)))
+    omega (arith, ready-size (s .pre .1), c .successor-at .ensures, successor-below (s .pre .1 .fit) (s .args .i .0) (c .before .before .loop .k) (omega (arith, counted (c .before .before .before), c .before .loop-test .taken)))
 
 node-requires : tie.Need-node-requires Inv-loop μ-loop
 node-requires c κs = (ready-most (c .before .before .before .before .before .before .before .pre .1), below (c .before))
@@ -70,7 +70,7 @@ loop-again c =
     let i = s .args .i .0 in
     let x = plain (at b (getD (successors f i) k 0)) in
     sending-on (c .before .before .before .before .before .before .before .loop .inv) (listed-here f b i k (omega (arith, counted (c .before .before .before .before .before .before .before .before), c .before .before .before .before .before .before .loop-test .taken)))
-    (sent-edge x (ready-size (s .pre .1)) (sources-one (s .args .n) (s .args .width) (s .args .from) (s .pre .4)) refl (c .before .before .before .node .ensures ∙ ap (λ (j : ℕ). numberIn (s .args .n) (at b j)) (c .before .before .before .before .before .successor .ensures)) (c .before .before .push .ensures))
+    (sent-edge x (ready-size (s .pre .1)) (sources-one (s .args .n) (s .args .width) (s .args .from) (s .pre .4)) refl (c .before .before .before .node .ensures ∙ ap (λ (j : ℕ). numberIn (s .args .n) (at b j)) (c .before .before .before .before .before .successor-at .ensures)) (c .before .before .push .ensures))
 
 same-length : tie.Need-same-length Inv-loop μ-loop
 same-length c = c .before .loop .inv .sent .keeps .size
@@ -86,7 +86,7 @@ push-listed-spec =
     μ-loop
     successor-count-requires
     loop-holds
-    successor-requires
+    successor-at-requires
     node-requires
     push-requires
     add-k

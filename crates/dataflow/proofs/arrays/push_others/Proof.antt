@@ -26,8 +26,8 @@ abbrev μ-loop : tie.MeasureT-loop
 loop-holds : tie.Need-loop-holds Inv-loop μ-loop
 loop-holds c = sending-none
 
-successor-requires : tie.Need-successor-requires Inv-loop μ-loop
-successor-requires c κs = let s = c .before .before .before .before in (s .pre .2, omega (arith, s .pre .4 .successors, c .loop-test .taken))
+successor-at-requires : tie.Need-successor-at-requires Inv-loop μ-loop
+successor-at-requires c κs = let s = c .before .before .before .before in (s .pre .2, omega (arith, s .pre .4 .successors, c .loop-test .taken))
 
 push-other-requires : tie.Need-push-other-requires Inv-loop μ-loop
 push-other-requires c κs =
@@ -37,7 +37,7 @@ push-other-requires c κs =
       ready-stays (sent .keeps) (s .pre .1),
       s .pre .3,
       call-stays (sent .keeps) (ready-size (s .pre .1)) (s .pre .3) (s .pre .4),
-      omega (arith, ready-size (s .pre .1), c .before .successor .ensures, successor-below (s .pre .1 .fit) (s .args .i .0) (c .before .before .before .loop .k) (omega (arith, s .pre .4 .successors, c .before .before .loop-test .taken))),
+      omega (arith, ready-size (s .pre .1), c .before .successor-at .ensures, successor-below (s .pre .1 .fit) (s .args .i .0) (c .before .before .before .loop .k) (omega (arith, s .pre .4 .successors, c .before .before .loop-test .taken))),
       (_, sent .waits (s .pre .5 .0) (s .pre .5 .1)),
     )
 
@@ -55,7 +55,7 @@ loop-again c =
     let i = s .args .i .0 in
     let k = s .args .call .continuation .0 in
     sending-on (c .before .before .before .before .before .before .loop .inv) (other-slot f b i k (c .before .before .before .before .before .before .loop .k) (omega (arith, s .pre .4 .successors, c .before .before .before .before .before .loop-test .taken)))
-    (subst (λ (j : ℕ). Sent f (c .before .before .before .before .before .before .loop .work) (c .before .before .push-other .last .1 .0) (s .args .n) (s .args .width) (edgeRow (s .args .n) (s .args .width)) (c .before .before .before .before .before .before .loop .queue) i (optionList (otherSlot f b i k j)) (c .before .before .push-other .result)) (c .before .before .before .before .successor .ensures) (c .before .before .push-other .ensures))
+    (subst (λ (j : ℕ). Sent f (c .before .before .before .before .before .before .loop .work) (c .before .before .push-other .last .1 .0) (s .args .n) (s .args .width) (edgeRow (s .args .n) (s .args .width)) (c .before .before .before .before .before .before .loop .queue) i (optionList (otherSlot f b i k j)) (c .before .before .push-other .result)) (c .before .before .before .before .successor-at .ensures) (c .before .before .push-other .ensures))
 
 same-length : tie.Need-same-length Inv-loop μ-loop
 same-length c = c .before .loop .inv .sent .keeps .size
@@ -70,7 +70,7 @@ push-others-spec =
     Inv-loop
     μ-loop
     loop-holds
-    successor-requires
+    successor-at-requires
     push-other-requires
     add-k
     loop-less

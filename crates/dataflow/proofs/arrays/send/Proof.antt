@@ -54,7 +54,7 @@ returns : tie.Need-returns
 returns c = c .before .before .send-call .ensures
 
 plain-row-requires : tie.Need-plain-row-requires
-plain-row-requires c κs = let s = c .before .before .before .before .before .before .before .before .before .before in (s .pre .0, s .pre .1, s .pre .3, c .before .before .before .before .offset .ensures)
+plain-row-requires c κs = let s = c .before .before .before .before .before .before .before .before .before .before in (s .pre .0, s .pre .1, s .pre .3, c .before .before .before .before .offset .ensures, below (c .before .before .before .before .before .before))
 
 -- while the row is made, only words behind the queue are written
 beside : (c : tie.After-plain-row) → let a = c .before .before .before .before .before .before .before .before .before .before .before .args in Keeps (queueAt (a .h .statements)) (maskRowAt (a .h .statements) (a .width) 0) (now (a .work)) (c .plain-row .last .1 .1 .0)

@@ -7,7 +7,7 @@ use native.Mathlib.Omega.{arith}
 use denote.Ref.{now}
 use Prim.Native.Nat.{ℕ, _<_, _≤_}
 use mathlib.Core.Bool.{Bool, true, false}
-use mathlib.Core.Path.{_≡_, ap, sym, _∙_, subst}
+use mathlib.Core.Path.{_≡_, refl, ap, sym, _∙_, subst}
 use lib.ListN.{length, getD}
 use Rattle.flow.specs.declared.Header.{Header}
 use Rattle.flow.specs.Limits.{workWords, maxStatements, maxArrays}
@@ -56,39 +56,15 @@ judged c b e =
     let k = c .before in
     judging.areas-by _ _ (k .before .before .before .check-file .ensures) (k .before .found .given .1) _ _ _ _ _ (sym (c .areas-fit .ensures) ∙ e)
 
--- the work area is zeroed where they are fit, and only there
-kept : (c : tie.After-zero-if) → c .before .before .before .areas-fit .result ≡ false → c .zero-if .last .0 ≡ now (c .before .before .before .before .before .before .before .before .before .before .before .before .before .args .work)
-kept c e = c .zero-if .ensures ∙ judging.unfit-kept (now (c .before .before .before .before .before .before .before .before .before .before .before .before .before .args .work)) _ _ e
-
-zeroed : (c : tie.After-zero-if) → c .before .before .before .areas-fit .result ≡ true → (x : ℕ) → x < c .before .used-words .result → getD (c .zero-if .last .0) x 0 ≡ 0
-zeroed c e x l =
-    ap (λ v. getD v x 0) (c .zero-if .ensures) ∙ judging.fit-zero (now (c .before .before .before .before .before .before .before .before .before .before .before .before .before .args .work)) _ _ e (omega (arith, c .before .used-words .ensures)) x l
-
-used-words-requires : tie.Need-used-words-requires
-used-words-requires c κs =
-    let k = c .before .before in
-    let l = limited (fits k) in (
-      subst (λ (h : Header). h .statements ≤ maxStatements) (sym (header k)) (l .statements),
-      subst (λ (h : Header). h .arrays ≤ maxArrays) (sym (header k)) (l .arrays),
-    )
-
-zero-if-requires : tie.Need-zero-if-requires
-zero-if-requires c κs = search needs
+returns-2 : tie.Need-returns-2
+returns-2 c =
+    let f = c .before in
+    let a = f .before .before .before .before .before .before .before .before .before .before .args in
+    let unfit = not-true _ (c .if1 .taken) in
+    judging.areas-refused (now (a .file)) (now (a .masks)) (now (a .live-in)) (now (a .live-out)) (now (a .work)) (fits (f .before)) refl (judged f false unfit)
 
 same-length : tie.Need-same-length
 same-length c = search needs
-
-returns-2 : tie.Need-returns-2
-returns-2 c =
-    let f = c .before .before .before .before .before .before in
-    let a = f .before .before .before .before .before .before .before .before .before .before .args in
-    let unfit = not-true _ (c .if1 .taken) in
-    judging.areas-refused (now (a .file)) (now (a .masks)) (now (a .live-in)) (now (a .live-out)) (now (a .work)) (fits (f .before))
-    (kept (c .before .before .before) unfit)
-    (judged f false unfit)
-
-same-length-2 : tie.Need-same-length-2
-same-length-2 c = search needs
 
 zero-row-requires : tie.Need-zero-row-requires
 zero-row-requires c κs = search needs
@@ -96,34 +72,29 @@ zero-row-requires c κs = search needs
 returns-3 : tie.Need-returns-3
 returns-3 c =
     let e = c .before .before .before .before .before in
-    let f = e .before .before .before .before .before .before in
+    let f = e .before in
     let a = f .before .before .before .before .before .before .before .before .before .before .args in
     let fit = not-false _ (e .if1 .left) in
     let none = ap (λ (h : Header). h .statements) (sym (header (f .before))) ∙ c .before .before .before .before .if2 .taken in
     judging.accepting (now (a .file)) (now (a .masks)) _ (now (a .live-in)) _ (now (a .live-out)) _ (now (a .work)) _ 0 (fits (f .before))
     (judging.judged-fit (now (a .file)) (now (a .masks)) (now (a .live-in)) (now (a .live-out)) (now (a .work)) (fits (f .before)) (judged f true fit))
     (judging.nothing-solved (now (a .file)) (now (a .masks)) (now (a .live-in)) (now (a .live-out)) none)
-    (c .before .before .zero-row .ensures ∙ judging.zeroed-whole _ _ (e .before .before .before .zero-if .kept .0))
+    (c .before .before .zero-row .ensures ∙ judging.zeroed-whole _ _ refl)
 
 solve-flow-requires : tie.Need-solve-flow-requires
 solve-flow-requires c κs =
     let e = c .before .before .before .before .before in
-    let f = e .before .before .before .before .before .before in
+    let f = e .before in
     let k = f .before in
-    let work = e .before .before .before in
     let fit = not-false _ (e .if1 .left) in
     let rooms = judging.rooms _ _ _ _ _ _ (sym (f .areas-fit .ensures) ∙ fit) in
     let some : 0 < k .before .found .given .0 .0 .statements = pos-of-ne-zero (c .before .before .before .before .if2 .left) in
-    let most : k .before .found .given .0 .0 .statements ≤ maxStatements = subst (λ (h : Header). h .statements ≤ maxStatements) (sym (header k)) (limited (fits k) .statements) in
-    let few : k .before .found .given .0 .0 .arrays ≤ maxArrays = subst (λ (h : Header). h .arrays ≤ maxArrays) (sym (header k)) (limited (fits k) .arrays) in
-    let all = solver-fits {w = setWords (k .before .found .given .0 .0 .arrays)} some most (omega arith) in
     record {
       flow-fit = record {
         fit = fits k;
         header = header k;
         some = some;
-        work-room = subst (λ m. workWords (k .before .found .given .0 .0 .statements) ≤ m) (sym (work .zero-if .kept .0)) (rooms .work-room);
-        zero = λ x l. zeroed work fit x (omega (arith, work .before .used-words .ensures, rooms .work-room));
+        work-room = rooms .work-room;
       };
       masks-room = rooms .masks-room;
       in-room = rooms .in-room;
@@ -132,6 +103,9 @@ solve-flow-requires c κs =
 
 zero-row-requires-2 : tie.Need-zero-row-requires-2
 zero-row-requires-2 c κs = search needs
+
+same-length-2 : tie.Need-same-length-2
+same-length-2 c = search needs
 
 same-length-3 : tie.Need-same-length-3
 same-length-3 c = search needs
@@ -142,19 +116,16 @@ same-length-4 c = search needs
 same-length-5 : tie.Need-same-length-5
 same-length-5 c = search needs
 
-same-length-6 : tie.Need-same-length-6
-same-length-6 c = search needs
-
 returns-4 : tie.Need-returns-4
 returns-4 c =
     let s = c .before .before .before .before .before .before .before .before .before .before .before .before in
     let e = s .before .before .before .before .before .before in
-    let f = e .before .before .before .before .before .before in
+    let f = e .before in
     let a = f .before .before .before .before .before .before .before .before .before .before .args in
     judging.accepting (now (a .file)) (now (a .masks)) _ (now (a .live-in)) _ (now (a .live-out)) _ (now (a .work)) _ _ (fits (f .before))
     (judging.judged-fit (now (a .file)) (now (a .masks)) (now (a .live-in)) (now (a .live-out)) (now (a .work)) (fits (f .before)) (judged f true (not-false _ (e .if1 .left))))
     (s .solve-flow .ensures)
-    (c .before .before .zero-row2 .ensures ∙ judging.zeroed-whole _ _ (s .solve-flow .kept .1 .1 .1 .1 .1 .0 ∙ e .before .before .before .zero-if .kept .0))
+    (c .before .before .zero-row2 .ensures ∙ judging.zeroed-whole _ _ (s .solve-flow .kept .1 .1 .1 .1 .1 .0))
 
 pub states-spec : {M : Type 1} → statement M
 states-spec =
@@ -165,17 +136,14 @@ states-spec =
     enum-known-r
     returns
     areas-fit-requires
-    used-words-requires
-    zero-if-requires
-    same-length
     returns-2
     zero-row-requires
-    same-length-2
+    same-length
     returns-3
     solve-flow-requires
     zero-row-requires-2
+    same-length-2
     same-length-3
     same-length-4
     same-length-5
-    same-length-6
     returns-4)

@@ -2,7 +2,7 @@
 -- By the laws of the act of a statement.
 use Prim.Native.Nat.{ℕ, _≤_}
 use mathlib.Core.Logic.{inl, inr}
-use mathlib.Core.Path.{sym, ap, subst}
+use mathlib.Core.Path.{sym, ap, subst, _∙_}
 use native.Mathlib.Omega.{arith}
 use denote.Ref.{now}
 use Rattle.flow.specs.Format.{flowOf}
@@ -27,27 +27,29 @@ narrow : (c : tie.Start) → c .args .width ≤ maxWidth
 narrow c = let most = limited (c .pre .1 .ready .fit) .arrays in omega (arith, c .pre .0, ap (λ h. h .arrays) (c .pre .1 .header))
 
 out-row-requires : tie.Need-out-row-requires
-out-row-requires c κs = (ready-most (c .before .before .before .before .before .before .before .before .pre .1 .ready), narrow (c .before .before .before .before .before .before .before .before))
+out-row-requires c κs = (ready-most (c .before .before .before .before .before .before .before .before .before .pre .1 .ready), narrow (c .before .before .before .before .before .before .before .before .before))
 
 same-length : tie.Need-same-length
 same-length c = search needs
 
 returns : tie.Need-returns
 returns c =
-    let a = c .before .before .before .before .before .before .before .before .before .args in
+    let a = c .before .before .before .before .before .before .before .before .before .before .args in
     (subst (λ (r : ℕ). Acted (flowOf (now (a .file))) (now (a .work)) (c .before .before .before .transfer .last .1 .1 .0) (a .h .statements) (a .width) (a .d .0) (a .i .0) r) (sym (c .out-row .ensures)) (c .before .before .before .transfer .ensures), inl (c .out-row .ensures))
 
 mask-row-requires : tie.Need-mask-row-requires
-mask-row-requires c κs = (ready-most (c .before .before .before .before .pre .1 .ready), narrow (c .before .before .before .before), c .before .before .before .before .pre .2)
+mask-row-requires c κs = (ready-most (c .before .before .before .before .before .pre .1 .ready), narrow (c .before .before .before .before .before), c .before .before .before .before .before .pre .2)
+
+same-length-2 : tie.Need-same-length-2
+same-length-2 c = search needs
 
 returns-2 : tie.Need-returns-2
 returns-2 c =
-    let s = c .before .before .before .before .before in
+    let s = c .before .before .before .before .before .before in
     let a = s .args in
-    let idle = c .before .before .acts .ensures in
-    let no = c .before .if1 .left in (
+    let idle = sym (c .before .before .acts .ensures) ∙ c .before .if1 .left in (
       subst (λ (r : ℕ). Acted (flowOf (now (a .file))) (now (a .work)) (now (a .work)) (a .h .statements) (a .width) (a .d .0) (a .i .0) r) (sym (c .mask-row .ensures))
-          (acts-not (well-formed (s .pre .1 .ready .fit)) (a .h .statements) (a .width) (a .d .0) (a .i .0) (idle .keeps no) (idle .items no) (idle .references no)),
+          (acts-not (well-formed (s .pre .1 .ready .fit)) (a .h .statements) (a .width) (a .d .0) (a .i .0) idle),
       inr (c .mask-row .ensures),
     )
 
@@ -61,4 +63,5 @@ plain-row-spec =
     same-length
     returns
     mask-row-requires
+    same-length-2
     returns-2)

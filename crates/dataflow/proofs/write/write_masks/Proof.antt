@@ -69,7 +69,7 @@ loop-again c =
     let loop = c .before .before .before .before .before .loop in
     record {
       passed = omega (arith, c .before .before .before .before .loop-test .taken);
-      rows = rw add-one
+      rows = rw (add-one (loop .i))
           (c .before .before .write-statement .ensures
           ∙ ap (λ (l : List ℕ). noted l (loop .i * a .arrays) (a .arrays) (bothCopies (now (a .work)) (a .n) (setWords (a .arrays)) (loop .i))) (loop .inv .rows));
     }

@@ -1,4 +1,4 @@
--- `part` meets its contract: the queue stands below 37 × n, so that the sum is not too large (`row-below`).
+-- `part` meets its contract: the queue stands below 38 × n, so that the sum is not too large (`row-below`).
 -- Assumes nothing.
 use borrow.Author.Needs.{needs}
 use native.Mathlib.Nat.{le-refl, mul-le-mul-right}
