@@ -3,7 +3,7 @@
 use Prim.Native.Nat.{ℕ, _+_, _*_, _/_, _%_, _≤_, _<_}
 use native.Mathlib.Omega.{arith}
 use native.Mathlib.Decide.{ℕ-discrete}
-use native.Mathlib.Nat.{mul-le-mul-right, eq-or-lt-of-le}
+use native.Mathlib.Nat.{mul-le-mul-right, eq-or-lt-of-le, pos-of-ne-zero}
 use mathlib.Core.Bool.{Bool, true, false, cond}
 use mathlib.Core.List.{List}
 use mathlib.Core.Logic.{⊎-elim}
@@ -23,7 +23,7 @@ use Rattle.records.proofs.LineSearch.{lines-end}
 
 -- no part has records before any is met
 pub part-none : (s : List ℕ) (n k word : ℕ) → word ≡ 0 → LinePart s n 0 k word
-part-none s n k word e = record { some = omega arith; all = omega arith; holds = λ j l q. absurd (omega arith) }
+part-none s n k word e = record { some = omega arith; all = omega arith; holds = λ j l q. absurd (omega arith); ends = λ l. absurd (omega arith) }
 
 -- the part of a line of 16 bits
 pub part-below : (n l : ℕ) → 0 < n → l < 65536 → partOf n l < n
@@ -47,21 +47,29 @@ first-small r word h = go (eqb word 0)
     go false = omega arith
 
 module _ {s : List ℕ} {n r k word : ℕ} (p : LinePart s n r k word) where
-  part-met : r < 65535 → LinePart s n (r + 1) k (metWord r word)
-  part-met few = go (eqb word 0) refl
+  part-met : r < 65535 → partOf n (lineNumber s r) ≡ k → LinePart s n (r + 1) k (metWord r word)
+  part-met few here = go (eqb word 0) refl
     where
+      at : (x : ℕ) → x ≡ r → partOf n (lineNumber s x) ≡ k
+      at x e = ap (λ (y : ℕ). partOf n (lineNumber s y)) e ∙ here
+
       go : (t : Bool) → eqb word 0 ≡ t → LinePart s n (r + 1) k (cond t r (word % 65536) + 65536 * (r + 1))
       go true e = record {
         some = omega arith;
         all = omega arith;
         holds = λ j l q. let none = eqb-true word 0 e in
             ⊎-elim (λ m. (omega arith, omega arith)) (λ m. let past = p .holds j m q .1 in absurd (omega arith)) (eq-or-lt-of-le (let h : j ≤ r = omega arith in h));
+        ends = λ l. (at _ (omega arith), at _ (omega arith));
       }
       go false e = let some = p .some in let all = p .all in record {
         some = omega arith;
         all = omega arith;
         holds = λ j l q.
             ⊎-elim (λ m. (omega arith, omega arith)) (λ m. let from = p .holds j m q .0 in (omega arith, omega arith)) (eq-or-lt-of-le (let h : j ≤ r = omega arith in h));
+        ends = λ l. (
+          ap (λ (y : ℕ). partOf n (lineNumber s y)) (let same : (word % 65536 + 65536 * (r + 1)) % 65536 ≡ word % 65536 = omega arith in same) ∙ p .ends (pos-of-ne-zero (eqb-false word 0 e)) .0,
+          at _ (omega arith),
+        );
       }
 
   part-else : (partOf n (lineNumber s r) ≡ k → ⊥) → LinePart s n (r + 1) k word
@@ -70,6 +78,7 @@ module _ {s : List ℕ} {n r k word : ℕ} (p : LinePart s n r k word) where
     all = let all = p .all in omega arith;
     holds = λ j l q.
         ⊎-elim (λ m. absurd (other (subst (λ (i : ℕ). partOf n (lineNumber s i) ≡ k) m q))) (λ m. p .holds j m q) (eq-or-lt-of-le (let h : j ≤ r = omega arith in h));
+    ends = p .ends;
   }
 
 pub parts-met : {s ws vs : List ℕ} {base n r at : ℕ} → PartsNoted s ws vs base n r → r < 65535 → base + n ≤ length ws → partOf n (lineNumber s r) < n
@@ -89,7 +98,7 @@ parts-met {s} {ws} {vs} {base} {n} {r} {at} p few room part e = record {
         let here : base + k ≡ at = omega arith in
         let inside : at < length vs = let size = p .size in omega arith in
         subst (λ (w : ℕ). LinePart s n (r + 1) k w) (sym (ap (λ (x : ℕ). getD (set vs at new) x 0) here ∙ getD-set-same vs at new 0 inside))
-        (part-met (subst (λ (x : ℕ). LinePart s n r k (getD vs x 0)) here (p .parts k l)) few)
+        (part-met (subst (λ (x : ℕ). LinePart s n r k (getD vs x 0)) here (p .parts k l)) few (sym q))
     go k l (no q) =
         subst (λ (w : ℕ). LinePart s n (r + 1) k w) (sym (getD-set-other vs at (base + k) new 0 (λ h. q (omega arith))))
         (part-else (p .parts k l) (λ h. q (sym h)))

@@ -66,11 +66,12 @@ pub record LineRank (s : List ℕ) (first end l r : ℕ) : Type 0 where
 abbrev pub partOf : ℕ → ℕ → ℕ
 partOf n l = l * n / 65536
 
--- the word of part k says where its records stand among the first r FL records: from its lower 16 bits to below its upper ones
+-- the word of part k says where its records stand among the first r FL records: from its lower 16 bits to below its upper ones, and both ends are of the part; it is 0 where there are none
 pub record LinePart (s : List ℕ) (n r k word : ℕ) : Type 0 where
   pub some : word % 65536 ≤ word / 65536
   pub all : word / 65536 ≤ r
   pub holds : (j : ℕ) → j < r → partOf n (lineNumber s j) ≡ k → (word % 65536 ≤ j) × (j < word / 65536)
+  pub ends : 0 < word → (partOf n (lineNumber s (word % 65536)) ≡ k) × (partOf n (lineNumber s (word / 65536 - 1)) ≡ k)
 
 abbrev pub LineParts : List ℕ → List ℕ → ℕ → ℕ → ℕ → Type 0
 LineParts s ws base n r = (k : ℕ) → k < n → LinePart s n r k (getD ws (base + k) 0)
