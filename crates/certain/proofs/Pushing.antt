@@ -36,8 +36,14 @@ row-high : (a b x : ℕ) → x / 64 ≡ 1 → has (a ∷ b ∷ []) 0 x ≡ bit b
 unfolding has
 row-high a b x e = rw e refl
 
-module _ {ws vs us : List ℕ} {n j names reached : ℕ} {first second : Bool} (l : j < n) (room : waitingEnd n ≤ length ws) (words : Words ws) (fits : names < 2 ^ 64) (fits′ : reached < 2 ^ 64)
-    (a : Joined ws vs (setAt n j) names first) (b : Joined vs us (setAt n j + 1) reached second) where
+module _ {ws vs us : List ℕ} {n j at names reached : ℕ} {first second : Bool} (l : j < n) (room : waitingEnd n ≤ length ws) (words : Words ws) (fits : names < 2 ^ 64) (fits′ : reached < 2 ^ 64)
+    (place : at ≡ setAt n j) (low : Joined ws vs at names first) (high : Joined vs us (at + 1) reached second) where
+  a : Joined ws vs (setAt n j) names first
+  a = subst (λ z. Joined ws vs z names first) place low
+
+  b : Joined vs us (setAt n j + 1) reached second
+  b = subst (λ z. Joined vs us (z + 1) reached second) place high
+
   size-vs : length vs ≡ length ws
   size-vs = ap length (a .slice) ∙ length-joined ws (setAt n j) names
 
@@ -145,7 +151,10 @@ module _ {ws vs us : List ℕ} {n j names reached : ℕ} {first second : Bool} (
       go false true p q e = subst (λ z. members z n (2 * n) < members us n (2 * n)) (not-grown a p) (two q)
       go false false p q e = absurd (true≢false (sym e))
 
-  module _ {ts : List ℕ} {fresh : Bool} (grew : (first || second) ≡ true) (c : Inserted us ts (waitingAt n) j fresh) where
+  module _ {ts : List ℕ} {row : ℕ} {fresh : Bool} (grew : (first || second) ≡ true) (row-is : row ≡ waitingAt n) (new : Inserted us ts row j fresh) where
+    c : Inserted us ts (waitingAt n) j fresh
+    c = subst (λ z. Inserted us ts z j fresh) row-is new
+
     in-room : waitingAt n + j / 64 < length us
     in-room = omega (arith, size-us, member-word l)
 
@@ -166,7 +175,7 @@ module _ {ws vs us : List ℕ} {n j names reached : ℕ} {first second : Bool} (
         go : Dec (has us (waitingAt n) j ≡ 1) → members (inserted us (waitingAt n) j) (waitingAt n) (rowWords n) ≤ members us (waitingAt n) (rowWords n) + 1
         go (yes e) = subst (λ z. members z (waitingAt n) (rowWords n) ≤ members us (waitingAt n) (rowWords n) + 1) (sym (insert-again us (waitingAt n) j e)) (omega arith)
         go (no d) =
-            let new = insert-members us (waitingAt n) j (rowWords n) (omega (arith, size-us)) (omega (arith, row-holds n)) (omega (arith, d, has-lt us (waitingAt n) j)) in
+            let more = insert-members us (waitingAt n) j (rowWords n) (omega (arith, size-us)) (omega (arith, row-holds n)) (omega (arith, d, has-lt us (waitingAt n) j)) in
             omega arith
 
     members-ts : members ts n (2 * n) ≡ members us n (2 * n)

@@ -20,8 +20,8 @@ use Rattle.statements.specs.contracts.Ready.{Ready}
 use Rattle.statements.proofs.WellFormed.{well-formed, statement-in, names-is}
 use Rattle.statements.proofs.Keeps.{ready-size}
 use Rattle.live.specs.contracts.Solving.{HandedOn, Solving}
-use Rattle.live.proofs.Facts.{successor-in, written-word}
-use Rattle.live.proofs.Bits.{member-bit, bit-member, transfer-reads, transfer-keeps, bit-below, word-below}
+use Rattle.statements.proofs.Names.{member-bit, bit-member, bit-below, word-below, successor-in, written-word}
+use Rattle.live.proofs.Bits.{transfer-reads, transfer-keeps}
 
 -- a live name is read somewhere
 live-name : {s ws : List ℕ} {n : ℕ} → Ready s ws n → {x i : ℕ} → LiveIn (flowOf s) x i → x < namesOf s

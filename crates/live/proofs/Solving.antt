@@ -18,11 +18,12 @@ use Rattle.theory.specs.Body.{successors}
 use Rattle.theory.specs.Live.{LiveIn, LiveOut, bitOf, writes, reads}
 use Rattle.theory.proofs.Lists.{In-elem, elem-In}
 use Rattle.statements.specs.contracts.Layout.{rowAt}
+use Rattle.statements.proofs.Names.{or-first, or-second, or-either}
 use Rattle.solve.specs.declared.Queue.{Queue}
 use Rattle.live.specs.contracts.Predecessors.{Predecessors}
 use Rattle.live.specs.contracts.Spread.{pushed, Follows, PushedLive}
 use Rattle.live.specs.contracts.Solving.{transfer, Sound, HandedOn, Solving}
-use Rattle.live.proofs.Bits.{or-first, or-second, or-either, transfer-cases}
+use Rattle.live.proofs.Bits.{transfer-cases}
 use Rattle.live.proofs.Pushing.{pushed-member, pushed-other}
 
 bit-one : (b : Bool) → bitOf b ≡ 1 → b ≡ true

@@ -24,7 +24,7 @@ use Rattle.theory.proofs.Lists.{getD-In}
 use Rattle.statements.specs.contracts.Ready.{Ready, RecordOf}
 use Rattle.live.specs.contracts.Solving.{transfer, Sound, HandedOn, Solving}
 use Rattle.live.specs.contracts.Sweeping.{gathered, Settled}
-use Rattle.live.proofs.Facts.{successor-in, written-word}
+use Rattle.statements.proofs.Names.{successor-in, written-word}
 use Rattle.live.proofs.Bits.{union-has, has-union, union-cong}
 use Rattle.live.proofs.Solving.{transfer-sound, sound-set}
 use Rattle.live.proofs.Solution.{live-word}

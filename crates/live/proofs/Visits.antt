@@ -16,7 +16,7 @@ use Rattle.solve.proofs.Waiting.{rest-trans, rest-keeps}
 use Rattle.live.specs.contracts.Predecessors.{Predecessors}
 use Rattle.live.specs.contracts.Spread.{PushedLive}
 use Rattle.live.specs.contracts.Solving.{transfer, Solving, Held, Visited}
-use Rattle.live.proofs.Facts.{written-word}
+use Rattle.statements.proofs.Names.{written-word}
 use Rattle.live.proofs.Pushing.{rest-row}
 use Rattle.live.proofs.Solving.{handled}
 use Rattle.live.proofs.Solution.{out-word}
