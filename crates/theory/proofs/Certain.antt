@@ -4,7 +4,9 @@ use Prim.Native.Nat.{ℕ, _^_, _<_}
 use mathlib.Core.Bool.{Bool, true, false, not, _&&_, _||_}
 use mathlib.Core.Logic.{_⊎_, inl, inr, ⊎-elim}
 use mathlib.Core.Path.{_≡_, refl, sym, _∙_, ap}
+use native.Mathlib.Nat.{zero-div}
 use native.Mathlib.Omega.{arith}
+use lib.Pow.{pow-pos}
 use borrow.Author.Tests.{not-true}
 use Rattle.flow.specs.Flow.{Flow, size}
 use Rattle.theory.specs.Lists.{In, any, upTo, allBelow}
@@ -17,7 +19,7 @@ use Rattle.theory.proofs.Lists.{clash, not-so, or-cases, and-both, and-
 use Rattle.theory.proofs.Below.{allBelow-at, allBelow-all}
 use Rattle.theory.proofs.Reach.{reached-sound, reached-complete}
 use Rattle.theory.proofs.Live.{In-unwritten, unwritten-In, unwritten-below}
-use Rattle.theory.proofs.Names.{namesWord-member, namesWord-lt}
+use Rattle.theory.proofs.Names.{namesWord-member, namesWord-lt, namesWord-unique}
 
 -- Walks
 
@@ -143,3 +145,15 @@ certainWord-sound {f} w x l h = certain-sound w x (sym (certainWord-member f x l
 
 pub certainWord-complete : {f : Flow} → WellFormed f → {x : ℕ} → x < f .names → Certain f x → member (certainWord f) x ≡ true
 certainWord-complete {f} w {x} l c = certainWord-member f x l ∙ certain-complete w c
+
+-- with no statements no name is written
+certain-none : (f : Flow) → size f ≡ 0 → (x : ℕ) → certain f x ≡ false
+unfolding certain any upTo
+certain-none f e x = rw e refl
+
+pub certainWord-none : (f : Flow) → size f ≡ 0 → certainWord f ≡ 0
+unfolding certainWord
+certainWord-none f e = sym (namesWord-unique f (certain f) 0 (pow-pos (f .names)) (λ x l. none x ∙ sym (certain-none f e x)))
+  where
+    none : (x : ℕ) → member 0 x ≡ false
+    none x = simp zero-div
