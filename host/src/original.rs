@@ -87,6 +87,14 @@ mod dataflow {
         entries.iter().map(|e| effect(e)).map(|effect| (effect.touched, effect.opaque)).collect()
     }
 
+    /// The visits of each statement in the solve of `DefinedBeforeUse`.
+    pub fn defined_visits(module: &Module) -> Vec<u64> {
+        let visits = RefCell::new(vec![0; module.cfg.nodes.len()]);
+        let counted = Counted { analysis: &DefinedFlow, visits };
+        solve(module, &module.cfg, &counted);
+        counted.visits.into_inner()
+    }
+
     pub fn live_sets(module: &Module) -> Vec<(HashSet<VarName>, HashSet<VarName>)> {
         let flow = LiveVarsFlow { fns: FnBodyReads::build(module), for_vars: for_loop_vars(module) };
         solve(module, &module.cfg, &flow)
@@ -207,6 +215,13 @@ impl Original {
         given::hand_back(&self.module, &self.lists);
         let defined = DefinedBeforeUse.run(&self.module, &mut Registry::default());
         self.names.iter().rev().fold(0, |w, v| w << 1 | u64::from(defined.contains(v)))
+    }
+
+    /// The visits of each statement in the solve that this rests on. Past 32 of them it takes what is
+    /// known there as nothing.
+    pub fn defined_visits(&self) -> Vec<u64> {
+        given::hand_back(&self.module, &self.lists);
+        dataflow::defined_visits(&self.module)
     }
 
     /// For each name, the names it interferes with, as a word.
