@@ -129,7 +129,7 @@ impl Fault {
             Fault::UnreachedReaderPasses => "certain names: a reader that nothing reaches is passed over",
             Fault::SomeWalkIsEnough => "certain names: a write on some walk is enough",
             Fault::WriteAfterReadCounts => "certain names: a write after the read in a loop is enough",
-            Fault::FirstRoundForgotten => "certain names: the first round of a loop at the entry is left out",
+            Fault::FirstRoundForgotten => "certain names: the first round at the entry's loop is left out",
             Fault::NeverReadLeftOut => "certain names: only a name that is read is one",
             Fault::WriterMustBeReached => "certain names: the writer must be reached",
             Fault::NoWriterNeeded => "certain names: no statement has to write the name",

@@ -8,10 +8,10 @@ use yarnuskel_host::flow::Flow;
 use yarnuskel_host::generate::{self, Family};
 use yarnuskel_host::judge::{self, Comparison, Lent};
 use yarnuskel_host::sides::{self, NO_LIBRARY, NO_ORIGINAL};
-use yarnuskel_host::{bench, cases, dot, flow, listing, reading, stack, store, text, worst};
+use yarnuskel_host::{answerer, bench, cases, dot, flow, listing, reading, stack, store, text, worst};
 
 const USAGE: &str = "commands:
-  answer FILE|DIR              masks and live sets by the original, refusals by the answerer (of a DIR, its .flow files)
+  answer FILE|DIR              masks, live sets and certain names by the original, refusals by the answerer (of a DIR, its .flow files)
   random KIND COUNT SEED DIR   write random files: plain, layered, limits, damaged
   file SEED INDEX PATH         write one file of a comparison
   time FILE                    time the original
@@ -77,7 +77,21 @@ fn answer_file(path: &Path) -> Outcome {
         let digits = if arrays == 0 { "-" } else { &digits };
         println!("{i} {digits} {:016x} {:016x}", answer.live_in[i], answer.live_out[i]);
     }
+    println!("{}", certain_line(&flow));
     Ok(true)
+}
+
+/// The certain names by the original, or by the answerer where the original may have fallen back.
+fn certain_line(flow: &Flow) -> String {
+    match sides::original_certain(flow) {
+        Some(original) if original.compared().is_none() => {
+            let word = answerer::certain_names(flow, None);
+            let visits = original.visits;
+            format!("certain {word:016x} by the answerer: the original visits a statement {visits} times")
+        }
+        Some(original) => format!("certain {:016x}", original.word),
+        None => NO_ORIGINAL.into(),
+    }
 }
 
 fn files(folder: &Path) -> Result<Vec<PathBuf>, String> {
@@ -179,9 +193,11 @@ fn write_store() -> Outcome {
 fn list_store() -> Outcome {
     for (number, case) in store::cases().iter().enumerate() {
         let right = store::answer(case)?;
-        let (answer, Lent { masks, live_in, live_out, work }) = (right.outcome.answer, case.lent);
+        let (answer, certain) = (right.outcome.answer, right.outcome.certain);
+        let Lent { masks, live_in, live_out, work } = case.lent;
         print!("{number}: {} | areas {masks} {live_in} {live_out} {work} | ", case.name);
-        println!("{} {} {}", answer.number, answer.place, answer.visits);
+        print!("{} {} {} | ", answer.number, answer.place, answer.visits);
+        println!("{} {} {:016x}", certain.number, certain.place, certain.word);
     }
     Ok(true)
 }

@@ -59,7 +59,7 @@ pub fn cases() -> Vec<Case> {
     let differences = cases::differences().into_iter().map(|(name, flow)| (name, flow.bytes()));
     let differences = differences.chain([("refused", cases::refused())]);
     let differences = differences.map(|(name, file)| Case::new(name, file, 1)).collect();
-    [worked, cases::refusals(), random_cases(), differences].concat()
+    [worked, cases::refusals(), cases::certain(), random_cases(), differences].concat()
 }
 
 /// The right answer to a case; an error where original and answerer part.
