@@ -17,7 +17,7 @@ const USAGE: &str = "commands:
   time FILE                    time the original
   compare COUNT SEED           the original beside the answerer
   compare-reader COUNT SEED    the proved reader beside the answerer
-  compare-proved COUNT SEED    the proved call beside original and answerer
+  compare-proved COUNT SEED    the proved calls beside original and answerer
   faults COUNT SEED            in how many flows each fault shows
   store                        write the stored answers and the example flows
   stored                       list the stored cases
@@ -25,9 +25,9 @@ const USAGE: &str = "commands:
   definitions                  every definition that the promises rest on, with its file and its lines
   text FILE                    a flow file as text
   flow TEXT PATH               write the flow file that a text says
-  dot FILE                     a flow file with its masks as a picture, for Graphviz
+  dot FILE                     a flow file with its masks and certain names as a picture, for Graphviz
   bench-reader                 the proved reader beside a plain one
-  bench                        the proved call beside the original
+  bench                        the proved calls beside the original, and beside each other
   stack                        the stack that the deepest nest of subroutines takes, in each order of the file
   stack-try ORDER DEPTH BYTES  whether a thread with so much stack answers a nest (Down or Up); an overflow ends the program
   worst SECONDS SEED           search for the file that takes the proved call longest, so long a family
@@ -181,6 +181,7 @@ fn write_store() -> Outcome {
     let cases = store::cases();
     let bytes = store::bytes(&cases)?;
     save(&root().join(store::PLACE), &bytes)?;
+    save(&root().join(store::PRINTED), store::printed(cases.len()).as_bytes())?;
     let examples = root().join("examples");
     save(&examples.join("refused.flow"), &cases::refused())?;
     for path in files(&examples)?.iter().filter(|path| path.extension().is_some_and(|e| e == "txt")) {
@@ -239,7 +240,7 @@ fn run(words: &[&str]) -> Outcome {
         }
         ["flow", from, path] => write_flow(Path::new(from), Path::new(path)),
         ["bench-reader"] => Ok(bench::readers()),
-        ["bench"] => Ok(bench::whole_call()),
+        ["bench"] => Ok(bench::whole_call() & bench::certain_call()),
         ["stack"] => stack::measure(),
         ["stack-try", order, depth, bytes] => stack::tried(order, number(depth)?, number(bytes)?),
         ["worst", seconds, seed] => worst::search(number(seconds)?, number(seed)?),

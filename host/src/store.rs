@@ -6,8 +6,9 @@ use crate::cases::{self, Case};
 use crate::generate::{self, Family};
 use crate::judge::{self, Lent, Outcome, Right};
 
-/// Where the stored answers stand, from the root of the repository.
+/// Where the stored answers stand, from the root of the repository, and what their replay is to print.
 pub const PLACE: &str = "crates/replay/stdin";
+pub const PRINTED: &str = "crates/replay/stdout";
 
 const SEED: u64 = 20_260_411;
 /// Random flows stored, and the most bytes that one of them has.
@@ -112,6 +113,11 @@ pub fn bytes(cases: &[Case]) -> Result<Vec<u8>, String> {
     }
     out.push(0);
     Ok(out)
+}
+
+/// What the replay prints where every case is answered as stored.
+pub fn printed(cases: usize) -> String {
+    format!("{cases} cases, 0 different\n")
 }
 
 // ----- Reading them back --------------------------------------------------
