@@ -267,26 +267,34 @@ pub fn whole_call() -> bool {
 
 // ----- Certain names ------------------------------------------------------
 
-/// The medians of the call for certain names, of the other call, and of the original where asked.
-fn certain_medians(flow: &Flow, original: Option<&mut dyn FnMut()>) -> Option<[Duration; 3]> {
+/// The medians of the call for certain names and of the other call. They take turns with each other
+/// only: the original would leave nothing of the file in the processor's cache for the one after it.
+fn certain_medians(flow: &Flow) -> Option<[Duration; 2]> {
     let file = flow.bytes();
     let mut areas = Lent::for_file(&file, 0).areas();
     let mut work = areas.work.clone();
     assert_eq!(sides::proved_certain(&file, &mut work)?.number, 0);
+    // Reading the clock takes as long as a call on a small flow, so there a hundred calls are timed at once.
+    let calls = if flow.statements.len() > 500 { 1 } else { 100 };
     let mut certain = || {
-        black_box(sides::proved_certain(black_box(&file), &mut work));
+        for _ in 0..calls {
+            black_box(sides::proved_certain(black_box(&file), &mut work));
+        }
     };
     let mut states = || {
-        black_box(sides::proved_states(black_box(&file), &mut areas));
+        for _ in 0..calls {
+            black_box(sides::proved_states(black_box(&file), &mut areas));
+        }
     };
-    let runs = if flow.statements.len() > 500 { 21 } else { 101 };
-    Some(medians(runs, [&mut certain, &mut states, original.unwrap_or(&mut || {})]))
+    Some(medians(101, [&mut certain, &mut states]).map(|time| time / calls))
 }
 
-/// The share of the other call's time that the call for certain names takes.
+/// The share of the other call's time that the call for certain names takes. The names are those
+/// certain, of those written.
 fn measure_certain(name: &str, flow: &Flow) -> Option<f64> {
     let mut original = sides::original_certain_run(flow)?;
-    let [certain, states, original] = certain_medians(flow, Some(&mut original))?;
+    let [certain, states] = certain_medians(flow)?;
+    let [original] = medians(if flow.statements.len() > 500 { 9 } else { 101 }, [&mut original]);
     let written = flow.statements.iter().fold(0, |set, s| set | s.written).count_ones();
     let names = format!("{}/{written}", answerer::certain_names(flow, None).count_ones());
     let (share, times) = (ratio(certain, states), ratio(original, certain));
@@ -301,7 +309,7 @@ fn measure_certain(name: &str, flow: &Flow) -> Option<f64> {
 pub fn certain_call() -> bool {
     println!(
         "\n{:28} {:>7} {:>10} {:>10} {:>6} {:>16} {:>8}",
-        "flow", "certain", "certain", "states", "share", "DefinedBeforeUse", "times"
+        "flow", "names", "certain", "states", "share", "DefinedBeforeUse", "times"
     );
     let measured: Option<Vec<f64>> = flows().iter().map(|(name, flow)| measure_certain(name, flow)).collect();
     let Some(shares) = measured else {
@@ -315,7 +323,7 @@ pub fn certain_call() -> bool {
         if holds { "holds" } else { "does not hold" }
     );
     let flow = one_name_at_a_time();
-    if let Some([certain, states, _]) = certain_medians(&flow, None) {
+    if let Some([certain, states]) = certain_medians(&flow) {
         let edges: usize = flow.statements.iter().map(|s| s.successors.len()).sum();
         println!(
             "names one at a time along a chain of {N}, {edges} successors: {certain:.2?}, the other call {states:.2?}"

@@ -210,15 +210,16 @@ impl Original {
         self.live_sets().iter().map(|(live_in, live_out)| (word(live_in), word(live_out))).unzip()
     }
 
-    /// The names always written before they are read, as a word.
+    /// The names always written before they are read, as a word: none in a module with a key's handler or
+    /// with an error handler that goes on, which no flow here has.
     pub fn defined_before_use(&self) -> u64 {
         given::hand_back(&self.module, &self.lists);
         let defined = DefinedBeforeUse.run(&self.module, &mut Registry::default());
         self.names.iter().rev().fold(0, |w, v| w << 1 | u64::from(defined.contains(v)))
     }
 
-    /// The visits of each statement in the solve that this rests on. Past 32 of them it takes what is
-    /// known there as nothing.
+    /// The visits of each statement in the solve that these names rest on. Past 32 of them it takes no
+    /// name as written there.
     pub fn defined_visits(&self) -> Vec<u64> {
         given::hand_back(&self.module, &self.lists);
         dataflow::defined_visits(&self.module)
