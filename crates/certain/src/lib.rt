@@ -2,17 +2,15 @@
 // order; and from them the names that no statement reads too early.
 ghost use mathlib.Core.Path.{_≡_};
 ghost use mathlib.Core.List.{[], _∷_};
-ghost use Prim.Native.Nat.{_+_, _-_, _<_, _≤_};
-ghost use lib.ListN.{length, getD};
+ghost use Prim.Native.Nat.{_<_, _≤_};
+ghost use lib.ListN.{length};
 ghost use Rattle.flow.specs.Limits.{maxStatements};
-ghost use Rattle.flow.specs.Flow.{statement};
 ghost use Rattle.flow.specs.Format.{flowOf};
-ghost use Rattle.words.specs.contracts.Change.{without, zeroed};
 ghost use Rattle.theory.specs.Certain.{certainWord};
-ghost use Rattle.statements.specs.contracts.Ready.{Ready, Keeps};
+ghost use Rattle.statements.specs.contracts.Ready.{Ready};
 ghost use Rattle.certain.specs.contracts.Layout as at;
 ghost use Rattle.certain.specs.contracts.Unwritten.{Pushed, PushedAll, Visited, NextWaiting, Begun, Solved};
-ghost use Rattle.certain.specs.contracts.CertainNames.{CertainStart, CertainNames};
+ghost use Rattle.certain.specs.contracts.CertainNames.{CertainStart, Used, Early};
 use flow::StmtId;
 use statements::fields;
 use statements::layout;
@@ -113,30 +111,56 @@ fn solve(file: &[u8], work: &mut [u64], n: usize, entry: StmtId)
     }
 }
 
-// The names that are written somewhere and that no statement reads where a walk may come without a write, or no walk comes.
-fn covered(file: &[u8], work: &[u64], n: usize) -> u64
-    requires { ⌜ Ready (now file) (now work) n × Solved (flowOf (now file)) (now work) (now work) n ⌝ }
-    ensures { λ r. ⌜ r ≡ certainWord (flowOf (now (file .entry))) ⌝ }
+// The names that some statement writes, and those that some statement reads.
+struct Uses {
+    written: u64,
+    read: u64,
+}
+
+fn gather_uses(file: &[u8], work: &[u64], n: usize) -> Uses
+    requires { ⌜ Ready (now file) (now work) n ⌝ }
+    ensures { λ r. ⌜ Used (flowOf (now (file .entry))) n (r .written) (r .read) ⌝ }
 {
     let mut written: u64 = 0;
-    let mut early: u64 = 0;
+    let mut read: u64 = 0;
+    let mut i = 0;
+    while i < n {
+        let p = fields::offset(file, work, n, StmtId(i));
+        written = written | records::written(file, p);
+        read = read | records::read(file, p);
+        i += 1;
+    }
+    Uses { written, read }
+}
+
+// The names that some statement reads where a walk may come without a write, or no walk comes.
+fn early(file: &[u8], work: &[u64], n: usize) -> u64
+    requires { ⌜ Ready (now file) (now work) n × Solved (flowOf (now file)) (now work) (now work) n ⌝ }
+    ensures { λ r. ⌜ Early (flowOf (now (file .entry))) n r ⌝ }
+{
+    let mut names: u64 = 0;
     let mut i = 0;
     while i < n {
         let p = fields::offset(file, work, n, StmtId(i));
         let at = set(n, StmtId(i));
         let before = words::difference(work[at + 1], work[at]);
-        early = early | words::difference(records::read(file, p), before);
-        written = written | records::written(file, p);
+        names = names | words::difference(records::read(file, p), before);
         i += 1;
     }
-    words::difference(written, early)
+    names
 }
 
-// The word of certain names.
+// The word of certain names. A name that is not both written and read somewhere needs no walk.
 pub fn certain_names(file: &[u8], work: &mut [u64], n: usize, entry: StmtId) -> u64
     requires { ⌜ CertainStart (now file) (now work) n (entry .0) ⌝ }
-    ensures { λ r. ⌜ CertainNames (flowOf (now (file .entry))) (now (work .entry)) (now (work .exit)) n r ⌝ }
+    ensures { λ r. ⌜ r ≡ certainWord (flowOf (now (file .entry))) ⌝ }
 {
+    let all = gather_uses(file, work, n);
+    let written = all.written;
+    let read = all.read;
+    if (written & read) == 0 {
+        return written;
+    }
     solve(file, work, n, entry);
-    covered(file, work, n)
+    words::difference(written, early(file, work, n))
 }

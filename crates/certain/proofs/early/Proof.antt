@@ -1,31 +1,26 @@
--- `certain::covered` meets its contract. The invariant: what the first i statements write, and what they read too early.
+-- `certain::early` meets its contract. The invariant: what the first i statements read too early.
 -- Assumes nothing.
-use Prim.Native.Nat.{_-_}
+use Prim.Native.Nat.{_-_, _≤_}
+use mathlib.Core.Path.{_≡_, sym, _∙_, ap, subst}
 use native.Mathlib.Omega.{arith}
-use mathlib.Core.Path.{sym, _∙_, ap}
+use denote.Ref.{now}
 use Rattle.words.specs.contracts.Change.{without}
 use Rattle.flow.specs.Format.{flowOf}
 use Rattle.statements.proofs.Keeps.{ready-most}
+use Rattle.certain.specs.contracts.CertainNames.{Early}
 use Rattle.certain.proofs.Visiting.{area-room}
-use Rattle.certain.proofs.Covering.{Covering, covering-none, covering-more, covered-all}
-use Rattle.certain.proofs.covered.Statement.{statement}
-use Rattle.certain.proofs.covered.Tie as tie
-use Rattle.certain.proofs.covered.Reads as reads
-use Rattle.certain.proofs.covered.Lts as lts
-use Rattle.certain.proofs.set.Reads as set-reads
-use Rattle.records.proofs.read.Reads as read-reads
-use Rattle.records.proofs.written.Reads as written-reads
-use Rattle.statements.proofs.fields.offset.Reads as offset-reads
-use Rattle.words.proofs.difference.Reads as difference-reads
+use Rattle.certain.proofs.Covering.{early-none, early-more}
+use Rattle.certain.proofs.early.Statement.{statement}
+use Rattle.certain.proofs.early.Tie as tie
 
 abbrev Inv-loop : tie.InvT-loop
-Inv-loop file work n written₀ early₀ i₀ written early i = Covering (flowOf file) n written early i
+Inv-loop file work n names₀ i₀ names i = (i ≤ n) × Early (flowOf file) i names
 
 abbrev μ-loop : tie.MeasureT-loop
-μ-loop file work n written₀ early₀ i₀ written early i = n - i
+μ-loop file work n names₀ i₀ names i = n - i
 
 loop-holds : tie.Need-loop-holds Inv-loop μ-loop
-loop-holds c = covering-none
+loop-holds c = (omega arith, early-none)
 
 offset-requires : tie.Need-offset-requires Inv-loop μ-loop
 offset-requires c κs = (c .before .before .before .before .pre .0, omega arith)
@@ -57,30 +52,28 @@ read-requires c κs = c .before .before .before .before .offset .ensures .fit
 difference-requires-2 : tie.Need-difference-requires-2 Inv-loop μ-loop
 difference-requires-2 c κs = tt
 
-written-requires : tie.Need-written-requires Inv-loop μ-loop
-written-requires c κs = c .before .before .before .before .before .before .offset .ensures .fit
-
 add-i : tie.Need-add-i Inv-loop μ-loop
-add-i c = let most = ready-most (c .before .before .before .before .before .before .before .before .before .before .before .before .pre .0) in omega (arith, most)
+add-i c = let most = ready-most (c .before .before .before .before .before .before .before .before .before .before .before .pre .0) in omega (arith, most)
 
 loop-less : tie.Need-loop-less Inv-loop μ-loop
 loop-less c = omega arith
 
 loop-again : tie.Need-loop-again Inv-loop μ-loop
 loop-again c =
-    let start = c .before .before .before .before .before .before .before .before .before .before .before .before in
-    let fields = c .before .before .before .before .before .before .before .offset .ensures in
-    covering-more (start .pre .0) (start .pre .1) (λ x. c .before .before .before .before .before .before .before .before .before .before .shared-slice-known2 .given x .fits) (omega arith) (c .before .before .before .before .before .before .before .before .before .loop .inv) (c .before .before .before .before .before .before .set .ensures) (c .before .before .before .difference .ensures) (fields .written ∙ sym (c .written .ensures))
-    (c .before .difference2 .ensures ∙ ap (λ z. without z (c .before .before .before .difference .result)) (c .before .before .read .ensures ∙ sym (fields .read)))
-
-difference-requires-3 : tie.Need-difference-requires-3 Inv-loop μ-loop
-difference-requires-3 c κs = tt
+    let start = c .before .before .before .before .before .before .before .before .before .before .before in (
+      omega arith,
+      early-more (start .pre .0) (start .pre .1) (λ x. c .before .before .before .before .before .before .before .before .before .shared-slice-known2 .given x .fits) (omega arith) (c .before .before .before .before .before .before .before .before .loop .inv .1) (c .before .before .before .before .before .set .ensures) (c .before .before .difference .ensures)
+          (c .difference2 .ensures ∙ ap (λ z. without z (c .before .before .difference .result)) (c .before .read .ensures ∙ sym (c .before .before .before .before .before .before .offset .ensures .read))),
+    )
 
 returns : tie.Need-returns Inv-loop μ-loop
-returns c = c .difference3 .ensures ∙ covered-all (c .before .before .before .before .before .pre .0) (c .before .before .loop .inv) (omega arith)
+returns c =
+    let loop = c .before .loop in
+    let all : loop .i ≡ c .before .before .before .before .args .n = omega (arith, loop .inv .0) in
+    subst (λ z. Early (flowOf (now (c .before .before .before .before .args .file))) z (loop .names)) all (loop .inv .1)
 
-pub covered-spec : {M : Type 1} → statement M
-covered-spec =
+pub early-spec : {M : Type 1} → statement M
+early-spec =
     tie.close
     (tie.spec
     Inv-loop
@@ -96,9 +89,7 @@ covered-spec =
     difference-requires
     read-requires
     difference-requires-2
-    written-requires
     add-i
     loop-less
     loop-again
-    difference-requires-3
     returns)
