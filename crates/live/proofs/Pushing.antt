@@ -1,41 +1,55 @@
--- A set goes to the members of a row one by one: after those below i, their words have it, and the words from i on are as they were.
+-- A set goes to the members of a row one by one: after those below i, it is joined to their words and to no others.
 -- The next member is the next one to handle, since the numbers between are no members. Assumes nothing.
-use Prim.Native.Nat.{ℕ, _+_, _<_, _≤_}
+use Prim.Native.Nat.{ℕ, _+_, _<_, _≤_, zero-le}
 use mathlib.Core.List.{List}
-use mathlib.Core.Logic.{_≢_}
-use mathlib.Core.Path.{_≡_, refl, sym, _∙_, ap, subst}
+use mathlib.Core.Logic.{_⊎_, inl, inr, ⊎-elim}
+use mathlib.Core.Path.{_≡_, sym, _∙_, subst}
 use native.Mathlib.Decide.{decLt, ℕ-discrete}
 use native.Mathlib.Omega.{arith}
-use borrow.Author.Tests.{eq-eqb, ne-eqb}
 use lib.Bits.{bitOr}
 use lib.ListN.{length, getD}
-use Rattle.words.specs.contracts.Row.{has, nextMember, First}
+use Rattle.words.specs.contracts.Row.{bit, has, nextMember, First}
+use Rattle.words.specs.contracts.Change.{joined}
 use Rattle.words.proofs.NextMember.{first}
-use Rattle.words.proofs.Inserted.{length-joined, joined-word, joined-other}
+use Rattle.words.proofs.Inserted.{joined-word, joined-other}
 use Rattle.statements.specs.contracts.Layout.{rowAt}
+use Rattle.statements.specs.contracts.Ready.{Keeps}
 use Rattle.statements.proofs.WorkArea.{member-word, row-fits}
-use Rattle.statements.proofs.Keeps.{keeps-has}
+use Rattle.statements.proofs.Keeps.{keeps-refl, keeps-trans, keeps-has, keeps-joined}
+use Rattle.statements.proofs.Names.{or-first, or-second, or-either}
 use Rattle.solve.specs.declared.Queue.{Queue}
+use Rattle.solve.specs.contracts.Sets.{Joins}
 use Rattle.solve.specs.contracts.Waiting.{KeepsRest}
+use Rattle.solve.proofs.Sets.{joins-none, joins-then}
 use Rattle.solve.proofs.Waiting.{rest-keeps}
-use Rattle.live.specs.contracts.Spread.{Spread, PushedTo, pushed, PushedLive}
+use Rattle.live.specs.contracts.Spread.{sets, Spread, PushedTo, PushedLive}
 use Rattle.live.proofs.Spread.{spread-refl, spread-trans}
 
 pub record Pushing (ws₀ ws before after : List ℕ) (n : ℕ) (q₀ q : Queue) (row live i : ℕ) : Type 0 where
   pub low : i ≤ n
   pub member : i < n → has ws₀ row i ≡ 1
-  pub passed : (k : ℕ) → k < i → getD after k 0 ≡ pushed ws₀ row live before k
-  pub ahead : (k : ℕ) → i ≤ k → getD after k 0 ≡ getD before k 0
-  pub size : length after ≡ length before
+  pub joins : (elements : ℕ) → Joins n elements (λ k. (k < i) × (has ws₀ row k ≡ 1)) (λ x. bit live x ≡ 1) (sets before) (sets after)
+  pub area : Keeps 0 n before after
   pub spread : Spread ws₀ ws before after n q₀ q
 
-pub pushed-member : (ws : List ℕ) (row live : ℕ) (before : List ℕ) (k : ℕ) → has ws row k ≡ 1 → pushed ws row live before k ≡ bitOr (getD before k 0) live
-unfolding pushed
-pushed-member ws row live before k e = rw (eq-eqb (has ws row k) 1 e)
+-- a set joined to one word
+joins-word : {n : ℕ} (before : List ℕ) (i live : ℕ) → i < length before → (elements : ℕ) → Joins n elements (λ k. k ≡ i) (λ x. bit live x ≡ 1) (sets before) (sets (joined before i live))
+joins-word before i live l elements = record {
+  more = λ k x b m e. more k x e (ℕ-discrete k i);
+  gets = λ k x b m d e. subst (λ z. bit z x ≡ 1) (sym (here k d)) (or-second (getD before k 0) live x e);
+  from = λ k x b m e. from k x e (ℕ-discrete k i);
+}
+  where
+    here : (k : ℕ) → k ≡ i → getD (joined before i live) k 0 ≡ bitOr (getD before k 0) live
+    here k d = rw d (joined-word before i live l)
 
-pub pushed-other : (ws : List ℕ) (row live : ℕ) (before : List ℕ) (k : ℕ) → has ws row k ≡ 0 → pushed ws row live before k ≡ getD before k 0
-unfolding pushed
-pushed-other ws row live before k e = rw (ne-eqb (has ws row k) 1 (λ d. omega arith))
+    more : (k x : ℕ) → bit (getD before k 0) x ≡ 1 → Dec (k ≡ i) → bit (getD (joined before i live) k 0) x ≡ 1
+    more k x e (yes d) = subst (λ z. bit z x ≡ 1) (sym (here k d)) (or-first (getD before k 0) live x e)
+    more k x e (no d) = subst (λ z. bit z x ≡ 1) (sym (joined-other before i live k d)) e
+
+    from : (k x : ℕ) → bit (getD (joined before i live) k 0) x ≡ 1 → Dec (k ≡ i) → (bit (getD before k 0) x ≡ 1) ⊎ ((k ≡ i) × (bit live x ≡ 1))
+    from k x e (yes d) = ⊎-elim (λ c. inl c) (λ c. inr (d, c)) (or-either (getD before k 0) live x (subst (λ z. bit z x ≡ 1) (here k d) e))
+    from k x e (no d) = inl (subst (λ z. bit z x ≡ 1) (joined-other before i live k d) e)
 
 -- no row of the matrix changes with the queue
 pub rest-row : {ws vs : List ℕ} {n : ℕ} → KeepsRest n 0 ws vs → {j k : ℕ} → j < n → k < n → has vs (rowAt n j) k ≡ has ws (rowAt n j) k
@@ -45,9 +59,8 @@ pub pushing-none : {ws before : List ℕ} {n row i : ℕ} {q : Queue} {live : �
 pushing-none {ws} {before} {n} {row} {i} {q} {live} d = record {
   low = f .high;
   member = f .member;
-  passed = λ k l. sym (pushed-other ws row live before k (f .none k (omega arith) l));
-  ahead = λ k l. refl;
-  size = refl;
+  joins = λ elements. joins-none (λ k t. let none = f .none k (omega arith) (t .0) in let one = t .1 in omega arith);
+  area = keeps-refl;
   spread = spread-refl;
 }
   where
@@ -65,38 +78,36 @@ module _ {ws₀ ws vs before after final : List ℕ} {n row : ℕ} {q₀ q p : Q
   same-row : (k : ℕ) → k < n → has vs row k ≡ has ws₀ row k
   same-row k m = subst (λ r. has vs r k ≡ has ws₀ r k) (sym e) (rest-row (whole .kept) small m)
 
-  other : (k : ℕ) → k ≢ i → getD final k 0 ≡ getD after k 0
-  other k c = ap (λ z. getD z k 0) (t .word) ∙ joined-other after i live k c
+  -- the members below the next one are those below i, and i
 
-  here : getD final i 0 ≡ pushed ws₀ row live before i
-  here =
-      ap (λ z. getD z i 0) (t .word)
-      ∙ joined-word after i live (let size = s .size in omega arith)
-      ∙ ap (λ z. bitOr z live) (s .ahead i (omega arith))
-      ∙ sym (pushed-member ws₀ row live before i (s .member l))
+  split : (k : ℕ) → (k < i′) × (has ws₀ row k ≡ 1) → Dec (k < i) → Dec (k ≡ i) → ((k < i) × (has ws₀ row k ≡ 1)) ⊎ (k ≡ i)
+  split k m (yes a) b = inl (a, m .1)
+  split k m (no a) (yes b) = inr b
+  split k m (no a) (no b) = let below = m .0 in absurd (omega (arith, f .high, same-row k (omega (arith, f .high)), f .none k (omega (arith, a, b)) below, m .1))
 
-  below : (k : ℕ) → k < i′ → Dec (k < i) → Dec (k ≡ i) → getD final k 0 ≡ pushed ws₀ row live before k
-  below k m (yes a) b = other k (λ c. omega arith) ∙ s .passed k a
-  below k m (no a) (yes b) = subst (λ z. getD final z 0 ≡ pushed ws₀ row live before z) (sym b) here
-  below k m (no a) (no b) =
-      let high = f .high in
-      other k b ∙ s .ahead k (omega (arith, a))
-      ∙ sym (pushed-other ws₀ row live before k (sym (same-row k (omega arith)) ∙ f .none k (omega (arith, a, b)) m))
+  both : (k : ℕ) → ((k < i) × (has ws₀ row k ≡ 1)) ⊎ (k ≡ i) → (k < i′) × (has ws₀ row k ≡ 1)
+  both k (inl m) = (omega (arith, m .0, f .low), m .1)
+  both k (inr b) = (omega (arith, f .low), rw b (s .member l))
 
   pub pushing-more : Pushing ws₀ vs before final n q₀ p row live i′
   pushing-more = record {
     low = f .high;
     member = λ m. sym (same-row i′ m) ∙ f .member m;
-    passed = λ k m. below k m (decLt k i) (ℕ-discrete k i);
-    ahead = λ k m. let low = f .low in other k (λ c. omega arith) ∙ s .ahead k (omega arith);
-    size = ap length (t .word) ∙ length-joined after i live ∙ s .size;
+    joins = λ elements.
+        joins-then (s .joins elements) (subst (λ z. Joins n elements (λ k. k ≡ i) (λ x. bit live x ≡ 1) (sets after) (sets z)) (sym (t .word)) (joins-word after i live (omega (arith, s .area .size)) elements))
+        (λ k m. split k m (decLt k i) (ℕ-discrete k i)) both;
+    area = keeps-trans (s .area) (subst (λ z. Keeps 0 n after z) (sym (t .word)) (keeps-joined after i live zero-le l));
     spread = whole;
   }
 
 pub pushing-all : {ws₀ ws before after : List ℕ} {n row : ℕ} {q₀ q : Queue} {j live i : ℕ} → row ≡ rowAt n j → Pushing ws₀ ws before after n q₀ q row live i → n ≤ i
     → PushedLive ws₀ ws before after n q₀ q j live
 pushing-all {ws₀} {ws} {before} {after} {n} {row} {q₀} {q} {j} {live} e s l = record {
-  words = λ k m. s .passed k (omega arith) ∙ ap (λ r. pushed ws₀ r live before k) e;
-  area = record { size = s .size; below = λ x m. absurd (omega arith); above = λ x m. let low = s .low in s .ahead x (omega arith) };
+  joins = λ elements. record {
+    more = s .joins elements .more;
+    gets = λ k x b m t. s .joins elements .gets k x b m (omega arith, subst (λ r. has ws₀ r k ≡ 1) (sym e) t);
+    from = λ k x b m c. ⊎-elim (λ d. inl d) (λ t. inr (subst (λ r. has ws₀ r k ≡ 1) e (t .0 .1), t .1)) (s .joins elements .from k x b m c);
+  };
+  area = s .area;
   spread = s .spread;
 }

@@ -1,23 +1,19 @@
 -- One word joined, and the queue after it: a word that grew has a bit more, so the number that joins the queue is paid for.
 -- Changes one after another are one change. Assumes nothing.
-use Prim.Native.Nat.{ℕ, _+_, _*_, _-_, _/_, _%_, _^_, _<_, _≤_}
+use Prim.Native.Nat.{ℕ, _^_, _<_, _≤_}
 use mathlib.Core.Bool.{Bool, true, false}
 use mathlib.Core.List.{List}
 use mathlib.Core.Logic.{_⊎_, inl, inr, ⊎-elim}
 use mathlib.Core.Path.{_≡_, refl, sym, _∙_, ap, subst}
 use native.Mathlib.Decide.{ℕ-discrete}
-use native.Mathlib.Nat.{le-refl, le-of-eq, zero-add}
+use native.Mathlib.Nat.{le-refl}
 use native.Mathlib.Omega.{arith}
-use borrow.Author.Tests.{eqb-true, eqb-false, not-true, not-false}
-use lib.Bits.{bitOr}
-use lib.ListN.{length, getD, set}
-use lib.Seq.{set-getD}
-use Rattle.words.specs.contracts.Row.{Words, bit, has, members}
-use Rattle.words.specs.contracts.Change.{Joined, joined, differs}
-use Rattle.words.proofs.Bit.{bit-or}
+use lib.ListN.{length, getD}
+use Rattle.words.specs.contracts.Row.{Words}
+use Rattle.words.specs.contracts.Change.{Joined}
 use Rattle.words.proofs.Row.{members-le}
-use Rattle.words.proofs.Rewritten.{differs-false, differs-members}
-use Rattle.words.proofs.Inserted.{joined-word, joined-other, words-joined}
+use Rattle.words.proofs.Inserted.{joined-other}
+use Rattle.words.proofs.Joined.{not-grown, grew-members}
 use Rattle.theory.specs.Lists.{In}
 use Rattle.theory.specs.Queue.{join}
 use Rattle.theory.proofs.Enqueue.{join-keeps, join-adds, join-cases, join-length}
@@ -49,48 +45,9 @@ spread-trans s t = record {
   kept = rest-trans (s .kept) (t .kept);
 }
 
--- a word that grew
-
-module _ {before after : List ℕ} {n i live : ℕ} {r : Bool} (j : Joined before after i live r) (words : Words before) (fits : live < 2 ^ 64) (l : i < n) (room : n ≤ length before) where
-  more-bits : (m : ℕ) → m < 64 * n → has before 0 m ≤ has (joined before i live) 0 m
-  unfolding has
-  more-bits m b = go (ℕ-discrete (0 + m / 64) i)
-    where
-      go : Dec (0 + m / 64 ≡ i) → bit (getD before (0 + m / 64) 0) (m % 64) ≤ bit (getD (joined before i live) (0 + m / 64) 0) (m % 64)
-      go (yes e) =
-          let word : getD (joined before i live) (0 + m / 64) 0 ≡ bitOr (getD before (0 + m / 64) 0) live =
-          ap (λ z. getD (joined before i live) z 0) e ∙ joined-word before i live (omega arith) ∙ ap (λ z. bitOr (getD before z 0) live) (sym e) in
-          let joins = ap (λ z. bit z (m % 64)) word ∙ bit-or (getD before (0 + m / 64) 0) live (m % 64) in
-          omega arith
-      go (no d) = le-of-eq (sym (ap (λ z. bit z (m % 64)) (joined-other before i live (0 + m / 64) d)))
-
-  grew-differs : r ≡ true → differs before (joined before i live) 0 n ≡ true
-  grew-differs e = go (differs before (joined before i live) 0 n) refl
-    where
-      go : (b : Bool) → differs before (joined before i live) 0 n ≡ b → b ≡ true
-      go true d = refl
-      go false d =
-          let same : getD (joined before i live) i 0 ≡ getD before i 0 = subst (λ z. getD (joined before i live) z 0 ≡ getD before z 0) (zero-add i) (differs-false before (joined before i live) 0 n d i l) in
-          absurd
-          (eqb-false (bitOr (getD before i 0) live) (getD before i 0) (not-true _ (sym (j .grew) ∙ e)) (sym (joined-word before i live (omega arith)) ∙ same))
-
-  pub grew-falls : r ≡ true → missing after n < missing before n
-  unfolding missing
-  grew-falls e =
-      subst (λ z. 64 * n - members z 0 n < 64 * n - members before 0 n) (sym (j .slice))
-      (let more : members before 0 n < members (joined before i live) 0 n =
-      differs-members before (joined before i live) 0 n words (words-joined before i live words fits) more-bits (grew-differs e) in
-      omega (arith, members-le (joined before i live) 0 n))
-
--- a word that did not grow
-pub not-grown : {before after : List ℕ} {i live : ℕ} {r : Bool} → Joined before after i live r → r ≡ false → after ≡ before
-unfolding joined
-not-grown {before} {after} {i} {live} j e =
-    let same : bitOr (getD before i 0) live ≡ getD before i 0 = eqb-true _ _ (not-false _ (sym (j .grew) ∙ e)) in
-    j .slice ∙ ap (set before i) same ∙ set-getD before i 0
-
 pub pushed-waits : {ws vs before after : List ℕ} {n i live : ℕ} {q p : Queue} {r : Bool} → Joined before after i live r → r ≡ true → Words before → live < 2 ^ 64 → i < n → n ≤ length before
     → Enqueued ws vs n 0 q i p → PushedTo ws vs before after n q p i live
+unfolding missing
 pushed-waits {ws} {vs} {before} {after} {n} {i} {live} {q} {p} j e words fits l room s = record {
   word = j .slice;
   spread = record {
@@ -101,7 +58,7 @@ pushed-waits {ws} {vs} {before} {after} {n} {i} {live} {q} {p} j e words fits l 
         stays = λ k m. join-keeps w i m;
         comes = λ k m. ⊎-elim (λ x. inl x) (λ x. inr (rw x l)) (join-cases w i m);
         grows = λ k b. grown w k (ℕ-discrete k i);
-        falls = omega (arith, join-length w i, grew-falls j words fits l room e);
+        falls = omega (arith, join-length w i, grew-members j words fits 0 n (omega arith) (omega arith) (omega arith) e, members-le after 0 n);
       },
     );
     kept = s .kept;

@@ -30,7 +30,7 @@ push-to-requires c κs =
     let start = c .before .before .before .before .before .before .before .before .before in
     let inv = c .before .before .before .loop .inv in
     let held = inv .spread .waits (start .pre .4 .0) (start .pre .4 .1) in
-    (start .pre .0, omega (arith, inv .spread .kept .size), omega (arith, inv .size), omega arith, (held .0, held .1))
+    (start .pre .0, omega (arith, inv .spread .kept .size), omega (arith, inv .area .size), omega arith, (held .0, held .1))
 
 add-next : tie.Need-add-next Inv-loop μ-loop
 add-next c = omega arith
@@ -56,7 +56,7 @@ same-length : tie.Need-same-length Inv-loop μ-loop
 same-length c = c .before .loop .inv .spread .kept .size
 
 same-length-2 : tie.Need-same-length-2 Inv-loop μ-loop
-same-length-2 c = c .before .loop .inv .size
+same-length-2 c = c .before .loop .inv .area .size
 
 returns : tie.Need-returns Inv-loop μ-loop
 returns c = pushing-all (c .before .before .before .before .row .ensures) (c .before .loop .inv) (omega arith)

@@ -1,20 +1,22 @@
--- What is live at a statement's start is joined to the live-out words of its predecessors: which words grow, and that whatever grew waits.
+-- What is live at a statement's start is joined to the live-out sets of its predecessors, in the words of the solver's law, and whatever grew waits.
 -- What may still be done is the numbers that wait and the bits that no word has yet: it does not grow.
 use Prim.Native.Nat.{ℕ, _+_, _*_, _-_, _<_, _≤_}
-use mathlib.Core.Bool.{cond}
 use mathlib.Core.List.{List}
 use mathlib.Core.Logic.{_⊎_}
 use mathlib.Core.Path.{_≡_}
-use lib.Bits.{bitOr}
-use lib.Dec.{eqb}
 use lib.ListN.{length, getD}
-use Rattle.words.specs.contracts.Row.{has, members}
+use Rattle.words.specs.contracts.Row.{bit, has, members}
 use Rattle.words.specs.contracts.Change.{joined}
 use Rattle.theory.specs.Lists.{In}
 use Rattle.statements.specs.contracts.Layout.{rowAt}
 use Rattle.statements.specs.contracts.Ready.{Keeps}
 use Rattle.solve.specs.declared.Queue.{Queue}
+use Rattle.solve.specs.contracts.Sets.{Joins}
 use Rattle.solve.specs.contracts.Waiting.{Waits, KeepsRest}
+
+-- a set of names is a word
+abbrev pub sets : List ℕ → ℕ → ℕ → ℕ
+sets ws i x = bit (getD ws i 0) x
 
 -- the bits that the first n words do not have
 unfoldable pub missing : List ℕ → ℕ → ℕ
@@ -37,11 +39,8 @@ pub record PushedTo (ws vs before after : List ℕ) (n : ℕ) (q r : Queue) (i l
   pub word : after ≡ joined before i live
   pub spread : Spread ws vs before after n q r
 
--- the word of statement k after a set was joined to the words of a row's members
-unfoldable pub pushed : List ℕ → ℕ → ℕ → List ℕ → ℕ → ℕ
-pushed ws row live before k = cond (eqb (has ws row k) 1) (bitOr (getD before k 0) live) (getD before k 0)
-
+-- a set is joined to the words of the members of row j
 pub record PushedLive (ws vs before after : List ℕ) (n : ℕ) (q r : Queue) (j live : ℕ) : Type 0 where
-  pub words : (k : ℕ) → k < n → getD after k 0 ≡ pushed ws (rowAt n j) live before k
+  pub joins : (elements : ℕ) → Joins n elements (λ i. has ws (rowAt n j) i ≡ 1) (λ x. bit live x ≡ 1) (sets before) (sets after)
   pub area : Keeps 0 n before after
   pub spread : Spread ws vs before after n q r
