@@ -11,6 +11,7 @@ use borrow.Author.Tests.{eq-eqb}
 use lib.ListN.{length, getD, set}
 use lib.Seq.{getD-set-same, getD-set-other}
 use Rattle.words.specs.contracts.Row.{bit, has}
+use Rattle.words.proofs.Bit.{bits-ext}
 use Rattle.flow.specs.Flow.{Flow, statement}
 use Rattle.flow.specs.Format.{flowOf}
 use Rattle.theory.specs.Lists as lists
@@ -78,8 +79,8 @@ module _ {s ws vs us ins outs outs′ w v : List ℕ} {n j live : ℕ} {q p : Qu
 
   follows : (elements : ℕ) → law.Follows n elements (sets outs) (sets outs′) (λ k. In k (j ∷ w) × (k ≢ j)) (λ k. In k v)
   follows elements = record {
-    stays = λ k l m. ⊎-elim (λ e. absurd (m .1 e)) (rest .stays k) (List·Memᴰ·cases-cons (m .0));
-    grows = λ k l. ⊎-elim (λ m. inl m) (λ e. inr (λ x m. ap (λ z. bit z x) e)) (rest .grows k l);
+    stays = λ k l m. ⊎-elim (λ e. absurd (m .1 e)) (rest .follows elements .stays k l) (List·Memᴰ·cases-cons (m .0));
+    grows = rest .follows elements .grows;
   }
 
   after : (elements : ℕ) → law.Solving (backward (flowOf s)) n elements (sets outs′) (λ k. In k v)
@@ -90,16 +91,16 @@ module _ {s ws vs us ins outs outs′ w v : List ℕ} {n j live : ℕ} {q p : Qu
 
   -- a statement that does not wait
 
+  same : (k : ℕ) → k < n → (In k v → ⊥) → getD outs′ k 0 ≡ getD outs k 0
+  same k l out = bits-ext _ _ (λ x. ⊎-elim (λ m. absurd (out m)) (λ e. e x (omega arith)) (rest .follows (suc x) .grows k l))
+
   equation : (k : ℕ) → k < n → (In k v → ⊥) → getD (set ins j live) k 0 ≡ transfer (flowOf s) k (getD outs′ k 0)
-  equation k l out = go (ℕ-discrete k j) (h .handed-on k l) (rest .grows k l)
+  equation k l out = go (ℕ-discrete k j) (h .handed-on k l) ∙ ap (transfer (flowOf s) k) (sym (same k l out))
     where
-      go : Dec (k ≡ j) → In k (j ∷ w) ⊎ HandedOn (flowOf s) 0 n ins outs k → In k v ⊎ (getD outs′ k 0 ≡ getD outs k 0) → getD (set ins j live) k 0 ≡ transfer (flowOf s) k (getD outs′ k 0)
-      go d t (inl m) = absurd (out m)
-      go (yes d) t (inr same) =
-          ap (λ z. getD (set ins j live) z 0) d ∙ getD-set-same ins j live 0 (omega arith) ∙ value
-          ∙ ap (λ z. transfer (flowOf s) z (getD outs z 0)) (sym d) ∙ ap (transfer (flowOf s) k) (sym same)
-      go (no d) (inl m) (inr same) = absurd (out (follows 0 .stays k l (m, d)))
-      go (no d) (inr t) (inr same) = getD-set-other ins j k live 0 d ∙ t .equation zero-le ∙ ap (transfer (flowOf s) k) (sym same)
+      go : Dec (k ≡ j) → In k (j ∷ w) ⊎ HandedOn (flowOf s) 0 n ins outs k → getD (set ins j live) k 0 ≡ transfer (flowOf s) k (getD outs k 0)
+      go (yes d) t = rw d (getD-set-same ins j live 0 (omega arith) ∙ value)
+      go (no d) (inl m) = absurd (out (follows 0 .stays k l (m, d)))
+      go (no d) (inr t) = getD-set-other ins j k live 0 d ∙ t .equation zero-le
 
   handed-on : (k : ℕ) → k < n → (b : Bool) → lists.elem k v ≡ b → In k v ⊎ HandedOn (flowOf s) 0 n (set ins j live) outs′ k
   handed-on k l true e = inl (elem-In k v e)

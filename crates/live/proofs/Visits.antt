@@ -60,7 +60,7 @@ module _ {s ws vs us ins outs outs′ : List ℕ} {n j live : ℕ} {q p o : Queu
   visited =
       let c = front h l in
       let small = taken-small h l t in
-      let after = u .spread .waits (c .rest) (subst (λ z. Waits vs n 0 z (c .rest)) (sym e) (t .waits (c .first) (c .rest) (c .waits))) in
+      let after = u .waits (c .rest) (subst (λ z. Waits vs n 0 z (c .rest)) (sym e) (t .waits (c .first) (c .rest) (c .waits))) in
       record {
         held = (
           after .0,
@@ -68,7 +68,7 @@ module _ {s ws vs us ins outs outs′ : List ℕ} {n j live : ℕ} {q p o : Queu
           handled-solving r small room (rest-predecessors (flowOf s) (t .kept) rows) taken value u (after .2),
         );
         falls = let a = c .waits .count in let b = after .1 .count in let d = after .2 .falls in omega arith;
-        kept = rest-trans (t .kept) (u .spread .kept);
+        kept = rest-trans (t .kept) (u .kept);
         in-area = keeps-set ins j live zero-le small;
         out-area = u .area;
       }

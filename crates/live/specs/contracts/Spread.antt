@@ -6,12 +6,11 @@ use mathlib.Core.Logic.{_⊎_}
 use mathlib.Core.Path.{_≡_}
 use lib.ListN.{length, getD}
 use Rattle.words.specs.contracts.Row.{bit, has, members}
-use Rattle.words.specs.contracts.Change.{joined}
 use Rattle.theory.specs.Lists.{In}
 use Rattle.statements.specs.contracts.Layout.{rowAt}
 use Rattle.statements.specs.contracts.Ready.{Keeps}
 use Rattle.solve.specs.declared.Queue.{Queue}
-use Rattle.solve.specs.contracts.Sets.{Joins}
+use Rattle.solve.specs.contracts.Sets as law
 use Rattle.solve.specs.contracts.Waiting.{Waits, KeepsRest}
 
 -- a set of names is a word
@@ -24,23 +23,21 @@ missing ws n = 64 * n - members ws 0 n
 
 -- from the waiting numbers w and the words before to the waiting numbers v and the words after
 pub record Follows (n : ℕ) (before after w v : List ℕ) : Type 0 where
-  pub stays : (k : ℕ) → In k w → In k v
+  pub follows : (elements : ℕ) → law.Follows n elements (sets before) (sets after) (λ k. In k w) (λ k. In k v)
   pub comes : (k : ℕ) → In k v → In k w ⊎ (k < n)
-  pub grows : (k : ℕ) → k < n → In k v ⊎ (getD after k 0 ≡ getD before k 0)
   pub falls : length v + missing after n ≤ length w + missing before n
 
--- the queue before and after, for every list that it holds
-pub record Spread (ws vs before after : List ℕ) (n : ℕ) (q r : Queue) : Type 0 where
+-- the set `live` is sent to some statements: it is joined to their words, and for every list that the queue held before there is one that it holds after
+pub record Spread (ws vs before after : List ℕ) (n : ℕ) (q r : Queue) (to : ℕ → Type 0) (live : ℕ) : Type 0 where
+  pub joins : (elements : ℕ) → law.Joins n elements to (λ x. bit live x ≡ 1) (sets before) (sets after)
   pub waits : (w : List ℕ) → Waits ws n 0 q w → (v : List ℕ) × Waits vs n 0 r v × Follows n before after w v
+  pub area : Keeps 0 n before after
   pub kept : KeepsRest n 0 ws vs
 
--- a set is joined to the word of statement i
-pub record PushedTo (ws vs before after : List ℕ) (n : ℕ) (q r : Queue) (i live : ℕ) : Type 0 where
-  pub word : after ≡ joined before i live
-  pub spread : Spread ws vs before after n q r
+-- to statement i, and to the members of row j
 
--- a set is joined to the words of the members of row j
-pub record PushedLive (ws vs before after : List ℕ) (n : ℕ) (q r : Queue) (j live : ℕ) : Type 0 where
-  pub joins : (elements : ℕ) → Joins n elements (λ i. has ws (rowAt n j) i ≡ 1) (λ x. bit live x ≡ 1) (sets before) (sets after)
-  pub area : Keeps 0 n before after
-  pub spread : Spread ws vs before after n q r
+abbrev pub PushedTo : List ℕ → List ℕ → List ℕ → List ℕ → ℕ → Queue → Queue → ℕ → ℕ → Type 0
+PushedTo ws vs before after n q r i live = Spread ws vs before after n q r (λ k. k ≡ i) live
+
+abbrev pub PushedLive : List ℕ → List ℕ → List ℕ → List ℕ → ℕ → Queue → Queue → ℕ → ℕ → Type 0
+PushedLive ws vs before after n q r j live = Spread ws vs before after n q r (λ k. has ws (rowAt n j) k ≡ 1) live
