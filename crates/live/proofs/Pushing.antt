@@ -2,7 +2,7 @@
 -- The next member is the next one to handle, since the numbers between are no members. Assumes nothing.
 use Prim.Native.Nat.{ℕ, _+_, _<_, _≤_}
 use mathlib.Core.List.{List}
-use mathlib.Core.Logic.{_⊎_, inl, inr, ⊎-elim}
+use mathlib.Core.Logic.{_⊎_, inl, inr}
 use mathlib.Core.Path.{_≡_, sym, _∙_, subst}
 use native.Mathlib.Decide.{decLt, ℕ-discrete}
 use native.Mathlib.Omega.{arith}
@@ -64,16 +64,6 @@ module _ {ws₀ ws vs before after final : List ℕ} {n row : ℕ} {q₀ q p : Q
 
 pub pushing-all : {ws₀ ws before after : List ℕ} {n row : ℕ} {q₀ q : Queue} {live i : ℕ} (j : ℕ) → row ≡ rowAt n j → Pushing ws₀ ws before after n q₀ q row live i → n ≤ i
     → PushedLive ws₀ ws before after n q₀ q j live
-pushing-all {ws₀} {ws} {before} {after} {n} {row} {q₀} {q} {live} j e s l =
-    subst (λ z. Spread ws₀ ws before after n q₀ q (λ k. has ws₀ z k ≡ 1) live) e (record {
-      joins = λ elements.
-          let p = s .spread .joins elements in
-          record {
-            more = p .more;
-            gets = λ k x b m t. p .gets k x b m (omega arith, t);
-            from = λ k x b m c. ⊎-elim (λ d. inl d) (λ t. inr (t .0 .1, t .1)) (p .from k x b m c);
-          };
-      waits = s .spread .waits;
-      area = s .spread .area;
-      kept = s .spread .kept;
-    })
+pushing-all {ws₀} {ws} {before} {after} {n} {row} {q₀} {q} {live} {i} j e s l =
+    let end : i ≡ n = omega (arith, s .low) in
+    rw (← e) (subst (λ m. Spread ws₀ ws before after n q₀ q (λ k. (k < m) × (has ws₀ row k ≡ 1)) live) end (s .spread))

@@ -10,7 +10,7 @@ use native.Mathlib.Omega.{arith}
 use borrow.Author.Tests.{eq-eqb}
 use lib.ListN.{length, getD, set}
 use lib.Seq.{getD-set-same, getD-set-other}
-use Rattle.words.specs.contracts.Row.{bit, has}
+use Rattle.words.specs.contracts.Row.{bit}
 use Rattle.words.proofs.Bit.{bits-ext}
 use Rattle.flow.specs.Flow.{Flow, statement}
 use Rattle.flow.specs.Format.{flowOf}
@@ -19,7 +19,6 @@ use Rattle.theory.specs.Lists.{In}
 use Rattle.theory.specs.Body.{successors}
 use Rattle.theory.specs.Live.{LiveIn, LiveOut, bitOf}
 use Rattle.theory.proofs.Lists.{says-one, In-elem, elem-In, elem-not}
-use Rattle.statements.specs.contracts.Layout.{rowAt}
 use Rattle.statements.specs.contracts.Ready.{Ready}
 use Rattle.statements.proofs.Names.{written-word}
 use Rattle.solve.specs.declared.Queue.{Queue}
@@ -67,11 +66,11 @@ module _ {s ws vs us ins outs outs′ w v : List ℕ} {n j live : ℕ} {q p : Qu
   joins : (elements : ℕ) → law.Joins n elements (λ i. In j (successors (flowOf s) i)) (law.Leaves (backward (flowOf s)) (sets outs) j) (sets outs) (sets outs′)
   joins elements = record {
     more = push .joins elements .more;
-    gets = λ i x l m e g. push .joins elements .gets i x l m (rows i l j small ∙ ap bitOf (In-elem e)) (subst (λ z. bit z x ≡ 1) (sym value) (transfer-has (flowOf s) j (getD outs j 0) x (out-word r h j small) (written-word r j) g));
+    gets = λ i x l m e g. push .joins elements .gets i x l m (l, rows i l j small ∙ ap bitOf (In-elem e)) (subst (λ z. bit z x ≡ 1) (sym value) (transfer-has (flowOf s) j (getD outs j 0) x (out-word r h j small) (written-word r j) g));
     from = λ i x l m e.
         ⊎-elim (λ d. inl d)
         (λ t. inr (
-          elem-In j (successors (flowOf s) i) (sym (says-one (lists.elem j (successors (flowOf s) i))) ∙ eq-eqb _ _ (sym (rows i l j small) ∙ t .0)),
+          elem-In j (successors (flowOf s) i) (sym (says-one (lists.elem j (successors (flowOf s) i))) ∙ eq-eqb _ _ (sym (rows i l j small) ∙ t .0 .1)),
           transfer-cases (flowOf s) j (getD outs j 0) x (out-word r h j small) (written-word r j) (subst (λ z. bit z x ≡ 1) value (t .1)),
         ))
         (push .joins elements .from i x l m e);

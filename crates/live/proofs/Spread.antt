@@ -4,14 +4,14 @@ use Prim.Native.Nat.{ℕ, _^_, _<_, _≤_, zero-le}
 use mathlib.Core.Bool.{Bool, true, false}
 use mathlib.Core.List.{List}
 use mathlib.Core.Logic.{_⊎_, inl, inr, ⊎-elim, _≢_}
-use mathlib.Core.Path.{_≡_, sym, ap, subst}
+use mathlib.Core.Path.{_≡_, sym, _∙_, ap, subst}
 use native.Mathlib.Decide.{ℕ-discrete}
 use native.Mathlib.Nat.{le-refl}
 use native.Mathlib.Omega.{arith}
-use lib.Bits.{bitOr}
 use lib.ListN.{length, getD}
 use Rattle.words.specs.contracts.Row.{Words, bit}
 use Rattle.words.specs.contracts.Change.{Joined}
+use Rattle.words.proofs.Bit.{bit-lt, bit-or}
 use Rattle.words.proofs.Row.{members-le}
 use Rattle.words.proofs.Inserted.{joined-word, joined-other}
 use Rattle.words.proofs.Joined.{not-grown, grew-members}
@@ -20,11 +20,10 @@ use Rattle.theory.specs.Queue.{join}
 use Rattle.theory.proofs.Enqueue.{join-keeps, join-adds, join-cases, join-length}
 use Rattle.statements.specs.contracts.Ready.{Keeps}
 use Rattle.statements.proofs.Keeps.{keeps-refl, keeps-trans, keeps-joined}
-use Rattle.statements.proofs.Names.{or-first, or-second, or-either}
 use Rattle.solve.specs.declared.Queue.{Queue}
 use Rattle.solve.specs.contracts.Sets.{Joins}
 use Rattle.solve.specs.contracts.Waiting.{Enqueued}
-use Rattle.solve.proofs.Sets.{joins-none, joins-then, follows-refl, follows-trans}
+use Rattle.solve.proofs.Sets.{joins-none, joins-one, joins-then, follows-refl, follows-trans}
 use Rattle.solve.proofs.Waiting.{rest-refl, rest-trans}
 use Rattle.live.specs.contracts.Spread.{sets, missing, Follows, Spread, PushedTo}
 
@@ -61,26 +60,13 @@ spread-then s t split join = record {
 -- one word
 
 module _ {before after : List ℕ} {n i live : ℕ} {r : Bool} (j : Joined before after i live r) (l : i < n) (room : n ≤ length before) where
-  here : (k : ℕ) → k ≡ i → getD after k 0 ≡ bitOr (getD before k 0) live
-  here k d = rw (d, j .slice) (joined-word before i live (omega arith))
-
-  else : (k : ℕ) → k ≢ i → getD after k 0 ≡ getD before k 0
-  else k d = rw (j .slice) (joined-other before i live k d)
+  other : (k : ℕ) → k ≢ i → getD after k 0 ≡ getD before k 0
+  other k d = rw (j .slice) (joined-other before i live k d)
 
   joins-word : (elements : ℕ) → Joins n elements (λ k. k ≡ i) (λ x. bit live x ≡ 1) (sets before) (sets after)
-  joins-word elements = record {
-    more = λ k x b m e. more k x e (ℕ-discrete k i);
-    gets = λ k x b m d e. subst (λ z. bit z x ≡ 1) (sym (here k d)) (or-second (getD before k 0) live x e);
-    from = λ k x b m e. from k x e (ℕ-discrete k i);
-  }
-    where
-      more : (k x : ℕ) → bit (getD before k 0) x ≡ 1 → Dec (k ≡ i) → bit (getD after k 0) x ≡ 1
-      more k x e (yes d) = subst (λ z. bit z x ≡ 1) (sym (here k d)) (or-first (getD before k 0) live x e)
-      more k x e (no d) = subst (λ z. bit z x ≡ 1) (sym (else k d)) e
-
-      from : (k x : ℕ) → bit (getD after k 0) x ≡ 1 → Dec (k ≡ i) → (bit (getD before k 0) x ≡ 1) ⊎ ((k ≡ i) × (bit live x ≡ 1))
-      from k x e (yes d) = ⊎-elim (λ c. inl c) (λ c. inr (d, c)) (or-either (getD before k 0) live x (subst (λ z. bit z x ≡ 1) (here k d) e))
-      from k x e (no d) = inl (subst (λ z. bit z x ≡ 1) (else k d) e)
+  joins-word elements =
+      joins-one (λ k. bit-lt (getD before k 0)) (bit-lt live)
+      (λ x m. rw (j .slice) (ap (λ z. bit z x) (joined-word before i live (omega arith)) ∙ bit-or (getD before i 0) live x)) (λ k x d m. ap (λ z. bit z x) (other k d))
 
   area-word : Keeps 0 n before after
   area-word = rw (j .slice) (keeps-joined before i live zero-le l)
@@ -104,7 +90,7 @@ module _ {before after : List ℕ} {n i live : ℕ} {r : Bool} (j : Joined befor
     where
       grown : {elements : ℕ} (w : List ℕ) (k : ℕ) → Dec (k ≡ i) → In k (join w i) ⊎ ((x : ℕ) → x < elements → bit (getD after k 0) x ≡ bit (getD before k 0) x)
       grown w k (yes d) = inl (subst (λ z. In z (join w i)) (sym d) (join-adds w i))
-      grown w k (no d) = inr (λ x m. ap (λ z. bit z x) (else k d))
+      grown w k (no d) = inr (λ x m. ap (λ z. bit z x) (other k d))
 
   pub pushed-same : {ws : List ℕ} {q : Queue} → r ≡ false → PushedTo ws ws before after n q q i live
   pushed-same e = record {

@@ -40,4 +40,4 @@ abbrev pub PushedTo : List ℕ → List ℕ → List ℕ → List ℕ → ℕ �
 PushedTo ws vs before after n q r i live = Spread ws vs before after n q r (λ k. k ≡ i) live
 
 abbrev pub PushedLive : List ℕ → List ℕ → List ℕ → List ℕ → ℕ → Queue → Queue → ℕ → ℕ → Type 0
-PushedLive ws vs before after n q r j live = Spread ws vs before after n q r (λ k. has ws (rowAt n j) k ≡ 1) live
+PushedLive ws vs before after n q r j live = Spread ws vs before after n q r (λ k. (k < n) × (has ws (rowAt n j) k ≡ 1)) live
