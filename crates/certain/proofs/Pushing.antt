@@ -28,11 +28,11 @@ use Rattle.certain.specs.contracts.Unwritten.{sets, Waits, left, Spread,
 
 -- a row of two words
 
-row-low : (a b x : ℕ) → x / 64 ≡ 0 → has (a ∷ b ∷ []) 0 x ≡ bit a (x % 64)
+pub row-low : (a b x : ℕ) → x / 64 ≡ 0 → has (a ∷ b ∷ []) 0 x ≡ bit a (x % 64)
 unfolding has
 row-low a b x e = rw e refl
 
-row-high : (a b x : ℕ) → x / 64 ≡ 1 → has (a ∷ b ∷ []) 0 x ≡ bit b (x % 64)
+pub row-high : (a b x : ℕ) → x / 64 ≡ 1 → has (a ∷ b ∷ []) 0 x ≡ bit b (x % 64)
 unfolding has
 row-high a b x e = rw e refl
 
