@@ -2,7 +2,7 @@
 -- is paid for. Assumes nothing.
 use Prim.Native.Nat.{ℕ, _+_, _*_, _-_, _/_, _%_, _^_, _<_, _≤_, max}
 use mathlib.Core.Bool.{Bool, true, false, _||_, true≢false}
-use mathlib.Core.List.{List, [], _∷_, _++_, List·Memᴰ·not-nil, List·Memᴰ·append-cases, List·Memᴰ·eq-of-singleton, List·Memᴰ·head, Memᴰ·append-left, Memᴰ·append-right}
+use mathlib.Core.List.{List, [], _∷_, _++_, List·Memᴰ·append-cases, List·Memᴰ·eq-of-singleton, List·Memᴰ·head, Memᴰ·append-left, Memᴰ·append-right}
 use mathlib.Core.Logic.{_⊎_, inl, inr, ⊎-elim, _≢_}
 use mathlib.Core.Path.{_≡_, refl, sym, _∙_, ap, subst}
 use native.Mathlib.Decide.{ℕ-discrete}
@@ -12,7 +12,7 @@ use native.Mathlib.Omega.{arith}
 use lib.ListN.{length, getD, take}
 use lib.Seq.{take-suc, take-all}
 use Rattle.words.specs.contracts.Row.{Words, bit, has, members}
-use Rattle.words.specs.contracts.Change.{Joined, joined, Inserted, inserted}
+use Rattle.words.specs.contracts.Change.{Joined, Inserted, inserted}
 use Rattle.words.proofs.Row.{has-lt, members-cong, members-le}
 use Rattle.words.proofs.Inserted.{length-joined, joined-other, words-joined, inserted-other, insert-same, insert-other, insert-else, insert-again, insert-members}
 use Rattle.words.proofs.Joined.{join-has, join-else, not-grown, grew-members}
@@ -22,7 +22,7 @@ use Rattle.statements.specs.contracts.Ready.{Keeps}
 use Rattle.statements.proofs.WorkArea.{member-word, row-holds}
 use Rattle.statements.proofs.Keeps.{keeps-refl, keeps-trans, keeps-joined, keeps-inserted}
 use Rattle.solve.specs.contracts.Sets.{Joins, Follows}
-use Rattle.solve.proofs.Sets.{joins-none, joins-then, follows-refl, follows-trans}
+use Rattle.solve.proofs.Sets.{joins-none, joins-one, joins-then, follows-refl, follows-trans}
 use Rattle.certain.specs.contracts.Layout.{setAt, waitingAt, waitingEnd, elements}
 use Rattle.certain.specs.contracts.Unwritten.{sets, Waits, left, Spread, Pushed}
 
@@ -81,26 +81,7 @@ module _ {ws vs us : List ℕ} {n j at names reached : ℕ} {first second : Bool
   other i x d m = twice i x (λ e. omega (arith, d)) ∙ once i x (λ e. omega (arith, d))
 
   joins-us : Joins n elements (λ i. i ≡ j) (λ x. has (names ∷ reached ∷ []) 0 x ≡ 1) (sets ws n) (sets us n)
-  joins-us = record { more = λ i x k m e. more i x m e (ℕ-discrete i j); gets = λ i x k m e t. gets i x m e t; from = λ i x k m e. from i x m e (ℕ-discrete i j) }
-    where
-      more : (i x : ℕ) → x < elements → has ws (setAt n i) x ≡ 1 → Dec (i ≡ j) → has us (setAt n i) x ≡ 1
-      more i x m e (yes d) =
-          subst (λ z. has us (setAt n z) x ≡ 1) (sym d)
-          (let before : has ws (setAt n j) x ≡ 1 = subst (λ z. has ws (setAt n z) x ≡ 1) d e in omega (arith, here x m, has-lt (names ∷ reached ∷ []) 0 x))
-      more i x m e (no d) = other i x d m ∙ e
-
-      gets : (i x : ℕ) → x < elements → i ≡ j → has (names ∷ reached ∷ []) 0 x ≡ 1 → has us (setAt n i) x ≡ 1
-      gets i x m d t = subst (λ z. has us (setAt n z) x ≡ 1) (sym d) (omega (arith, here x m, has-lt ws (setAt n j) x))
-
-      from : (i x : ℕ) → x < elements → has us (setAt n i) x ≡ 1 → Dec (i ≡ j) → (has ws (setAt n i) x ≡ 1) ⊎ ((i ≡ j) × (has (names ∷ reached ∷ []) 0 x ≡ 1))
-      from i x m e (no d) = inl (sym (other i x d m) ∙ e)
-      from i x m e (yes d) = go (ℕ-discrete (has (names ∷ reached ∷ []) 0 x) 1)
-        where
-          go : Dec (has (names ∷ reached ∷ []) 0 x ≡ 1) → (has ws (setAt n i) x ≡ 1) ⊎ ((i ≡ j) × (has (names ∷ reached ∷ []) 0 x ≡ 1))
-          go (yes c) = inr (d, c)
-          go (no c) =
-              let after : has us (setAt n j) x ≡ 1 = subst (λ z. has us (setAt n z) x ≡ 1) d e in
-              inl (subst (λ z. has ws (setAt n z) x ≡ 1) (sym d) (omega (arith, here x m, c, has-lt (names ∷ reached ∷ []) 0 x, has-lt ws (setAt n j) x)))
+  joins-us = joins-one (λ i. has-lt ws (setAt n i)) (has-lt (names ∷ reached ∷ []) 0) here other
 
   kept-us : Keeps n (waitingEnd n) ws us
   kept-us =

@@ -41,14 +41,10 @@ union-cong (suc k) g h e = ap₂ bitOr (union-cong k g h (λ m l. e m (omega ari
 
 module _ (f : Flow) (j a x : ℕ) (word : a < 2 ^ 64) (written : statement f j .written < 2 ^ 64) where
   pub transfer-cases : bit (transfer f j a) x ≡ 1 → (reads f j x ≡ true) ⊎ ((writes f j x ≡ false) × (bit a x ≡ 1))
-  transfer-cases e = go (or-either (statement f j .read) (without a (statement f j .written)) x e)
-    where
-      go : (bit (statement f j .read) x ≡ 1) ⊎ (bit (without a (statement f j .written)) x ≡ 1) → (reads f j x ≡ true) ⊎ ((writes f j x ≡ false) × (bit a x ≡ 1))
-      go (inl d) = inl (bit-member (statement f j .read) x d)
-      go (inr d) = inr (kept-cases f j a x word written d)
+  transfer-cases e =
+      ⊎-elim (λ d. inl (bit-member (statement f j .read) x d)) (λ d. inr (kept-cases f j a x word written d))
+      (or-either (statement f j .read) (without a (statement f j .written)) x e)
 
-  pub transfer-reads : reads f j x ≡ true → bit (transfer f j a) x ≡ 1
-  transfer-reads e = or-first (statement f j .read) (without a (statement f j .written)) x (member-bit (statement f j .read) x e)
-
-  pub transfer-keeps : writes f j x ≡ false → bit a x ≡ 1 → bit (transfer f j a) x ≡ 1
-  transfer-keeps e d = or-second (statement f j .read) (without a (statement f j .written)) x (kept-bit f j a x word written e d)
+  pub transfer-has : (reads f j x ≡ true) ⊎ ((writes f j x ≡ false) × (bit a x ≡ 1)) → bit (transfer f j a) x ≡ 1
+  transfer-has (inl e) = or-first (statement f j .read) (without a (statement f j .written)) x (member-bit (statement f j .read) x e)
+  transfer-has (inr d) = or-second (statement f j .read) (without a (statement f j .written)) x (kept-bit f j a x word written (d .0) (d .1))

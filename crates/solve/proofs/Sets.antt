@@ -1,9 +1,10 @@
 -- One number handled keeps the worklist's invariant, and where nothing waits the sets are those of the walks: for every graph, in either direction, and for sets of any
 -- width. By cases on the number and by induction on the walk. Assumes nothing.
-use Prim.Native.Nat.{ℕ, _<_}
+use Prim.Native.Nat.{ℕ, _<_, max}
 use mathlib.Core.Logic.{_⊎_, inl, inr, ⊎-elim, _≢_}
 use mathlib.Core.Path.{_≡_, refl, sym, _∙_, subst}
 use native.Mathlib.Decide.{ℕ-discrete}
+use native.Mathlib.Omega.{arith}
 use Rattle.solve.specs.contracts.Sets.{Problem, Comes, Leaves, Solving, Joins, Follows}
 
 -- what leaves a number by its set does so by a walk
@@ -62,6 +63,27 @@ module _ {p : Problem} {n elements : ℕ} {sets : ℕ → ℕ → ℕ} {waits : 
 
 pub joins-none : {n elements : ℕ} {to sent : ℕ → Type 0} {sets : ℕ → ℕ → ℕ} → ((i : ℕ) → to i → ⊥) → Joins n elements to sent sets sets
 joins-none none = record { more = λ i x l m e. e; gets = λ i x l m t. absurd (none i t); from = λ i x l m e. inl e }
+
+-- to one number
+pub joins-one : {n elements i : ℕ} {bits : ℕ → ℕ} {sets sets′ : ℕ → ℕ → ℕ} → ((k x : ℕ) → sets k x < 2) → ((x : ℕ) → bits x < 2) → ((x : ℕ) → x < elements → sets′ i x ≡ max (sets i x) (bits x))
+    → ((k x : ℕ) → k ≢ i → x < elements → sets′ k x ≡ sets k x) → Joins n elements (λ k. k ≡ i) (λ x. bits x ≡ 1) sets sets′
+joins-one {n} {elements} {i} {bits} {sets} {sets′} small few here other = record {
+  more = λ k x l m e. more k x m e (ℕ-discrete k i);
+  gets = λ k x l m d e. omega (arith, at k x m d, small k x);
+  from = λ k x l m e. from k x m e (ℕ-discrete k i) (ℕ-discrete (bits x) 1);
+}
+  where
+    at : (k x : ℕ) → x < elements → k ≡ i → sets′ k x ≡ max (sets k x) (bits x)
+    at k x m d = rw d (here x m)
+
+    more : (k x : ℕ) → x < elements → sets k x ≡ 1 → Dec (k ≡ i) → sets′ k x ≡ 1
+    more k x m e (yes d) = omega (arith, at k x m d, few x)
+    more k x m e (no d) = other k x d m ∙ e
+
+    from : (k x : ℕ) → x < elements → sets′ k x ≡ 1 → Dec (k ≡ i) → Dec (bits x ≡ 1) → (sets k x ≡ 1) ⊎ ((k ≡ i) × (bits x ≡ 1))
+    from k x m e (yes d) (yes c) = inr (d, c)
+    from k x m e (yes d) (no c) = inl (omega (arith, at k x m d, c, few x, small k x))
+    from k x m e (no d) c = inl (sym (other k x d m) ∙ e)
 
 pub joins-then : {n elements : ℕ} {first then to sent : ℕ → Type 0} {a b c : ℕ → ℕ → ℕ} → Joins n elements first sent a b → Joins n elements then sent b c
     → ((i : ℕ) → to i → first i ⊎ then i) → ((i : ℕ) → first i ⊎ then i → to i) → Joins n elements to sent a c

@@ -2,7 +2,7 @@
 -- number gives of its own and what it lets through are open: live names go backward along the listed graph, and names not yet written forward.
 -- A set is known by its members alone, so that it may be any number of words: `sets i x` is 1 if the set at number i has x, and else 0.
 use Prim.Native.Nat.{ℕ, _<_}
-use mathlib.Core.Logic.{_⊎_, _≢_}
+use mathlib.Core.Logic.{_⊎_}
 use mathlib.Core.Path.{_≡_}
 
 pub record Problem : Type 1 where
