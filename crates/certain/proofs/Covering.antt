@@ -3,20 +3,17 @@
 use Prim.Native.Nat.{ℕ, _+_, _-_, _^_, _<_, min}
 use mathlib.Core.Bool.{Bool, true}
 use mathlib.Core.List.{List}
-use mathlib.Core.Logic.{_⊎_, inl, inr, ⊎-elim}
+use mathlib.Core.Logic.{_⊎_, ⊎-elim}
 use mathlib.Core.Path.{_≡_, sym, _∙_, ap, subst}
 use native.Mathlib.Decide.{ℕ-discrete}
 use native.Mathlib.Omega.{arith}
 use lib.Bits.{bitAnd, bitOr}
 use lib.ListN.{getD}
-use lib.Pow.{pow-mono}
-use native.Mathlib.Nat.{lt-of-lt-of-le}
-use Rattle.words.specs.contracts.Row.{Words, bit, has}
+use Rattle.words.specs.contracts.Row.{Words, bit}
 use Rattle.words.specs.contracts.Change.{without}
 use Rattle.words.proofs.Bit.{bit-lt, bit-or, bit-and, bit-of-zero, bit-without}
 use Rattle.flow.specs.Flow.{Flow, size, statement}
 use Rattle.flow.specs.Format.{flowOf, namesOf}
-use Rattle.records.proofs.Files.{limited}
 use Rattle.theory.specs.Live.{member, reads, writes}
 use Rattle.theory.specs.Certain.{Certain, certain, certainWord}
 use Rattle.theory.proofs.Lists.{same-test}
@@ -24,8 +21,8 @@ use Rattle.theory.proofs.Names.{namesWord-unique}
 use Rattle.theory.proofs.Certain.{unwritten-reached, unwritten-free, certain-sound, certain-complete}
 use Rattle.statements.specs.contracts.Ready.{Ready}
 use Rattle.statements.proofs.Keeps.{ready-size, ready-formed}
-use Rattle.statements.proofs.WellFormed.{statement-in, names-is}
-use Rattle.statements.proofs.Names.{member-bit, bit-member, or-first, or-second, or-either, bit-below, word-below, read-word, no-name}
+use Rattle.statements.proofs.WellFormed.{names-is}
+use Rattle.statements.proofs.Names.{member-bit, bit-member, or-first, or-second, or-either, bit-below, word-below, read-word, read-name, written-name, names-word, no-name}
 use Rattle.certain.specs.contracts.Layout.{setAt}
 use Rattle.certain.specs.contracts.Unwritten.{Solved}
 use Rattle.certain.specs.contracts.CertainNames.{Used, Covered, Early}
@@ -60,12 +57,6 @@ pub early-none : {f : Flow} → Early f 0 0
 early-none = record { reader = λ x e. absurd (omega (arith, bit-of-zero x)); others = λ x k l. absurd (omega arith) }
 
 module _ {s ws : List ℕ} {n : ℕ} (r : Ready s ws n) where
-  written-name : (k x : ℕ) → writes (flowOf s) k x ≡ true → x < namesOf s
-  written-name k x e = bit-below (statement (flowOf s) k .written) (namesOf s) x (statement-in (r .fit) k .written) (member-bit (statement (flowOf s) k .written) x e)
-
-  read-name : (k x : ℕ) → reads (flowOf s) k x ≡ true → x < 64
-  read-name k x e = bit-below (statement (flowOf s) k .read) 64 x (read-word r k) (member-bit (statement (flowOf s) k .read) x e)
-
   module _ {early i at before : ℕ} (h : Solved (flowOf s) ws ws n) (words : Words ws) (l : i < n) (c : Early (flowOf s) i early) (place : at ≡ setAt n i)
       (before-is : before ≡ without (getD ws (at + 1) 0) (getD ws at 0)) where
     before-bit : (x : ℕ) → bit before x ≡ min (bit (getD ws (setAt n i + 1) 0) x) (1 - bit (getD ws (setAt n i) 0) x)
@@ -95,12 +86,12 @@ module _ {s ws : List ℕ} {n : ℕ} (r : Ready s ws n) where
     found-here : (x : ℕ) → bit (without (statement (flowOf s) i .read) before) x ≡ 1 → (reads (flowOf s) i x ≡ true) × (Covered (flowOf s) i x → ⊥)
     found-here x e =
         let read : reads (flowOf s) i x ≡ true = bit-member (statement (flowOf s) i .read) x (omega (arith, early-bit x, bit-lt (statement (flowOf s) i .read) x)) in
-        (read, λ t. let bad = covered-before x (read-name i x read) t in omega (arith, early-bit x))
+        (read, λ t. let bad = covered-before x (names-word r (read-name r i x read)) t in omega (arith, early-bit x))
 
     fine-here : (x : ℕ) → reads (flowOf s) i x ≡ true → bit (without (statement (flowOf s) i .read) before) x ≡ 0 → Covered (flowOf s) i x
     fine-here x read e =
         let one = member-bit (statement (flowOf s) i .read) x read in
-        before-covered x (read-name i x read) (omega (arith, early-bit x, bit-lt before x))
+        before-covered x (names-word r (read-name r i x read)) (omega (arith, early-bit x, bit-lt before x))
 
     pub early-more : {e : ℕ} → e ≡ without (statement (flowOf s) i .read) before → Early (flowOf s) (i + 1) (bitOr early e)
     early-more {e} p = subst (λ z. Early (flowOf s) (i + 1) (bitOr early z)) (sym p) (record {
@@ -123,7 +114,7 @@ module _ {s ws : List ℕ} {n : ℕ} (r : Ready s ws n) where
   unfolding certainWord
   answer w sound all =
       namesWord-unique (flowOf s) (certain (flowOf s)) w
-      (subst (λ z. w < 2 ^ z) (sym (names-is s)) (word-below w (namesOf s) (λ x e. let t = sound x e .writer in written-name (t .0) x (t .2))))
+      (subst (λ z. w < 2 ^ z) (sym (names-is s)) (word-below w (namesOf s) (λ x e. let t = sound x e .writer in written-name r (t .0) x (t .2))))
       (λ x l. same-test (member w x) (certain (flowOf s) x) (λ e. certain-complete (ready-formed r) (sound x (member-bit w x e)))
       (λ e. bit-member w x (all x (certain-sound (ready-formed r) x e))))
 
@@ -147,13 +138,10 @@ module _ {s ws : List ℕ} {n : ℕ} (r : Ready s ws n) where
     pub without-early : {early : ℕ} → Early (flowOf s) n early → without written early ≡ certainWord (flowOf s)
     without-early {early} c = answer (without written early) sound all
       where
-        names-word : (x : ℕ) → x < namesOf s → x < 64
-        names-word x l = omega (arith, limited (r .fit) .names)
-
         bits : (x : ℕ) → bit (without written early) x ≡ min (bit written x) (1 - bit early x)
         bits x =
-            bit-without written early x (word-below written 64 (λ x e. let t = u .writer x e in names-word x (written-name (t .0) x (t .2))))
-            (word-below early 64 (λ x e. let t = c .reader x e in read-name (t .0) x (t .2)))
+            bit-without written early x (word-below written 64 (λ x e. let t = u .writer x e in names-word r (written-name r (t .0) x (t .2))))
+            (word-below early 64 (λ x e. let t = c .reader x e in names-word r (read-name r (t .0) x (t .2))))
 
         sound : (x : ℕ) → bit (without written early) x ≡ 1 → Certain (flowOf s) x
         sound x e = record {

@@ -1,8 +1,8 @@
 -- From the entry's set to the sets of all statements: at the start only the entry has elements, a visit keeps the law's invariant, and where nothing waits the sets are those of the walks.
 -- Assumes nothing.
-use Prim.Native.Nat.{ℕ, _+_, _*_, _-_, _/_, _%_, _^_, _<_, _≤_}
+use Prim.Native.Nat.{ℕ, _+_, _*_, _-_, _/_, _%_, _<_, _≤_}
 use mathlib.Core.List.{List, [], _∷_, List·Memᴰ·not-nil}
-use mathlib.Core.Logic.{_⊎_, inl, inr, ⊎-elim, _≢_}
+use mathlib.Core.Logic.{_⊎_, inl, inr, ⊎-elim}
 use mathlib.Core.Path.{_≡_, refl, sym, _∙_, ap, subst}
 use native.Mathlib.Decide.{decLt, ℕ-discrete}
 use native.Mathlib.Omega.{arith}
@@ -49,7 +49,7 @@ successor-of f i j m = go (decLt j (size f))
 all-ones : (k : ℕ) → k < 64 → bit 18446744073709551615 k ≡ 1
 all-ones k l = bit-not 64 0 k (omega arith) l ∙ omega (arith, bit-of-zero k)
 
-pub full-row : (x : ℕ) → x < elements → has (18446744073709551615 ∷ 18446744073709551615 ∷ []) 0 x ≡ 1
+full-row : (x : ℕ) → x < elements → has (18446744073709551615 ∷ 18446744073709551615 ∷ []) 0 x ≡ 1
 full-row x m = go (ℕ-discrete (x / 64) 0)
   where
     go : Dec (x / 64 ≡ 0) → has (18446744073709551615 ∷ 18446744073709551615 ∷ []) 0 x ≡ 1
@@ -75,7 +75,7 @@ module _ (ws : List ℕ) (n : ℕ) {vs us : List ℕ} {entry width : ℕ} (l : e
     kept = keeps-trans (subst (λ z. Keeps n (waitingEnd n) ws z) (sym clear) (keeps-zeroed ws n width (omega arith) (omega arith))) (push .kept);
   }
 
-pub begun-held : (f : Flow) {ws vs : List ℕ} {n entry : ℕ} → entry ≡ f .entry → Begun ws vs n entry → Held f vs n
+begun-held : (f : Flow) {ws vs : List ℕ} {n entry : ℕ} → entry ≡ f .entry → Begun ws vs n entry → Held f vs n
 begun-held f {ws} {vs} {n} {entry} e b = record {
   sound = λ i x l m d. Comes.start (b .only i x l m d ∙ e);
   started = λ i x l m d. subst (λ z. sets vs n z x ≡ 1) (sym (d ∙ sym e)) (b .all x m);

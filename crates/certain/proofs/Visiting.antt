@@ -1,9 +1,9 @@
 -- One statement taken and handled keeps the law's invariant: what leaves it is what it does not write of its set, and taking it out is the one step by which there is less to do.
 -- Assumes nothing.
-use Prim.Native.Nat.{ℕ, _+_, _*_, _/_, _%_, _^_, _<_, _≤_}
+use Prim.Native.Nat.{ℕ, _+_, _*_, _/_, _%_, _<_, _≤_}
 use mathlib.Core.List.{List, [], _∷_}
 use mathlib.Core.Logic.{_⊎_, inl, inr, ⊎-elim, _≢_}
-use mathlib.Core.Path.{_≡_, refl, sym, _∙_, ap, subst}
+use mathlib.Core.Path.{_≡_, sym, _∙_, ap, subst}
 use native.Mathlib.Decide.{ℕ-discrete}
 use native.Mathlib.Nat.{le-refl}
 use native.Mathlib.Omega.{arith}
@@ -13,7 +13,7 @@ use Rattle.words.specs.contracts.Change.{removed, without}
 use Rattle.words.proofs.Row.{has-word, members-cong}
 use Rattle.words.proofs.NextMember.{first}
 use Rattle.words.proofs.Removed.{removed-other, remove-else, remove-other, remove-members}
-use Rattle.flow.specs.Flow.{Flow, statement}
+use Rattle.flow.specs.Flow.{statement}
 use Rattle.flow.specs.Format.{flowOf}
 use Rattle.theory.specs.Lists.{In}
 use Rattle.theory.specs.Body.{successors}

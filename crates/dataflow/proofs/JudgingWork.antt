@@ -1,7 +1,7 @@
 -- How the call that finds the certain names answers: a file that is refused, a work area that is too short, or an accepted flow. By the laws of verdicts: the area's check comes after the file's.
 use Prim.Native.Nat.{ℕ}
 use mathlib.Core.Bool.{Bool, true, false, cond}
-use mathlib.Core.List.{List, [], _∷_}
+use mathlib.Core.List.{List}
 use mathlib.Core.Path.{_≡_, refl, ap, sym, _∙_, subst}
 use lib.Dec.{leb}
 use lib.ListN.{length, replicate}
@@ -12,7 +12,7 @@ use Rattle.flow.specs.declared.Header.{Header}
 use Rattle.flow.specs.declared.Checked.{Checked}
 use Rattle.flow.specs.declared.Checked.the-variants.{Unfit}
 use Rattle.flow.specs.Limits.{workWords}
-use Rattle.flow.specs.Format.{fit, unfit, first, verdict, fileChecks, areaCheck, flowOf, statementsOf}
+use Rattle.flow.specs.Format.{fit, unfit, first, verdict, fileChecks, flowOf, statementsOf}
 use Rattle.flow.specs.contracts.Answers.{FitFile, headerOf, checkedOf}
 use Rattle.flow.proofs.Verdicts.{fit-append, unfit-append}
 use Rattle.flow.proofs.Reading.{unfit-answer}

@@ -8,13 +8,12 @@ use mathlib.Core.Path.{_≡_}
 use native.Mathlib.Nat.{lt-of-lt-of-le}
 use lib.Pow.{pow-mono}
 use Rattle.words.specs.contracts.Row.{bit}
-use Rattle.flow.specs.Flow.{Flow, statement}
+use Rattle.flow.specs.Flow.{Flow}
 use Rattle.flow.specs.Format.{flowOf, namesOf}
 use Rattle.records.proofs.Files.{limited}
 use Rattle.theory.specs.Live.{reads, writes, LiveIn, LiveOut}
 use Rattle.statements.specs.contracts.Ready.{Ready}
-use Rattle.statements.proofs.WellFormed.{statement-in}
-use Rattle.statements.proofs.Names.{member-bit, bit-below, word-below}
+use Rattle.statements.proofs.Names.{word-below, read-name}
 use Rattle.solve.specs.contracts.Sets.{Comes}
 use Rattle.solve.proofs.Sets.{comes-on}
 use Rattle.live.specs.contracts.Solving.{backward}
@@ -43,7 +42,7 @@ comes-out (Comes.through m u c) = LiveOut.at-successor m (leaves-in (inr (u, c))
 -- of a checked file
 module _ {s ws : List ℕ} {n : ℕ} (r : Ready s ws n) where
   pub in-name : {x i : ℕ} → LiveIn (flowOf s) x i → x < namesOf s
-  in-name {x} (LiveIn.now {i = i} e) = bit-below (statement (flowOf s) i .read) (namesOf s) x (statement-in (r .fit) i .read) (member-bit (statement (flowOf s) i .read) x e)
+  in-name {x} (LiveIn.now {i = i} e) = read-name r i x e
   in-name (LiveIn.later e m h) = in-name h
 
   pub out-name : {x i : ℕ} → LiveOut (flowOf s) x i → x < namesOf s

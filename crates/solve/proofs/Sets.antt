@@ -8,7 +8,7 @@ use native.Mathlib.Omega.{arith}
 use Rattle.solve.specs.contracts.Sets.{Problem, Comes, Leaves, Solving, Joins, Follows}
 
 -- what leaves a number by its set does so by a walk
-pub leaves-comes : {p : Problem} {n elements j x : ℕ} {sets : ℕ → ℕ → ℕ} {waits : ℕ → Type 0} → Solving p n elements sets waits → j < n → x < elements → Leaves p sets j x
+leaves-comes : {p : Problem} {n elements j x : ℕ} {sets : ℕ → ℕ → ℕ} {waits : ℕ → Type 0} → Solving p n elements sets waits → j < n → x < elements → Leaves p sets j x
     → p .gives j x ⊎ (p .passes j x × Comes p x j)
 leaves-comes {j = j} {x = x} s l m (inl g) = inl g
 leaves-comes {j = j} {x = x} s l m (inr t) = inr (t .0, s .sound j x l m (t .1))

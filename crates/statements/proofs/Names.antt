@@ -16,11 +16,11 @@ use Rattle.words.specs.contracts.Row.{bit}
 use Rattle.words.specs.contracts.Change.{without}
 use Rattle.words.proofs.Bit.{bit-lt, bit-or, bit-without, bit-mod, bit-high, bits-ext}
 use Rattle.flow.specs.Flow.{Flow, statement}
-use Rattle.flow.specs.Format.{flowOf}
+use Rattle.flow.specs.Format.{flowOf, namesOf}
 use Rattle.records.proofs.Files.{limited}
 use Rattle.theory.specs.Lists.{In}
 use Rattle.theory.specs.Body.{successors}
-use Rattle.theory.specs.Live.{member, writes}
+use Rattle.theory.specs.Live.{member, reads, writes}
 use Rattle.theory.proofs.Lists.{getD-In}
 use Rattle.statements.specs.contracts.Ready.{Ready}
 use Rattle.statements.proofs.Keeps.{ready-formed, ready-below}
@@ -103,6 +103,17 @@ module _ {s ws : List ℕ} {n : ℕ} (r : Ready s ws n) where
 
   pub read-word : (i : ℕ) → statement (flowOf s) i .read < 2 ^ 64
   read-word i = lt-of-lt-of-le (statement-in (r .fit) i .read) (pow-mono (limited (r .fit) .names))
+
+  -- a name that is read or written is below their number
+
+  pub read-name : (i x : ℕ) → reads (flowOf s) i x ≡ true → x < namesOf s
+  read-name i x e = bit-below (statement (flowOf s) i .read) (namesOf s) x (statement-in (r .fit) i .read) (member-bit (statement (flowOf s) i .read) x e)
+
+  pub written-name : (i x : ℕ) → writes (flowOf s) i x ≡ true → x < namesOf s
+  written-name i x e = bit-below (statement (flowOf s) i .written) (namesOf s) x (statement-in (r .fit) i .written) (member-bit (statement (flowOf s) i .written) x e)
+
+  pub names-word : {x : ℕ} → x < namesOf s → x < 64
+  names-word l = omega (arith, limited (r .fit) .names)
 
   -- a number from 64 on is no name
   pub no-name : (i x : ℕ) → 64 ≤ x → writes (flowOf s) i x ≡ false

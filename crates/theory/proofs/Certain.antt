@@ -9,7 +9,7 @@ use native.Mathlib.Omega.{arith}
 use lib.Pow.{pow-pos}
 use borrow.Author.Tests.{not-true}
 use Rattle.flow.specs.Flow.{Flow, size}
-use Rattle.theory.specs.Lists.{In, any, upTo, allBelow}
+use Rattle.theory.specs.Lists.{any, upTo, allBelow}
 use Rattle.theory.specs.Reach.{Reach, reached}
 use Rattle.theory.specs.Body.{successors}
 use Rattle.theory.specs.contracts.WellFormed.{WellFormed}

@@ -7,11 +7,6 @@ use Rattle.certain.proofs.Solution.{begun}
 use borrow.Author.Needs.{needs}
 use Rattle.certain.proofs.begin.Statement.{statement}
 use Rattle.certain.proofs.begin.Tie as tie
-use Rattle.certain.proofs.begin.Reads as reads
-use Rattle.certain.proofs.begin.Lts as lts
-use Rattle.certain.proofs.push.Reads as push-reads
-use Rattle.statements.proofs.layout.row_words.Reads as row-words-reads
-use Rattle.words.proofs.zero_row.Reads as zero-row-reads
 
 mul-zero-row : tie.Need-mul-zero-row
 mul-zero-row c = search needs

@@ -5,10 +5,6 @@ use Rattle.certain.proofs.Visiting.{waiting-room, next-found, next-from
 use borrow.Author.Needs.{needs}
 use Rattle.certain.proofs.next_waiting.Statement.{statement}
 use Rattle.certain.proofs.next_waiting.Tie as tie
-use Rattle.certain.proofs.next_waiting.Reads as reads
-use Rattle.certain.proofs.next_waiting.Lts as lts
-use Rattle.certain.proofs.waiting.Reads as waiting-reads
-use Rattle.words.proofs.next.Reads as next-reads
 
 waiting-requires : tie.Need-waiting-requires
 waiting-requires c κs = search needs

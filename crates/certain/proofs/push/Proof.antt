@@ -1,6 +1,5 @@
 -- `certain::push` meets its contract: a set that grew has its statement wait; one that did not is as it was.
 -- Assumes nothing.
-use native.Mathlib.Omega.{arith}
 use Rattle.statements.proofs.WorkArea.{member-word}
 use Rattle.certain.proofs.Pushing.{pushed-waits, pushed-same}
 use borrow.Author.Needs.{needs}

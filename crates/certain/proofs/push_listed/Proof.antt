@@ -16,12 +16,6 @@ use mathlib.Core.List.{List·Memᴰ·not-nil}
 use denote.Ref.{now}
 use Rattle.certain.proofs.push_listed.Statement.{statement}
 use Rattle.certain.proofs.push_listed.Tie as tie
-use Rattle.certain.proofs.push_listed.Reads as reads
-use Rattle.certain.proofs.push_listed.Lts as lts
-use Rattle.certain.proofs.push.Reads as push-reads
-use Rattle.records.proofs.successor_count.Reads as successor-count-reads
-use Rattle.statements.proofs.fields.offset.Reads as offset-reads
-use Rattle.statements.proofs.fields.successor_at.Reads as successor-at-reads
 
 abbrev Inv-loop : tie.InvT-loop
 Inv-loop file work₀ n i names reached p count k₀ work k = PushedTo (successors (flowOf file) (i .0)) work₀ work n k (λ x. has (names ∷ reached ∷ []) 0 x ≡ 1)

@@ -11,11 +11,6 @@ use Rattle.certain.proofs.Visiting.{area-room}
 use Rattle.certain.proofs.Solution.{Solving, solving-first, solving-more, solved}
 use Rattle.certain.proofs.solve.Statement.{statement}
 use Rattle.certain.proofs.solve.Tie as tie
-use Rattle.certain.proofs.solve.Reads as reads
-use Rattle.certain.proofs.solve.Lts as lts
-use Rattle.certain.proofs.begin.Reads as begin-reads
-use Rattle.certain.proofs.next_waiting.Reads as next-waiting-reads
-use Rattle.certain.proofs.visit.Reads as visit-reads
 
 abbrev Inv-loop : tie.InvT-loop
 Inv-loop file work₀ n i₀ work i = Solving (flowOf file) work₀ work n i

@@ -9,14 +9,6 @@ use Rattle.certain.proofs.Visiting.{area-room, taken-ready, visited}
 use borrow.Author.Needs.{needs}
 use Rattle.certain.proofs.visit.Statement.{statement}
 use Rattle.certain.proofs.visit.Tie as tie
-use Rattle.certain.proofs.visit.Reads as reads
-use Rattle.certain.proofs.visit.Lts as lts
-use Rattle.certain.proofs.push_listed.Reads as push-listed-reads
-use Rattle.certain.proofs.set.Reads as set-reads
-use Rattle.certain.proofs.waiting.Reads as waiting-reads
-use Rattle.statements.proofs.fields.written.Reads as written-reads
-use Rattle.words.proofs.difference.Reads as difference-reads
-use Rattle.words.proofs.remove.Reads as remove-reads
 
 waiting-requires : tie.Need-waiting-requires
 waiting-requires c κs = ready-most (c .before .before .before .pre .0)

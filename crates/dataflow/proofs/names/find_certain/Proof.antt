@@ -2,8 +2,7 @@
 -- Assumes nothing.
 use borrow.Author.Needs.{needs}
 use native.Mathlib.Omega.{arith}
-use denote.Ref.{now}
-use mathlib.Core.Path.{_≡_, sym, _∙_, ap, subst}
+use mathlib.Core.Path.{ap}
 use Rattle.flow.specs.declared.Header.{Header}
 use Rattle.dataflow.proofs.JudgingWork.{certain-start}
 use Rattle.dataflow.proofs.names.find_certain.Statement.{statement}
