@@ -35,6 +35,18 @@ uint64_t yarnuskel_states(const uint8_t *file, size_t file_length,
                           uint64_t *work, size_t work_length,
                           uint64_t *place, uint64_t *visits);
 
+/* Answers a flow file with the names that are certainly written: some statement writes the name, and every
+   statement that reads it is reached and has a write of it earlier on each walk from the entry over the
+   listed successors. Returns 0 where the file is accepted: bit i of *certain says that name i is such a
+   name, *place is 0 and the whole work area is zero.
+   Else returns the refusal's number, with its place in *place; *certain is then 0, and the work area is as it
+   was. The work area is the only one lent: it is too short (number 10, place 0) with fewer than
+   YARNUSKEL_WORK_WORDS * n words.
+   Lengths count elements. No pointer may be null, even with length 0, and no two areas overlap. */
+uint64_t yarnuskel_certain(const uint8_t *file, size_t file_length,
+                           uint64_t *work, size_t work_length,
+                           uint64_t *place, uint64_t *certain);
+
 #ifdef __cplusplus
 }
 #endif

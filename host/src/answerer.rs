@@ -32,6 +32,21 @@ impl From<Refusal> for Answer {
     }
 }
 
+/// The answer to a file by its certain names: number 0 where the flow is accepted, and the word is 0
+/// where it is refused.
+#[derive(Clone, Copy, Debug, Default, PartialEq, Eq)]
+pub struct Certain {
+    pub number: u64,
+    pub place: u64,
+    pub word: u64,
+}
+
+impl From<Refusal> for Certain {
+    fn from(r: Refusal) -> Self {
+        Certain { number: r.number, place: r.place, word: 0 }
+    }
+}
+
 /// Where a port goes astray.
 #[derive(Clone, Copy, Debug, PartialEq, Eq)]
 pub enum Fault {
@@ -50,10 +65,21 @@ pub enum Fault {
     NestedTouchedLeftOut,
     OpaqueCalleeLeftOut,
     OpaqueCycleLeftOut,
+    OwnWriteCounts,
+    UnreachedReaderPasses,
+    SomeWalkIsEnough,
+    WriteAfterReadCounts,
+    FirstRoundForgotten,
+    NeverReadLeftOut,
+    WriterMustBeReached,
+    NoWriterNeeded,
+    ClrTakesWritesBack,
+    ContinuationsWalked,
+    ReturnsNotWalked,
 }
 
 impl Fault {
-    pub const ALL: [Fault; 15] = [
+    pub const ALL: [Fault; 26] = [
         Fault::EveryMaskSeven,
         Fault::FirstVisitOnly,
         Fault::AreasUntouched,
@@ -69,6 +95,17 @@ impl Fault {
         Fault::NestedTouchedLeftOut,
         Fault::OpaqueCalleeLeftOut,
         Fault::OpaqueCycleLeftOut,
+        Fault::OwnWriteCounts,
+        Fault::UnreachedReaderPasses,
+        Fault::SomeWalkIsEnough,
+        Fault::WriteAfterReadCounts,
+        Fault::FirstRoundForgotten,
+        Fault::NeverReadLeftOut,
+        Fault::WriterMustBeReached,
+        Fault::NoWriterNeeded,
+        Fault::ClrTakesWritesBack,
+        Fault::ContinuationsWalked,
+        Fault::ReturnsNotWalked,
     ];
 
     pub fn text(self) -> &'static str {
@@ -88,6 +125,17 @@ impl Fault {
             Fault::NestedTouchedLeftOut => "touched arrays of nested bodies are left out",
             Fault::OpaqueCalleeLeftOut => "opaque by a call of an opaque body is left out",
             Fault::OpaqueCycleLeftOut => "opaque by a cycle is left out",
+            Fault::OwnWriteCounts => "certain names: a reader's own write counts as earlier",
+            Fault::UnreachedReaderPasses => "certain names: a reader that nothing reaches is passed over",
+            Fault::SomeWalkIsEnough => "certain names: a write on some walk is enough",
+            Fault::WriteAfterReadCounts => "certain names: a write after the read in a loop is enough",
+            Fault::FirstRoundForgotten => "certain names: the first round at the entry's loop is left out",
+            Fault::NeverReadLeftOut => "certain names: only a name that is read is one",
+            Fault::WriterMustBeReached => "certain names: the writer must be reached",
+            Fault::NoWriterNeeded => "certain names: no statement has to write the name",
+            Fault::ClrTakesWritesBack => "certain names: CLR and RUN take writes back",
+            Fault::ContinuationsWalked => "certain names: unlisted continuations are walked",
+            Fault::ReturnsNotWalked => "certain names: what a RETURN lists is not walked",
         }
     }
 }
@@ -448,6 +496,129 @@ fn live_sets(flow: &Flow) -> (Vec<u64>, Vec<u64>) {
     }
 }
 
+// ----- Names certainly written --------------------------------------------
+
+/// The listed walks from the entry, and one name.
+struct Walks<'a> {
+    flow: &'a Flow,
+    fault: Option<Fault>,
+    /// Statements that a walk reaches.
+    reached: Vec<bool>,
+    name: u8,
+}
+
+impl<'a> Walks<'a> {
+    fn new(flow: &'a Flow, fault: Option<Fault>) -> Self {
+        let mut walks = Walks { flow, fault, reached: Vec::new(), name: 0 };
+        walks.reached = walks.from(walks.entry(), |_| true);
+        walks
+    }
+
+    fn entry(&self) -> Vec<usize> {
+        if self.flow.statements.is_empty() { vec![] } else { vec![self.flow.entry.into()] }
+    }
+
+    fn all(&self, which: impl Fn(usize) -> bool) -> Vec<usize> {
+        (0..self.flow.statements.len()).filter(|&i| which(i)).collect()
+    }
+
+    fn writes(&self, i: usize) -> bool {
+        self.flow.statements[i].written >> self.name & 1 == 1
+    }
+
+    fn reads(&self, i: usize) -> bool {
+        self.flow.statements[i].read >> self.name & 1 == 1
+    }
+
+    /// Where a walk goes on: the listed successors.
+    fn next(&self, i: usize) -> Vec<usize> {
+        let s = &self.flow.statements[i];
+        let listed = s.successors.iter().copied();
+        let next: Vec<u16> = match self.fault {
+            Some(Fault::ReturnsNotWalked) if s.kind == Kind::Return => vec![],
+            Some(Fault::ContinuationsWalked) => listed.chain(s.continuation()).collect(),
+            _ => listed.collect(),
+        };
+        next.into_iter().map(usize::from).collect()
+    }
+
+    /// The statements on walks from these, each of which goes on from what it may pass.
+    fn from(&self, mut waiting: Vec<usize>, pass: impl Fn(usize) -> bool) -> Vec<bool> {
+        let mut met = vec![false; self.flow.statements.len()];
+        while let Some(i) = waiting.pop() {
+            if !std::mem::replace(&mut met[i], true) && pass(i) {
+                waiting.extend(self.next(i));
+            }
+        }
+        met
+    }
+
+    /// The statements on walks that start after one of these.
+    fn after(&self, these: Vec<usize>) -> Vec<bool> {
+        self.from(these.into_iter().flat_map(|i| self.next(i)).collect(), |_| true)
+    }
+
+    /// The statements on walks from the entry without a write of the name before them.
+    fn unwritten(&self) -> Vec<bool> {
+        let mut first = self.entry();
+        if self.fault == Some(Fault::ClrTakesWritesBack) {
+            let clears = |i: usize| matches!(self.flow.statements[i].kind, Kind::Clr | Kind::Run);
+            first.extend(self.all(|i| self.reached[i] && clears(i)));
+        }
+        let unwritten = self.from(first, |i| !self.writes(i));
+        if self.fault == Some(Fault::FirstRoundForgotten) {
+            let back = self.all(|i| self.reached[i] && self.next(i).contains(&self.flow.entry.into()));
+            if !back.is_empty() && back.iter().all(|&i| !unwritten[i] || self.writes(i)) {
+                return vec![false; unwritten.len()];
+            }
+        }
+        unwritten
+    }
+
+    /// Whether a statement that reads the name is reached, and only with a write before it.
+    fn covered(&self, reader: usize, unwritten: &[bool]) -> bool {
+        let excused = match self.fault {
+            Some(Fault::OwnWriteCounts) => self.writes(reader),
+            Some(Fault::SomeWalkIsEnough) => {
+                self.after(self.all(|i| self.reached[i] && self.writes(i)))[reader]
+            }
+            Some(Fault::WriteAfterReadCounts) => {
+                let later = self.after(vec![reader]);
+                self.after(self.all(|i| later[i] && self.writes(i)))[reader]
+            }
+            _ => false,
+        };
+        let reached = self.reached[reader] || self.fault == Some(Fault::UnreachedReaderPasses);
+        reached && (excused || !unwritten[reader])
+    }
+
+    fn certain(&self) -> bool {
+        let counts = |i: usize| self.fault != Some(Fault::WriterMustBeReached) || self.reached[i];
+        let written = !self.all(|i| self.writes(i) && counts(i)).is_empty();
+        let readers = self.all(|i| self.reads(i));
+        match self.fault {
+            Some(Fault::NeverReadLeftOut) if readers.is_empty() => return false,
+            Some(Fault::NoWriterNeeded) => {}
+            _ if !written => return false,
+            _ => {}
+        }
+        let unwritten = self.unwritten();
+        readers.into_iter().all(|i| self.covered(i, &unwritten))
+    }
+}
+
+/// The names that some statement writes, and that every statement which reads them finds written on
+/// each listed walk from the entry: bit i for name i.
+pub fn certain_names(flow: &Flow, fault: Option<Fault>) -> u64 {
+    let mut walks = Walks::new(flow, fault);
+    let mut word = 0;
+    for name in 0..flow.names {
+        walks.name = name;
+        word |= u64::from(walks.certain()) << name;
+    }
+    word
+}
+
 // ----- The answer ---------------------------------------------------------
 
 /// What an accepted flow is answered with.
@@ -501,23 +672,40 @@ impl Areas {
     }
 }
 
-/// The answer to a file with these areas lent.
-pub fn answer(file: &[u8], areas: &mut Areas, fault: Option<Fault>) -> Answer {
+/// The flow of a file that is not refused; the areas lent are judged last.
+fn accepted(file: &[u8], fault: Option<Fault>, serve: impl Fn(&Flow) -> bool) -> Result<Flow, Refusal> {
+    let too_short = Refusal { number: 10, place: 0 };
     match fault {
-        Some(Fault::EverythingRefused) => return Answer { number: 2, place: 0, visits: 0 },
-        Some(Fault::TooShortUnread) => return Answer { number: 10, place: 0, visits: 0 },
+        Some(Fault::EverythingRefused) => return Err(Refusal { number: 2, place: 0 }),
+        Some(Fault::TooShortUnread) => return Err(too_short),
         _ => {}
     }
-    let flow = match flow::read(file) {
+    let flow = flow::read(file)?;
+    if serve(&flow) { Ok(flow) } else { Err(too_short) }
+}
+
+/// The answer to a file with these areas lent.
+pub fn answer(file: &[u8], areas: &mut Areas, fault: Option<Fault>) -> Answer {
+    let flow = match accepted(file, fault, |flow| areas.serve(flow)) {
         Ok(flow) => flow,
         Err(refusal) => return refusal.into(),
     };
-    if !areas.serve(&flow) {
-        return Answer { number: 10, place: 0, visits: 0 };
-    }
     let states = states(&flow, fault);
     if fault != Some(Fault::AreasUntouched) {
         areas.write(&states);
     }
     Answer { number: 0, place: 0, visits: states.visits }
+}
+
+/// The certain names of a file with this work area lent.
+pub fn certain(file: &[u8], work: &mut [u64], fault: Option<Fault>) -> Certain {
+    let serve = |flow: &Flow| work.len() >= WORK_WORDS * flow.statements.len();
+    let flow = match accepted(file, fault, serve) {
+        Ok(flow) => flow,
+        Err(refusal) => return refusal.into(),
+    };
+    if fault != Some(Fault::AreasUntouched) {
+        work.fill(0);
+    }
+    Certain { number: 0, place: 0, word: certain_names(&flow, fault) }
 }

@@ -1,5 +1,5 @@
-//! Flows to measure on, medians, and the measurements: the proved reader beside a plain one, and
-//! the whole call beside the original.
+//! Flows to measure on, medians, and the measurements: the proved reader beside a plain one, the
+//! whole call beside the original, and the call for certain names beside both.
 
 use std::hint::black_box;
 use std::time::{Duration, Instant};
@@ -8,7 +8,7 @@ use crate::flow::{Flow, Kind, MAX_ARRAYS, MAX_FILE, MAX_STATEMENTS, Statement};
 use crate::generate::Script;
 use crate::judge::Lent;
 use crate::random::Random;
-use crate::{cases, sides};
+use crate::{answerer, cases, sides};
 
 const N: usize = MAX_STATEMENTS as usize;
 
@@ -156,6 +156,34 @@ pub fn flows() -> Vec<(&'static str, Flow)> {
     ]
 }
 
+/// A flow for which the call for certain names has most to do: a chain that leads from its last
+/// statement to the one before, to which the walks on which a name is unwritten come in turn, one name
+/// each, and as many listed successors as fit. They all lead back, so that no walk is shortened.
+pub fn one_name_at_a_time() -> Flow {
+    let (gates, chain) = (64, 128);
+    let statement = |i: usize| match i {
+        // Each leads to the next and to its gate.
+        _ if i < gates => (vec![gates + i, (i + 1).min(gates - 1)], 0),
+        // Past a gate every name is written but one.
+        _ if i < chain => (vec![N - 1], !(1 << (i - gates))),
+        _ => (vec![(i - 1).max(chain)], 0),
+    };
+    let statement = |i: usize| {
+        let (successors, written) = statement(i);
+        let successors: Vec<u16> = successors.into_iter().map(|t| t as u16).collect();
+        let mut s = Statement::new(line(i), Kind::Other, &successors, &[]);
+        (s.written, s.read) = (written, 1 << (i % 64));
+        s
+    };
+    let mut flow = script((0..N).map(statement).collect(), &[]);
+    let more = (MAX_FILE - flow.bytes().len()) / 2;
+    for k in 0..more {
+        let i = chain + k % (N - chain);
+        flow.statements[i].successors.push((i + k / (N - chain)).min(N - 1) as u16);
+    }
+    flow
+}
+
 /// A fit file of some 250 kB with long lists and many `FL` records.
 pub fn reading_file() -> Vec<u8> {
     let mut random = Random::new(15, 0);
@@ -235,4 +263,71 @@ pub fn whole_call() -> bool {
     println!("over array_states alone, at the least: {least:.1} times (at least 2)");
     println!("over array_states with its live solve, geometric mean: {mean:.1} times (at least 50)");
     least >= 2.0 && mean >= 50.0
+}
+
+// ----- Certain names ------------------------------------------------------
+
+/// The medians of the call for certain names and of the other call. They take turns with each other
+/// only: the original would leave nothing of the file in the processor's cache for the one after it.
+fn certain_medians(flow: &Flow) -> Option<[Duration; 2]> {
+    let file = flow.bytes();
+    let mut areas = Lent::for_file(&file, 0).areas();
+    let mut work = areas.work.clone();
+    assert_eq!(sides::proved_certain(&file, &mut work)?.number, 0);
+    // Reading the clock takes as long as a call on a small flow, so there a hundred calls are timed at once.
+    let calls = if flow.statements.len() > 500 { 1 } else { 100 };
+    let mut certain = || {
+        for _ in 0..calls {
+            black_box(sides::proved_certain(black_box(&file), &mut work));
+        }
+    };
+    let mut states = || {
+        for _ in 0..calls {
+            black_box(sides::proved_states(black_box(&file), &mut areas));
+        }
+    };
+    Some(medians(101, [&mut certain, &mut states]).map(|time| time / calls))
+}
+
+/// The share of the other call's time that the call for certain names takes. The names are those
+/// certain, of those written.
+fn measure_certain(name: &str, flow: &Flow) -> Option<f64> {
+    let mut original = sides::original_certain_run(flow)?;
+    let [certain, states] = certain_medians(flow)?;
+    let [original] = medians(if flow.statements.len() > 500 { 9 } else { 101 }, [&mut original]);
+    let written = flow.statements.iter().fold(0, |set, s| set | s.written).count_ones();
+    let names = format!("{}/{written}", answerer::certain_names(flow, None).count_ones());
+    let (share, times) = (ratio(certain, states), ratio(original, certain));
+    println!(
+        "{name:28} {names:>7} {certain:>10.2?} {states:>10.2?} {share:>6.3} {original:>16.2?} {times:>8.1}"
+    );
+    Some(share)
+}
+
+/// The call for certain names beside the other call and beside the original: at most a third of the
+/// other call's time on every flow.
+pub fn certain_call() -> bool {
+    println!(
+        "\n{:28} {:>7} {:>10} {:>10} {:>6} {:>16} {:>8}",
+        "flow", "names", "certain", "states", "share", "DefinedBeforeUse", "times"
+    );
+    let measured: Option<Vec<f64>> = flows().iter().map(|(name, flow)| measure_certain(name, flow)).collect();
+    let Some(shares) = measured else {
+        println!("{}", if cfg!(original) { sides::NO_LIBRARY } else { sides::NO_ORIGINAL });
+        return true;
+    };
+    let most = shares.into_iter().fold(0.0, f64::max);
+    let holds = most <= 1.0 / 3.0;
+    println!(
+        "of the other call's time, at the most: {most:.3} (at most a third: {})",
+        if holds { "holds" } else { "does not hold" }
+    );
+    let flow = one_name_at_a_time();
+    if let Some([certain, states]) = certain_medians(&flow) {
+        let edges: usize = flow.statements.iter().map(|s| s.successors.len()).sum();
+        println!(
+            "names one at a time along a chain of {N}, {edges} successors: {certain:.2?}, the other call {states:.2?}"
+        );
+    }
+    holds
 }

@@ -1,5 +1,6 @@
 //! The flows that the paper works through, and files at each row of its refusal table.
 
+use crate::answerer::Fault;
 use crate::flow::{Encoded, Flow, Kind, Statement, What};
 use crate::judge::Lent;
 use crate::text;
@@ -107,21 +108,166 @@ pub fn worked() -> Vec<Worked> {
 // ----- Differences from the Rust ------------------------------------------
 
 /// The texts of the flows that docs/DIFFERENCES.md names.
-const DIFFERENCES: [(&str, &str); 3] = [
+const DIFFERENCES: [(&str, &str); 4] = [
     ("return_order", include_str!("../../examples/return_order.txt")),
     ("call_cycle", include_str!("../../examples/call_cycle.txt")),
     ("many_visits", include_str!("../../examples/many_visits.txt")),
+    ("fallback", include_str!("../../examples/fallback.txt")),
 ];
 
 /// The flows in which something other than masks and live sets differs from the Rust.
 pub fn differences() -> Vec<(&'static str, Flow)> {
-    let flow = |text| text::read(text).unwrap_or_else(|e| panic!("{e}"));
-    DIFFERENCES.into_iter().map(|(name, text)| (name, flow(text))).collect()
+    DIFFERENCES.into_iter().map(|(name, text)| (name, said(text))).collect()
+}
+
+/// The flow of a text that stands in this program.
+fn said(text: &str) -> Flow {
+    text::read(text).unwrap_or_else(|e| panic!("{e}\n{text}"))
 }
 
 /// P5 with an entry that is no statement: refused 3 at 0. The Rust has no refusals.
 pub fn refused() -> Vec<u8> {
     Flow { entry: 4, ..p5_with(Kind::Other, &[0]) }.bytes()
+}
+
+// ----- Names certainly written --------------------------------------------
+
+/// Flows for a point of the definition each, with the fault that goes astray there.
+const CERTAIN: [(&str, Fault, &str); 14] = [
+    (
+        "a reader that writes too",
+        Fault::OwnWriteCounts,
+        "flow 2 statements, 0 arrays, 2 names, entry 0
+         0: line 10 other; to 1; writes 0 1; reads 0
+         1: line 20 other; writes 1; reads 0 1",
+    ),
+    (
+        "a reader that nothing reaches",
+        Fault::UnreachedReaderPasses,
+        "flow 3 statements, 0 arrays, 2 names, entry 0
+         0: line 10 other; to 1; writes 0 1
+         1: line 20 other; reads 0 1
+         2: line 30 other; to 1; reads 1",
+    ),
+    (
+        "a name written after its read in a loop",
+        Fault::WriteAfterReadCounts,
+        "flow 4 statements, 0 arrays, 2 names, entry 0
+         0: line 10 other; to 1; writes 1
+         1: line 20 other; to 2; reads 0 1
+         2: line 30 other; to 1 3; writes 0
+         3: line 40 other; reads 0",
+    ),
+    (
+        "a write on one of two branches",
+        Fault::SomeWalkIsEnough,
+        "flow 4 statements, 0 arrays, 2 names, entry 0
+         0: line 10 other; to 1 2
+         1: line 20 other; to 3; writes 0 1
+         2: line 30 other; to 3; writes 1
+         3: line 40 other; reads 0 1",
+    ),
+    (
+        "a name written and never read",
+        Fault::NeverReadLeftOut,
+        "flow 2 statements, 0 arrays, 2 names, entry 0
+         0: line 10 other; to 1; reads 1
+         1: line 20 other; writes 0 1",
+    ),
+    ("n 0 with names", Fault::NoWriterNeeded, "flow 0 statements, 0 arrays, 64 names, entry 0"),
+    (
+        "the entry inside a loop",
+        Fault::FirstRoundForgotten,
+        "flow 3 statements, 0 arrays, 3 names, entry 1
+         0: line 10 other; to 1; writes 0 1
+         1: line 20 other; to 2; writes 2; reads 0
+         2: line 30 other; to 0; reads 1 2",
+    ),
+    (
+        "a name read and never written, and one that is neither",
+        Fault::NoWriterNeeded,
+        "flow 2 statements, 0 arrays, 3 names, entry 0
+         0: line 10 other; to 1; writes 2
+         1: line 20 other; reads 0 2",
+    ),
+    (
+        "64 names, 0 and 63 of them certain",
+        Fault::OwnWriteCounts,
+        "flow 2 statements, 0 arrays, 64 names, entry 0
+         0: line 10 other; to 1; writes 0 1 62 63; reads 1 62
+         1: line 20 other; reads 0 2 61 63",
+    ),
+    (
+        "a writer that nothing reaches, its readers covered by another",
+        Fault::UnreachedReaderPasses,
+        "flow 4 statements, 0 arrays, 2 names, entry 0
+         0: line 10 other; to 1; writes 0 1
+         1: line 20 other; reads 0 1
+         2: line 30 other; to 3 1; writes 0
+         3: line 40 other; reads 1",
+    ),
+    (
+        "a name whose one writer nothing reaches",
+        Fault::WriterMustBeReached,
+        "flow 2 statements, 0 arrays, 2 names, entry 0
+         0: line 10 other; reads 1
+         1: line 20 other; to 0; writes 0 1",
+    ),
+    (
+        "a CLR between a write and a read",
+        Fault::ClrTakesWritesBack,
+        "flow 3 statements, 0 arrays, 1 name, entry 0
+         0: line 10 other; to 1; writes 0
+         1: line 20 CLR; to 2
+         2: line 30 other; reads 0",
+    ),
+    (
+        "a continuation that the call does not list",
+        Fault::ContinuationsWalked,
+        "flow 3 statements, 0 arrays, 1 name, entry 0
+         0: line 10 GOSUB 30 then 1; to 2
+         1: line 20 other; reads 0
+         2: line 30 RETURN; to 1; writes 0
+         lines 30=2",
+    ),
+    (
+        "a reader that a RETURN leads to",
+        Fault::ReturnsNotWalked,
+        "flow 3 statements, 0 arrays, 1 name, entry 0
+         0: line 10 GOSUB 30 then 1; to 2; writes 0
+         1: line 20 other; reads 0
+         2: line 30 RETURN; to 1
+         lines 30=2",
+    ),
+];
+
+/// The flows above, and the fault that each is to show.
+pub fn certain_flows() -> Vec<(&'static str, Fault, Flow)> {
+    CERTAIN.into_iter().map(|(name, fault, text)| (name, fault, said(text))).collect()
+}
+
+/// The flows above; and areas, of which the call for certain names judges the one lent to it.
+pub fn certain() -> Vec<Case> {
+    let name = |name: &str| format!("certain names: {name}");
+    let flows = certain_flows().into_iter();
+    let mut cases: Vec<Case> = flows.map(|(of, _, flow)| Case::new(name(of), flow.bytes(), 1)).collect();
+    let exact = Case::new("", every_kind().bytes(), 0);
+    let lent = exact.lent;
+    let short = Lent { masks: lent.masks - 1, live_in: 0, live_out: 0, ..lent };
+    for (of, lent) in [
+        ("masks too short, work long enough", Lent { masks: lent.masks - 1, ..lent }),
+        ("live areas too short, work long enough", Lent { live_in: 0, live_out: 1, ..lent }),
+        ("work alone lent", Lent { masks: 0, live_in: 0, live_out: 0, ..lent }),
+        ("work one short, and the other areas", Lent { work: lent.work - 1, ..short }),
+        ("work one short alone", Lent { work: lent.work - 1, ..lent }),
+        ("work long, the other areas short", Lent { work: lent.work + 7, ..short }),
+    ] {
+        cases.push(Case { name: name(of), lent, ..exact.clone() });
+    }
+    let mut refused = Case::new(name("a file refused, work short"), refused(), 0);
+    refused.lent = Lent { work: 1, ..short };
+    cases.push(refused);
+    cases
 }
 
 // ----- Refusals and limits ------------------------------------------------

@@ -1,7 +1,7 @@
 //! The safe side of the proved library's doors. The areas are sized here, so that a caller cannot
 //! lend short or overlapping ones; an answer owns what was written.
 
-use crate::answerer::{Answer, Areas};
+use crate::answerer::{Answer, Areas, Certain};
 use crate::flow::{MAX_ARRAYS, MAX_STATEMENTS, Refusal, WORK_WORDS};
 
 unsafe extern "C" {
@@ -19,6 +19,14 @@ unsafe extern "C" {
         work_length: usize,
         place: *mut u64,
         visits: *mut u64,
+    ) -> u64;
+    fn yarnuskel_certain(
+        file: *const u8,
+        file_length: usize,
+        work: *mut u64,
+        work_length: usize,
+        place: *mut u64,
+        certain: *mut u64,
     ) -> u64;
 }
 
@@ -107,4 +115,23 @@ pub fn states_in(file: &[u8], areas: &mut Areas) -> Answer {
         )
     };
     Answer { number, place, visits }
+}
+
+/// The names of a flow file that are certainly written before they are read, bit i for name i, or the
+/// refusal of the file.
+pub fn certain(file: &[u8]) -> Result<u64, Refusal> {
+    let (n, _) = header(file);
+    let Certain { number, place, word } = certain_in(file, &mut vec![0; WORK_WORDS * n]);
+    if number == 0 { Ok(word) } else { Err(Refusal { number, place }) }
+}
+
+/// The call itself, over a work area of any length.
+pub fn certain_in(file: &[u8], work: &mut [u64]) -> Certain {
+    // The call writes both in any case, and one that did not would show.
+    let (mut place, mut word) = (u64::MAX, u64::MAX);
+    // The slices are distinct, and each pointer goes with its own length.
+    let number = unsafe {
+        yarnuskel_certain(file.as_ptr(), file.len(), work.as_mut_ptr(), work.len(), &mut place, &mut word)
+    };
+    Certain { number, place, word }
 }

@@ -1,4 +1,5 @@
-//! A flow as a picture, in the language of Graphviz: a box a statement, with its masks.
+//! A flow as a picture, in the language of Graphviz: a box a statement, with its masks, and below them
+//! the names that are certainly written.
 //!
 //! Plain arrows are listed successors, dashed blue ones go to the statements that a call enters,
 //! dotted red ones to its continuation. Unreached statements are grey.
@@ -6,7 +7,7 @@
 use std::fmt::{Display, Write};
 
 use crate::flow::{Flow, Kind};
-use crate::text;
+use crate::{answerer, text};
 
 /// The most entries of a list that are shown.
 const SHOWN: usize = 8;
@@ -48,9 +49,19 @@ fn edges<T: Display>(from: usize, to: impl IntoIterator<Item = T>, style: &str) 
     to.into_iter().map(|to| format!("  {from} -> {to}{style};\n")).collect()
 }
 
+/// The names that are certainly written, as the picture's own label.
+fn label(flow: &Flow) -> String {
+    let names = text::list(text::members(answerer::certain_names(flow, None)));
+    let names = if names.is_empty() { " none" } else { &names };
+    format!("  graph [label=\"certain names{names}\", fontname=\"monospace\"];\n")
+}
+
 /// The picture of a flow whose masks are these, statement by statement.
 pub fn print(flow: &Flow, masks: &[u8]) -> String {
     let mut text = String::from("digraph flow {\n  node [shape=box, fontname=\"monospace\"];\n");
+    if flow.names > 0 {
+        text += &label(flow);
+    }
     let arrays = usize::from(flow.arrays);
     if !flow.statements.is_empty() {
         write!(text, "  start [shape=plaintext];\n  start -> {};\n", flow.entry).unwrap();

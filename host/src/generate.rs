@@ -35,12 +35,16 @@ pub fn file(seed: u64, index: u64) -> Vec<u8> {
 
 pub fn file_of(family: Family, seed: u64, index: u64) -> Vec<u8> {
     let mut random = Random::new(seed, index);
-    match family {
-        Family::Plain => plain(&mut random).bytes(),
-        Family::Layered => layered(&mut random).bytes(),
-        Family::Limits => limits(&mut random).bytes(),
-        Family::Damaged => damaged(&mut random),
-    }
+    // Names have numbers of their own, so that the rest of a flow does not depend on them.
+    let mut names = Random::new(!seed, index);
+    let flow = match family {
+        Family::Plain => plain(&mut random),
+        Family::Layered => layered(&mut random),
+        Family::Limits if names.once_in(24) => revisited(&mut names),
+        Family::Limits => limits(&mut random),
+        Family::Damaged => return damaged(&mut random, &mut names),
+    };
+    on_walks(&mut names, flow).bytes()
 }
 
 /// Each of `count` numbers with one chance in `of`, rising.
@@ -56,6 +60,54 @@ fn some_names(random: &mut Random, names: u8) -> u64 {
 /// Few as a rule, and the limit now and then.
 fn few(random: &mut Random, limit: u8) -> u8 {
     if random.once_in(40) { limit - random.below(2) as u8 } else { random.pick(&[0, 1, 1, 2, 2, 3, 5]) }
+}
+
+// ----- Names --------------------------------------------------------------
+
+/// A random walk from the entry over listed successors.
+fn walk(random: &mut Random, flow: &Flow) -> Vec<usize> {
+    let mut walk = vec![usize::from(flow.entry)];
+    for _ in 0..random.within(1, 12) {
+        let successors = &flow.statements[walk[walk.len() - 1]].successors;
+        if successors.is_empty() {
+            break;
+        }
+        walk.push(random.pick(successors).into());
+    }
+    walk
+}
+
+/// In two flows of three, most names are written and read at few statements, as a rule on walks from
+/// the entry and a write first: so that some are certain, and others only nearly so.
+fn on_walks(random: &mut Random, mut flow: Flow) -> Flow {
+    let n = flow.statements.len();
+    if n == 0 || random.once_in(3) {
+        return flow;
+    }
+    for bit in (0..flow.names).map(|name| 1 << name) {
+        if random.once_in(4) {
+            continue;
+        }
+        for s in &mut flow.statements {
+            (s.written, s.read) = (s.written & !bit, s.read & !bit);
+        }
+        for _ in 0..random.within(1, 2) {
+            let walk = walk(random, &flow);
+            let writer = if random.once_in(2) { 0 } else { random.below(walk.len()) };
+            let reader = if random.once_in(6) { writer } else { random.below(walk.len()) };
+            flow.statements[walk[writer]].written |= bit;
+            if !random.once_in(5) {
+                flow.statements[walk[reader]].read |= bit;
+            }
+        }
+        let anywhere = random.below(n);
+        match random.below(24) {
+            0 => flow.statements[anywhere].read |= bit,
+            1 | 2 => flow.statements[anywhere].written |= bit,
+            _ => {}
+        }
+    }
+    flow
 }
 
 // ----- Plain graphs -------------------------------------------------------
@@ -312,6 +364,22 @@ fn wide(random: &mut Random) -> Flow {
     flow
 }
 
+/// A chain whose statements all lead back to one near its start, which is visited about once for each.
+fn revisited(random: &mut Random) -> Flow {
+    let n = random.within(20, 70);
+    let back = random.below(3) as u16;
+    let (arrays, names) = (few(random, MAX_ARRAYS), random.within(1, 64) as u8);
+    let statement = |i: usize| {
+        let next = (i + 1 < n).then_some(i as u16 + 1);
+        let successors: Vec<u16> = [back].into_iter().filter(|_| !random.once_in(30)).chain(next).collect();
+        let mut s = Statement::new(line_of(i), Kind::Other, &successors, &some_of(random, arrays, 3));
+        (s.written, s.read) = (some_names(random, names), some_names(random, names));
+        s
+    };
+    let statements = (0..n).map(statement).collect();
+    Flow { arrays, names, entry: 0, statements, lines: Vec::new() }
+}
+
 /// Counts of 254 and 255: successors, DIM items, lines of a call.
 fn crowded(random: &mut Random) -> Flow {
     let mut flow = layered(random);
@@ -392,12 +460,13 @@ fn full(random: &mut Random) -> Flow {
 
 // ----- Damage -------------------------------------------------------------
 
-fn damaged(random: &mut Random) -> Vec<u8> {
+fn damaged(random: &mut Random, names: &mut Random) -> Vec<u8> {
     let flow = match random.below(4) {
         0 => plain(random),
         1 => wide(random),
         _ => layered(random),
     };
+    let flow = on_walks(names, flow);
     let encoded = flow.encode();
     let mut bytes = encoded.bytes.clone();
     for _ in 0..random.within(1, 2) {

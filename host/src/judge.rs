@@ -1,9 +1,9 @@
 //! The right answer to a file, from the original where it has something to say and from the
 //! reference answerer elsewhere; how a fault shows against it; and who agrees with it.
 
-use crate::answerer::{self, Answer, Areas, Fault};
-use crate::flow::{self, Refusal};
-use crate::sides::{self, Original};
+use crate::answerer::{self, Answer, Areas, Certain, Fault};
+use crate::flow::{self, Flow, Refusal};
+use crate::sides::{self, Original, OriginalCertain};
 use crate::{generate, reader};
 
 /// Lengths of the lent areas: mask bytes, live-in, live-out and work words.
@@ -31,22 +31,27 @@ impl Lent {
     }
 }
 
-/// The answer to a file, and what stands in the areas after it.
+/// The answers to a file, and what stands in the areas after each call. The call for certain names has
+/// a work area of its own, as long as the other's.
 #[derive(Clone, Debug, PartialEq, Eq)]
 pub struct Outcome {
     pub answer: Answer,
     pub areas: Areas,
+    pub certain: Certain,
+    pub certain_work: Vec<u64>,
 }
 
 pub fn outcome(file: &[u8], lent: Lent, fault: Option<Fault>) -> Outcome {
     let mut areas = lent.areas();
+    let mut certain_work = areas.work.clone();
+    let certain = answerer::certain(file, &mut certain_work, fault);
     let answer = answerer::answer(file, &mut areas, fault);
-    Outcome { answer, areas }
+    Outcome { answer, areas, certain, certain_work }
 }
 
 impl Outcome {
     /// Whether it is an acceptance with the original's masks and live sets.
-    pub fn agrees(&self, original: &Original) -> bool {
+    fn agrees(&self, original: &Original) -> bool {
         let areas = &self.areas;
         self.answer.number == 0
             && areas.masks.starts_with(&original.masks)
@@ -55,19 +60,38 @@ impl Outcome {
     }
 }
 
-/// The right outcome, with the original's answer where the flow is accepted.
+/// The right outcome, with the flow of a fit file, and with what the original says where a call accepts.
 pub struct Right {
     pub outcome: Outcome,
+    pub flow: Option<Flow>,
     pub original: Option<Original>,
+    pub certain: Option<OriginalCertain>,
 }
 
 pub fn right(file: &[u8], lent: Lent) -> Right {
     let outcome = outcome(file, lent, None);
-    let original = match outcome.answer.number {
-        0 => flow::read(file).ok().and_then(|flow| sides::original(&flow)),
-        _ => None,
-    };
-    Right { outcome, original }
+    let flow = flow::read(file).ok();
+    let accepted = |number: u64| flow.as_ref().filter(|_| number == 0);
+    let original = accepted(outcome.answer.number).and_then(sides::original);
+    let certain = accepted(outcome.certain.number).and_then(sides::original_certain);
+    Right { outcome, flow, original, certain }
+}
+
+impl Right {
+    /// Whether the masks and live sets are the original's, if it has any.
+    fn states_agree(&self, outcome: &Outcome) -> bool {
+        self.original.as_ref().is_none_or(|original| outcome.agrees(original))
+    }
+
+    /// Whether the certain names are the original's, if they are to be compared.
+    fn certain_agrees(&self, outcome: &Outcome) -> bool {
+        let word = self.certain.and_then(OriginalCertain::compared);
+        word.is_none_or(|word| outcome.certain == Certain { number: 0, place: 0, word })
+    }
+
+    pub fn original_agrees(&self, outcome: &Outcome) -> bool {
+        self.states_agree(outcome) && self.certain_agrees(outcome)
+    }
 }
 
 // ----- Faults -------------------------------------------------------------
@@ -82,7 +106,7 @@ pub struct Shown {
 /// Whether the fault shows in this file at all, and against the original.
 pub fn shows(fault: Fault, file: &[u8], lent: Lent, right: &Right) -> (bool, bool) {
     let wrong = outcome(file, lent, Some(fault));
-    let against = right.original.as_ref().is_some_and(|original| !wrong.agrees(original));
+    let against = !right.original_agrees(&wrong);
     (against || wrong != right.outcome, against)
 }
 
@@ -112,11 +136,49 @@ pub fn print_fault_table(table: &[(Fault, Shown)], count: u64) -> bool {
 
 // ----- Comparisons --------------------------------------------------------
 
+/// Of the flows whose certain names were asked for: how many have one, a written name that is none, or
+/// both; and how many were compared with the original, or left out for a statement's visits.
+#[derive(Default)]
+pub struct Certainty {
+    pub flows: usize,
+    pub certain: usize,
+    pub uncertain: usize,
+    pub both: usize,
+    pub compared: usize,
+    pub left_out: usize,
+}
+
+impl Certainty {
+    fn count(&mut self, right: &Right) {
+        let Some(flow) = right.flow.as_ref().filter(|_| right.outcome.certain.number == 0) else { return };
+        let written = flow.statements.iter().fold(0, |set, s| set | s.written);
+        let certain = right.outcome.certain.word;
+        let (some, others) = (certain != 0, written & !certain != 0);
+        self.flows += 1;
+        self.certain += usize::from(some);
+        self.uncertain += usize::from(others);
+        self.both += usize::from(some && others);
+        if let Some(original) = right.certain {
+            *(if original.compared().is_some() { &mut self.compared } else { &mut self.left_out }) += 1;
+        }
+    }
+
+    fn print(&self) {
+        let Certainty { flows, certain, uncertain, both, compared, left_out } = self;
+        let share = 100.0 * *both as f64 / *flows as f64;
+        print!("  certain names, {flows} flows: {certain} with one, ");
+        println!("{uncertain} with a written name that is none, {both} ({share:.0}%) with both");
+        print!("  certain names beside the original: {compared} flows, ");
+        println!("{left_out} left out for more than 32 visits of a statement");
+    }
+}
+
 #[derive(Default)]
 pub struct Comparison {
     pub accepted: usize,
     /// How many files were refused, by number.
     pub refused: [usize; 11],
+    pub certainty: Certainty,
     pub differences: Vec<String>,
 }
 
@@ -134,10 +196,18 @@ impl Comparison {
         }
     }
 
+    fn hold_original(&mut self, index: u64, side: &str, right: &Right, outcome: &Outcome) {
+        self.hold(index, &format!("the original and {side}"), right.states_agree(outcome));
+        self.hold(index, &format!("certain names by the original and {side}"), right.certain_agrees(outcome));
+    }
+
     pub fn print(&self, count: u64, seed: u64) {
         println!("{count} files, seed {seed}: {} accepted", self.accepted);
         for (number, files) in self.refused.iter().enumerate().filter(|(_, files)| **files > 0) {
             println!("  refused {number}: {files}");
+        }
+        if self.certainty.flows > 0 {
+            self.certainty.print();
         }
         self.differences.iter().for_each(|d| println!("  {d}"));
         println!("{} differences", self.differences.len());
@@ -152,7 +222,8 @@ fn of_file(answer: Answer) -> Result<(), Refusal> {
     }
 }
 
-/// The answerer beside the original (masks, live sets) and beside the plain reader (refusals).
+/// The answerer beside the original (masks, live sets, certain names) and beside the plain reader
+/// (refusals).
 pub fn compare(count: u64, seed: u64) -> Comparison {
     let mut comparison = Comparison::default();
     for index in 0..count {
@@ -160,9 +231,9 @@ pub fn compare(count: u64, seed: u64) -> Comparison {
         let right = right(&file, Lent::for_file(&file, (index % 3) as usize));
         comparison.count(right.outcome.answer);
         let read = reader::read(&file, &mut Vec::new());
+        comparison.certainty.count(&right);
         comparison.hold(index, "the plain reader and the answerer", read == of_file(right.outcome.answer));
-        let agree = right.original.is_none_or(|original| right.outcome.agrees(&original));
-        comparison.hold(index, "the original and the answerer", agree);
+        comparison.hold_original(index, "the answerer", &right, &right.outcome);
     }
     comparison
 }
@@ -187,11 +258,13 @@ pub fn compare_reader(count: u64, seed: u64) -> Option<Comparison> {
     Some(comparison)
 }
 
-/// What the proved call answers and leaves in the areas; `None` without it.
+/// What the proved calls answer and leave in the areas; `None` without them.
 pub fn proved_outcome(file: &[u8], lent: Lent) -> Option<Outcome> {
     let mut areas = lent.areas();
+    let mut certain_work = areas.work.clone();
+    let certain = sides::proved_certain(file, &mut certain_work)?;
     let answer = sides::proved_states(file, &mut areas)?;
-    Some(Outcome { answer, areas })
+    Some(Outcome { answer, areas, certain, certain_work })
 }
 
 /// Areas that serve the file as a rule; in one file of eight, one of them may be short.
@@ -208,8 +281,8 @@ fn lent_in_turn(file: &[u8], index: u64) -> Lent {
     lent
 }
 
-/// The proved call beside the original (masks, live sets) and beside the answerer (refusals,
-/// places, visits, every byte of the areas).
+/// The proved calls beside the original (masks, live sets, certain names) and beside the answerer
+/// (refusals, places, visits, certain names, every byte of the areas).
 pub fn compare_proved(count: u64, seed: u64) -> Option<Comparison> {
     let mut comparison = Comparison::default();
     for index in 0..count {
@@ -218,9 +291,9 @@ pub fn compare_proved(count: u64, seed: u64) -> Option<Comparison> {
         let right = right(&file, lent);
         let proved = proved_outcome(&file, lent)?;
         comparison.count(right.outcome.answer);
-        comparison.hold(index, "the proved call and the answerer", proved == right.outcome);
-        let agree = right.original.is_none_or(|original| proved.agrees(&original));
-        comparison.hold(index, "the proved call and the original", agree);
+        comparison.certainty.count(&right);
+        comparison.hold(index, "the proved calls and the answerer", proved == right.outcome);
+        comparison.hold_original(index, "the proved calls", &right, &proved);
     }
     Some(comparison)
 }

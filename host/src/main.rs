@@ -8,16 +8,16 @@ use yarnuskel_host::flow::Flow;
 use yarnuskel_host::generate::{self, Family};
 use yarnuskel_host::judge::{self, Comparison, Lent};
 use yarnuskel_host::sides::{self, NO_LIBRARY, NO_ORIGINAL};
-use yarnuskel_host::{bench, cases, dot, flow, listing, reading, stack, store, text, worst};
+use yarnuskel_host::{answerer, bench, cases, dot, flow, listing, reading, stack, store, text, worst};
 
 const USAGE: &str = "commands:
-  answer FILE|DIR              masks and live sets by the original, refusals by the answerer (of a DIR, its .flow files)
+  answer FILE|DIR              masks, live sets and certain names by the original, refusals by the answerer (of a DIR, its .flow files)
   random KIND COUNT SEED DIR   write random files: plain, layered, limits, damaged
   file SEED INDEX PATH         write one file of a comparison
   time FILE                    time the original
   compare COUNT SEED           the original beside the answerer
   compare-reader COUNT SEED    the proved reader beside the answerer
-  compare-proved COUNT SEED    the proved call beside original and answerer
+  compare-proved COUNT SEED    the proved calls beside original and answerer
   faults COUNT SEED            in how many flows each fault shows
   store                        write the stored answers and the example flows
   stored                       list the stored cases
@@ -25,9 +25,9 @@ const USAGE: &str = "commands:
   definitions                  every definition that the promises rest on, with its file and its lines
   text FILE                    a flow file as text
   flow TEXT PATH               write the flow file that a text says
-  dot FILE                     a flow file with its masks as a picture, for Graphviz
+  dot FILE                     a flow file with its masks and certain names as a picture, for Graphviz
   bench-reader                 the proved reader beside a plain one
-  bench                        the proved call beside the original
+  bench                        the proved calls beside the original, and beside each other
   stack                        the stack that the deepest nest of subroutines takes, in each order of the file
   stack-try ORDER DEPTH BYTES  whether a thread with so much stack answers a nest (Down or Up); an overflow ends the program
   worst SECONDS SEED           search for the file that takes the proved call longest, so long a family
@@ -77,7 +77,21 @@ fn answer_file(path: &Path) -> Outcome {
         let digits = if arrays == 0 { "-" } else { &digits };
         println!("{i} {digits} {:016x} {:016x}", answer.live_in[i], answer.live_out[i]);
     }
+    println!("{}", certain_line(&flow));
     Ok(true)
+}
+
+/// The certain names by the original, or by the answerer where the original may have fallen back.
+fn certain_line(flow: &Flow) -> String {
+    match sides::original_certain(flow) {
+        Some(original) if original.compared().is_none() => {
+            let word = answerer::certain_names(flow, None);
+            let visits = original.visits;
+            format!("certain {word:016x} by the answerer: the original visits a statement {visits} times")
+        }
+        Some(original) => format!("certain {:016x}", original.word),
+        None => NO_ORIGINAL.into(),
+    }
 }
 
 fn files(folder: &Path) -> Result<Vec<PathBuf>, String> {
@@ -167,6 +181,7 @@ fn write_store() -> Outcome {
     let cases = store::cases();
     let bytes = store::bytes(&cases)?;
     save(&root().join(store::PLACE), &bytes)?;
+    save(&root().join(store::PRINTED), store::printed(cases.len()).as_bytes())?;
     let examples = root().join("examples");
     save(&examples.join("refused.flow"), &cases::refused())?;
     for path in files(&examples)?.iter().filter(|path| path.extension().is_some_and(|e| e == "txt")) {
@@ -179,9 +194,11 @@ fn write_store() -> Outcome {
 fn list_store() -> Outcome {
     for (number, case) in store::cases().iter().enumerate() {
         let right = store::answer(case)?;
-        let (answer, Lent { masks, live_in, live_out, work }) = (right.outcome.answer, case.lent);
+        let (answer, certain) = (right.outcome.answer, right.outcome.certain);
+        let Lent { masks, live_in, live_out, work } = case.lent;
         print!("{number}: {} | areas {masks} {live_in} {live_out} {work} | ", case.name);
-        println!("{} {} {}", answer.number, answer.place, answer.visits);
+        print!("{} {} {} | ", answer.number, answer.place, answer.visits);
+        println!("{} {} {:016x}", certain.number, certain.place, certain.word);
     }
     Ok(true)
 }
@@ -223,7 +240,7 @@ fn run(words: &[&str]) -> Outcome {
         }
         ["flow", from, path] => write_flow(Path::new(from), Path::new(path)),
         ["bench-reader"] => Ok(bench::readers()),
-        ["bench"] => Ok(bench::whole_call()),
+        ["bench"] => Ok(bench::whole_call() & bench::certain_call()),
         ["stack"] => stack::measure(),
         ["stack-try", order, depth, bytes] => stack::tried(order, number(depth)?, number(bytes)?),
         ["worst", seconds, seed] => worst::search(number(seconds)?, number(seed)?),

@@ -87,6 +87,14 @@ mod dataflow {
         entries.iter().map(|e| effect(e)).map(|effect| (effect.touched, effect.opaque)).collect()
     }
 
+    /// The visits of each statement in the solve of `DefinedBeforeUse`.
+    pub fn defined_visits(module: &Module) -> Vec<u64> {
+        let visits = RefCell::new(vec![0; module.cfg.nodes.len()]);
+        let counted = Counted { analysis: &DefinedFlow, visits };
+        solve(module, &module.cfg, &counted);
+        counted.visits.into_inner()
+    }
+
     pub fn live_sets(module: &Module) -> Vec<(HashSet<VarName>, HashSet<VarName>)> {
         let flow = LiveVarsFlow { fns: FnBodyReads::build(module), for_vars: for_loop_vars(module) };
         solve(module, &module.cfg, &flow)
@@ -202,11 +210,19 @@ impl Original {
         self.live_sets().iter().map(|(live_in, live_out)| (word(live_in), word(live_out))).unzip()
     }
 
-    /// The names always written before they are read, as a word.
+    /// The names always written before they are read, as a word: none in a module with a key's handler or
+    /// with an error handler that goes on, which no flow here has.
     pub fn defined_before_use(&self) -> u64 {
         given::hand_back(&self.module, &self.lists);
         let defined = DefinedBeforeUse.run(&self.module, &mut Registry::default());
         self.names.iter().rev().fold(0, |w, v| w << 1 | u64::from(defined.contains(v)))
+    }
+
+    /// The visits of each statement in the solve that these names rest on. Past 32 of them it takes no
+    /// name as written there.
+    pub fn defined_visits(&self) -> Vec<u64> {
+        given::hand_back(&self.module, &self.lists);
+        dataflow::defined_visits(&self.module)
     }
 
     /// For each name, the names it interferes with, as a word.

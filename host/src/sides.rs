@@ -1,7 +1,7 @@
 //! The sides of a comparison that may be absent: the original Rust and the proved library. Each
 //! answers `None` where it was not there at build time.
 
-use crate::answerer::{Answer, Areas};
+use crate::answerer::{Answer, Areas, Certain};
 use crate::flow::{Flow, Refusal};
 
 pub const NO_ORIGINAL: &str = "the original Rust is not here: what needs it is skipped";
@@ -28,6 +28,36 @@ pub fn original(_: &Flow) -> Option<Original> {
     None
 }
 
+/// The names that the original finds always written before they are read, and the most visits of one
+/// statement in its solve.
+#[derive(Clone, Copy, Debug, PartialEq, Eq)]
+pub struct OriginalCertain {
+    pub word: u64,
+    pub visits: u64,
+}
+
+impl OriginalCertain {
+    /// Past so many visits of a statement the original may fall back to the empty set.
+    const VISITS: u64 = 32;
+
+    /// The word, where it is to be compared.
+    pub fn compared(self) -> Option<u64> {
+        (self.visits <= Self::VISITS).then_some(self.word)
+    }
+}
+
+#[cfg(original)]
+pub fn original_certain(flow: &Flow) -> Option<OriginalCertain> {
+    let original = crate::original::Original::new(flow);
+    let visits = original.defined_visits().into_iter().max().unwrap_or(0);
+    Some(OriginalCertain { word: original.defined_before_use(), visits })
+}
+
+#[cfg(not(original))]
+pub fn original_certain(_: &Flow) -> Option<OriginalCertain> {
+    None
+}
+
 /// Something to time.
 pub type Run<'a> = Box<dyn FnMut() + 'a>;
 
@@ -49,6 +79,20 @@ pub fn original_runs(_: &Flow) -> Option<[Run<'static>; 2]> {
     None
 }
 
+/// The original's `DefinedBeforeUse`.
+#[cfg(original)]
+pub fn original_certain_run(flow: &Flow) -> Option<Run<'static>> {
+    let original = crate::original::Original::new(flow);
+    Some(Box::new(move || {
+        std::hint::black_box(original.defined_before_use());
+    }))
+}
+
+#[cfg(not(original))]
+pub fn original_certain_run(_: &Flow) -> Option<Run<'static>> {
+    None
+}
+
 #[cfg(proved)]
 pub fn proved_check(file: &[u8]) -> Option<Result<(), Refusal>> {
     Some(crate::door::check(file))
@@ -66,6 +110,16 @@ pub fn proved_states(file: &[u8], areas: &mut Areas) -> Option<Answer> {
 
 #[cfg(not(proved))]
 pub fn proved_states(_: &[u8], _: &mut Areas) -> Option<Answer> {
+    None
+}
+
+#[cfg(proved)]
+pub fn proved_certain(file: &[u8], work: &mut [u64]) -> Option<Certain> {
+    Some(crate::door::certain_in(file, work))
+}
+
+#[cfg(not(proved))]
+pub fn proved_certain(_: &[u8], _: &mut [u64]) -> Option<Certain> {
     None
 }
 

@@ -1,14 +1,14 @@
 //! The stored answers: a fixed list of files with their right answers, in one file that a program
 //! replays without Rust.
 
-use crate::answerer::{Answer, Fault, States};
+use crate::answerer::{Answer, Certain, Fault, States};
 use crate::cases::{self, Case};
-use crate::flow;
 use crate::generate::{self, Family};
 use crate::judge::{self, Lent, Outcome, Right};
 
-/// Where the stored answers stand, from the root of the repository.
+/// Where the stored answers stand, from the root of the repository, and what their replay is to print.
 pub const PLACE: &str = "crates/replay/stdin";
+pub const PRINTED: &str = "crates/replay/stdout";
 
 const SEED: u64 = 20_260_411;
 /// Random flows stored, and the most bytes that one of them has.
@@ -60,17 +60,15 @@ pub fn cases() -> Vec<Case> {
     let differences = cases::differences().into_iter().map(|(name, flow)| (name, flow.bytes()));
     let differences = differences.chain([("refused", cases::refused())]);
     let differences = differences.map(|(name, file)| Case::new(name, file, 1)).collect();
-    [worked, cases::refusals(), random_cases(), differences].concat()
+    [worked, cases::refusals(), cases::certain(), random_cases(), differences].concat()
 }
 
 /// The right answer to a case; an error where original and answerer part.
 pub fn answer(case: &Case) -> Result<Right, String> {
     let right = judge::right(&case.file(), case.lent);
-    match &right.original {
-        Some(original) if !right.outcome.agrees(original) => {
-            Err(format!("{}: the original and the answerer part", case.name))
-        }
-        _ => Ok(right),
+    match right.original_agrees(&right.outcome) {
+        true => Ok(right),
+        false => Err(format!("{}: the original and the answerer part", case.name)),
     }
 }
 
@@ -93,8 +91,7 @@ fn put_case(out: &mut Vec<u8>, case: &Case, right: &Right) {
     let (answer, areas) = (right.outcome.answer, &right.outcome.areas);
     out.push(answer.number as u8);
     put_u32(out, answer.place as usize);
-    if answer.number == 0 {
-        let flow = flow::read(&case.file()).unwrap();
+    if let Some(flow) = right.flow.as_ref().filter(|_| answer.number == 0) {
         let n = flow.statements.len();
         put_u32(out, answer.visits as usize);
         out.extend_from_slice(&areas.masks[..n * usize::from(flow.arrays)]);
@@ -102,6 +99,10 @@ fn put_case(out: &mut Vec<u8>, case: &Case, right: &Right) {
             out.extend_from_slice(&word.to_le_bytes());
         }
     }
+    let Certain { number, place, word } = right.outcome.certain;
+    out.push(number as u8);
+    put_u32(out, place as usize);
+    out.extend_from_slice(&word.to_le_bytes());
 }
 
 /// The stored answers, as bytes.
@@ -112,6 +113,11 @@ pub fn bytes(cases: &[Case]) -> Result<Vec<u8>, String> {
     }
     out.push(0);
     Ok(out)
+}
+
+/// What the replay prints where every case is answered as stored.
+pub fn printed(cases: usize) -> String {
+    format!("{cases} cases, 0 different\n")
 }
 
 // ----- Reading them back --------------------------------------------------
@@ -166,7 +172,13 @@ impl Bytes<'_> {
             let (live_in, live_out) = (self.words(n), self.words(n));
             areas.write(&States { masks, live_in, live_out, visits: answer.visits });
         }
-        Stored { file, lent, outcome: Outcome { answer, areas } }
+        let mut certain_work = lent.areas().work;
+        let (number, place) = (self.number(1) as u64, self.number(4) as u64);
+        let certain = Certain { number, place, word: self.number(8) as u64 };
+        if number == 0 {
+            certain_work.fill(0);
+        }
+        Stored { file, lent, outcome: Outcome { answer, areas, certain, certain_work } }
     }
 }
 

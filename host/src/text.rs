@@ -37,11 +37,13 @@ fn counted(count: usize, name: &str) -> String {
     format!("{count} {name}{}", if count == 1 { "" } else { "s" })
 }
 
-fn list(numbers: impl IntoIterator<Item = impl fmt::Display>) -> String {
+/// Each after a space.
+pub fn list(numbers: impl IntoIterator<Item = impl fmt::Display>) -> String {
     numbers.into_iter().map(|number| format!(" {number}")).collect()
 }
 
-fn members(set: u64) -> impl Iterator<Item = u32> {
+/// The names of a word, by number.
+pub fn members(set: u64) -> impl Iterator<Item = u32> {
     (0..64).filter(move |i| set >> i & 1 == 1)
 }
 

@@ -33,14 +33,8 @@ enum Family {
     Shared,
 }
 
-const FAMILIES: [Family; 6] = [
-    Family::Returns,
-    Family::Bodies,
-    Family::Calls,
-    Family::Transparent,
-    Family::Dense,
-    Family::Shared,
-];
+const FAMILIES: [Family; 6] =
+    [Family::Returns, Family::Bodies, Family::Calls, Family::Transparent, Family::Dense, Family::Shared];
 
 // ----- Recipes ------------------------------------------------------------
 

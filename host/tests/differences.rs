@@ -1,21 +1,26 @@
 //! The flows of docs/DIFFERENCES.md: masks and live sets are the original's, and what differs
-//! from it is shown where it can be had from outside.
+//! from it, certain names among it, is shown where it can be had from outside.
 
 use yarnuskel_host::answerer;
 use yarnuskel_host::cases;
-use yarnuskel_host::flow::{self, Refusal};
+use yarnuskel_host::flow::{self, Flow, Refusal};
 use yarnuskel_host::judge::{self, Lent};
 use yarnuskel_host::sides::{NO_LIBRARY, NO_ORIGINAL};
 
+fn named(name: &str) -> Flow {
+    cases::differences().into_iter().find(|case| case.0 == name).unwrap().1
+}
+
+/// And the certain names, where they are to be compared.
 #[test]
 fn masks_and_live_sets_are_the_originals() {
     for (name, flow) in cases::differences() {
         let file = flow.bytes();
         let lent = Lent::for_file(&file, 0);
         let right = judge::right(&file, lent);
-        match &right.original {
-            Some(original) => assert!(right.outcome.agrees(original), "{name}"),
-            None => println!("{NO_ORIGINAL}"),
+        assert!(right.original_agrees(&right.outcome), "{name}");
+        if right.original.is_none() {
+            println!("{NO_ORIGINAL}");
         }
         match judge::proved_outcome(&file, lent) {
             Some(outcome) => assert!(outcome == right.outcome, "{name} by the proved call"),
@@ -38,9 +43,9 @@ fn a_refused_file() {
 /// The queue rule's visits do not depend on the order of hash maps.
 #[test]
 fn visits_by_the_queue_rule() {
-    let visits: Vec<u64> =
-        cases::differences().iter().map(|(_, flow)| answerer::states(flow, None).visits).collect();
-    assert_eq!(visits, [8, 15, 211]);
+    for (name, visits) in [("return_order", 8), ("call_cycle", 15), ("many_visits", 211)] {
+        assert_eq!(answerer::states(&named(name), None).visits, visits, "{name}");
+    }
 }
 
 #[cfg(original)]
@@ -48,12 +53,9 @@ mod original {
     use std::collections::BTreeSet;
 
     use super::*;
-    use yarnuskel_host::flow::Flow;
+    use yarnuskel_host::generate;
     use yarnuskel_host::original::Original;
-
-    fn named(name: &str) -> Flow {
-        cases::differences().into_iter().find(|case| case.0 == name).unwrap().1
-    }
+    use yarnuskel_host::sides;
 
     /// Each run has hash maps with keys of its own, so that both orders come in some run.
     #[test]
@@ -84,5 +86,36 @@ mod original {
         let (_, visits) = Original::new(&flow).doubled();
         assert_eq!(visits[70], 71);
         assert_eq!(visits.iter().sum::<u64>(), answerer::states(&flow, None).visits);
+    }
+
+    /// The Rust's word, where it is to be compared, and by the definition.
+    fn certain(flow: &Flow) -> (u64, bool, u64) {
+        let original = sides::original_certain(flow).unwrap();
+        (original.word, original.compared().is_some(), answerer::certain_names(flow, None))
+    }
+
+    /// Past 32 visits of a statement the Rust leaves a certain name out, and with one statement fewer it
+    /// does not.
+    #[test]
+    fn certain_names_past_the_threshold() {
+        let mut flow = named("fallback");
+        assert_eq!(certain(&flow), (0, false, 1));
+        flow.statements.pop();
+        flow.statements[31].successors.pop();
+        assert_eq!(certain(&flow), (1, true, 1));
+    }
+
+    /// Why no smaller flow shows it: a statement other than the entry is visited at most once for each
+    /// statement.
+    #[test]
+    fn small_flows_stay_below_the_threshold() {
+        let flows = (0..8_000).filter_map(|index| flow::read(&generate::file(5, index)).ok());
+        for flow in flows.filter(|flow| flow.statements.len() <= 32) {
+            let visits = Original::new(&flow).defined_visits();
+            let others = visits.iter().enumerate().filter(|(i, _)| *i != usize::from(flow.entry));
+            assert!(others.map(|(_, visits)| *visits).max().unwrap_or(0) <= flow.statements.len() as u64);
+            let (original, _, certain) = certain(&flow);
+            assert_eq!(original, certain);
+        }
     }
 }

@@ -4,7 +4,7 @@ use std::collections::BTreeSet;
 
 use yarnuskel_host::answerer;
 use yarnuskel_host::flow::{self, Flow};
-use yarnuskel_host::{cases, dot, generate};
+use yarnuskel_host::{cases, dot, generate, text};
 
 fn picture(flow: &Flow) -> String {
     dot::print(flow, &answerer::states(flow, None).masks)
@@ -24,7 +24,7 @@ fn parts(picture: &str) -> (Vec<&str>, Vec<&str>) {
 fn p5() {
     let picture = picture(&cases::worked()[0].flow);
     let (nodes, edges) = parts(&picture);
-    assert_eq!(nodes, ["node", "start", "0", "1", "2", "3"]);
+    assert_eq!(nodes, ["node", "graph", "start", "0", "1", "2", "3"]);
     let (enters, goes_on) = (" [style=dashed, color=blue];", " [style=dotted, color=red];");
     let expected =
         ["start -> 0;", "0 -> 2;", &format!("0 -> 2{enters}"), &format!("0 -> 1{goes_on}"), "2 -> 3;"];
@@ -36,6 +36,18 @@ fn p5() {
     ] {
         assert!(picture.contains(label), "{label} in\n{picture}");
     }
+}
+
+#[test]
+fn certain_names() {
+    let p5 = &cases::worked()[0].flow;
+    assert!(picture(p5).contains("label=\"certain names none\""));
+    let mut flow = p5.clone();
+    (flow.names, flow.statements[0].written) = (2, 0b11);
+    let names: Vec<String> =
+        text::members(answerer::certain_names(&flow, None)).map(|x| x.to_string()).collect();
+    assert!(!names.is_empty() && picture(&flow).contains(&format!("certain names {}\"", names.join(" "))));
+    assert!(!picture(&Flow { names: 0, ..Flow::default() }).contains("label"));
 }
 
 #[test]

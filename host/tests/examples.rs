@@ -52,6 +52,9 @@ const MASKS: [(&str, &[u8]); 5] = [
     ("table", &[1, 1, 4, 1, 4, 3, 4, 3, 4, 3, 4, 3]),
 ];
 
+/// A word of certain names.
+const CERTAIN: [(&str, u64); 2] = [("fallback", 0b1), ("names", 0b1001)];
+
 #[test]
 fn answered_as_they_say() {
     for (name, _) in named_texts() {
@@ -61,9 +64,12 @@ fn answered_as_they_say() {
         if let Some((_, masks)) = MASKS.iter().find(|(with, _)| *with == name) {
             assert_eq!(right.outcome.areas.masks, *masks, "{name}");
         }
-        match &right.original {
-            Some(original) => assert!(right.outcome.agrees(original), "{name} by the original"),
-            None => println!("{NO_ORIGINAL}"),
+        if let Some((_, word)) = CERTAIN.iter().find(|(with, _)| *with == name) {
+            assert_eq!(right.outcome.certain.word, *word, "{name}");
+        }
+        assert!(right.original_agrees(&right.outcome), "{name} by the original");
+        if right.original.is_none() {
+            println!("{NO_ORIGINAL}");
         }
         match judge::proved_outcome(&file, lent) {
             Some(outcome) => assert!(outcome == right.outcome, "{name} by the proved call"),

@@ -1,6 +1,6 @@
 //! The worked flows, the comparison and the fault table at small counts, and the stored answers.
 
-use std::path::Path;
+use std::path::{Path, PathBuf};
 
 use yarnuskel_host::answerer::{self, Fault};
 use yarnuskel_host::judge;
@@ -9,9 +9,12 @@ use yarnuskel_host::{cases, store};
 
 const SEED: u64 = 1;
 
+fn root() -> PathBuf {
+    Path::new(env!("CARGO_MANIFEST_DIR")).parent().unwrap().into()
+}
+
 fn stored_bytes() -> Vec<u8> {
-    let root = Path::new(env!("CARGO_MANIFEST_DIR")).parent().unwrap();
-    std::fs::read(root.join(store::PLACE)).unwrap()
+    std::fs::read(root().join(store::PLACE)).unwrap()
 }
 
 #[test]
@@ -36,12 +39,28 @@ fn live_sets_of_p5() {
     assert_eq!((states.live_in, states.live_out), (vec![0, 1, 0, 0], vec![0; 4]));
 }
 
+/// Each flow for a point of the definition of certain names tells it from the fault there.
+#[test]
+fn certain_flows_show_their_faults() {
+    for (name, fault, flow) in cases::certain_flows() {
+        let word = answerer::certain_names(&flow, None);
+        assert_ne!(answerer::certain_names(&flow, Some(fault)), word, "{name}");
+        match sides::original_certain(&flow) {
+            Some(original) => assert_eq!(original.compared(), Some(word), "{name} by the original"),
+            None => println!("{NO_ORIGINAL}"),
+        }
+    }
+}
+
 #[test]
 fn original_and_answerer_agree() {
     let count = 8_000;
     let comparison = judge::compare(count, SEED);
     comparison.print(count, SEED);
     assert!(comparison.differences.is_empty());
+    let certainty = &comparison.certainty;
+    assert!(4 * certainty.both > certainty.flows, "too few flows with some names certain and others not");
+    assert!(cfg!(not(original)) || certainty.left_out > 0, "no flow past 32 visits of a statement");
 }
 
 #[test]
@@ -72,7 +91,10 @@ fn stored_answers_show_every_fault() {
 #[test]
 fn stored_answers_are_up_to_date() {
     if cfg!(original) {
-        assert!(store::bytes(&store::cases()).unwrap() == stored_bytes(), "run the command `store`");
+        let cases = store::cases();
+        assert!(store::bytes(&cases).unwrap() == stored_bytes(), "run the command `store`");
+        let printed = std::fs::read_to_string(root().join(store::PRINTED)).unwrap();
+        assert_eq!(printed, store::printed(cases.len()), "run the command `store`");
     } else {
         println!("{NO_ORIGINAL}");
     }

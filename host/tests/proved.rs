@@ -6,8 +6,8 @@ use std::process::{Command, Stdio};
 
 use yarnuskel_host::answerer;
 use yarnuskel_host::judge::{self, Comparison, Lent};
-use yarnuskel_host::sides::{self, NO_LIBRARY};
-use yarnuskel_host::{bench, cases, listing, stack, store};
+use yarnuskel_host::sides::NO_LIBRARY;
+use yarnuskel_host::{bench, cases, flow, listing, stack, store, text};
 
 const SEED: u64 = 2;
 
@@ -55,10 +55,10 @@ fn random_files_by_the_proved_call() {
     no_differences(20_000, judge::compare_proved(20_000, SEED), NO_LIBRARY);
 }
 
-/// The flows of the benchmark are at the limits of size.
+/// The flows of the benchmarks are at the limits of size.
 #[test]
 fn large_flows_by_the_proved_call() {
-    for (name, flow) in bench::flows() {
+    for (name, flow) in bench::flows().into_iter().chain([("names", bench::one_name_at_a_time())]) {
         let file = flow.bytes();
         let lent = Lent::for_file(&file, 1);
         match judge::proved_outcome(&file, lent) {
@@ -96,6 +96,24 @@ fn the_wrapper_sizes_its_areas() {
         let file = generate::file_of(generate::Family::Damaged, SEED, index);
         let expected = yarnuskel_host::flow::read(&file).map(|_| ());
         assert_eq!(door::states(&file).map(|_| ()), expected, "file {index}");
+        let certain = yarnuskel_host::flow::read(&file).map(|flow| answerer::certain_names(&flow, None));
+        assert_eq!(door::certain(&file), certain, "file {index}");
+    }
+}
+
+/// A work area one word short, exact and longer: changed by no refusal, and zero after an answer.
+#[test]
+fn work_areas_of_certain_names() {
+    for case in cases::certain() {
+        let file = case.file();
+        let work = Lent::for_file(&file, 0).work;
+        for length in [0, work.saturating_sub(1), work, work + 1, 2 * work + 3] {
+            let lent = Lent { masks: 0, live_in: 0, live_out: 0, work: length };
+            match judge::proved_outcome(&file, lent) {
+                Some(outcome) => assert!(outcome == judge::outcome(&file, lent, None), "{}", case.name),
+                None => return println!("{NO_LIBRARY}"),
+            }
+        }
     }
 }
 
@@ -105,8 +123,45 @@ fn output(command: &mut Command) -> String {
     String::from_utf8(command.output().unwrap().stdout).unwrap()
 }
 
-/// What the example programs print of a worked flow.
-fn example_text(worked: &cases::Worked) -> String {
+/// An example program in Rust and in C.
+struct Programs {
+    rust: PathBuf,
+    c: PathBuf,
+}
+
+impl Programs {
+    /// The one in C is compiled here; `None` without the library.
+    fn of(name: &str) -> Option<Programs> {
+        if cfg!(not(proved)) {
+            return None;
+        }
+        let built = std::env::current_exe().unwrap();
+        let rust = built.parent().unwrap().with_file_name("examples").join(name);
+        let c = std::env::temp_dir().join(format!("yarnuskel-{name}-{}", std::process::id()));
+        let mut cc = Command::new("cc");
+        cc.arg("-I").arg(root().join("include")).arg(root().join(format!("examples/{name}.c")));
+        cc.arg(root().join("target/staticlib/libyarnuskel.a")).arg("-o").arg(&c);
+        assert!(cc.status().unwrap().success());
+        Some(Programs { rust, c })
+    }
+
+    /// Both print this text for the file.
+    fn print(&self, file: &Path, text: &str) {
+        for program in [&self.rust, &self.c] {
+            let printed = output(Command::new(program).arg(file));
+            assert_eq!(printed, text, "{}, {}", program.display(), file.display());
+        }
+    }
+}
+
+impl Drop for Programs {
+    fn drop(&mut self) {
+        std::fs::remove_file(&self.c).unwrap();
+    }
+}
+
+/// What the example programs `states` print of a worked flow.
+fn states_text(worked: &cases::Worked) -> String {
     let states = answerer::states(&worked.flow, None);
     let arrays = usize::from(worked.flow.arrays);
     let mut text = String::new();
@@ -119,22 +174,28 @@ fn example_text(worked: &cases::Worked) -> String {
 
 #[test]
 fn example_programs() {
-    if sides::proved_states(&[], &mut Lent::for_file(&[], 0).areas()).is_none() {
-        return println!("{NO_LIBRARY}");
-    }
-    let built = std::env::current_exe().unwrap();
-    let rust = built.parent().unwrap().with_file_name("examples").join("states");
-    let c = std::env::temp_dir().join(format!("yarnuskel-states-{}", std::process::id()));
-    let mut cc = Command::new("cc");
-    cc.arg("-I").arg(root().join("include")).arg(root().join("examples/states.c"));
-    cc.arg(root().join("target/staticlib/libyarnuskel.a")).arg("-o").arg(&c);
-    assert!(cc.status().unwrap().success());
+    let Some(programs) = Programs::of("states") else { return println!("{NO_LIBRARY}") };
     for worked in cases::worked() {
         let file = root().join("examples").join(format!("{}.flow", worked.name));
-        assert_eq!(output(Command::new(&rust).arg(&file)), example_text(&worked), "Rust, {}", worked.name);
-        assert_eq!(output(Command::new(&c).arg(&file)), example_text(&worked), "C, {}", worked.name);
+        programs.print(&file, &states_text(&worked));
     }
-    std::fs::remove_file(c).unwrap();
+}
+
+/// What the example programs `certain` print of a file.
+fn certain_text(file: &[u8]) -> String {
+    match flow::read(file).map(|flow| answerer::certain_names(&flow, None)) {
+        Ok(word) => format!("{word:016x}{}\n", text::list(text::members(word))),
+        Err(refusal) => format!("refused {} at {}\n", refusal.number, refusal.place),
+    }
+}
+
+#[test]
+fn example_programs_of_certain_names() {
+    let Some(programs) = Programs::of("certain") else { return println!("{NO_LIBRARY}") };
+    let files = std::fs::read_dir(root().join("examples")).unwrap().map(|entry| entry.unwrap().path());
+    for file in files.filter(|path| path.extension().is_some_and(|e| e == "flow")) {
+        programs.print(&file, &certain_text(&std::fs::read(&file).unwrap()));
+    }
 }
 
 fn run_with_input(program: &Path, input: &[u8]) -> String {

@@ -34,10 +34,10 @@ use Rattle.dataflow.specs.contracts.Phases.{Findings}
 use Rattle.dataflow.proofs.Promised.{promised}
 
 -- a verdict is one of the two, and names one refusal
-not-both : {r : Refusal} {v : Verdict} → v ≡ fit → v ≡ unfit r → ⊥
+pub not-both : {r : Refusal} {v : Verdict} → v ≡ fit → v ≡ unfit r → ⊥
 not-both e h = let z : _≡_ {A = ℕ} 0 1 = cc in omega arith
 
-same-refusal : {r x : Refusal} {v : Verdict} → v ≡ unfit r → v ≡ unfit x → Refused r ≡ Refused x
+pub same-refusal : {r x : Refusal} {v : Verdict} → v ≡ unfit r → v ≡ unfit x → Refused r ≡ Refused x
 same-refusal e h = cc
 
 module _ (s masks liveIn liveOut work : List ℕ) where

@@ -17,3 +17,4 @@ pub mod Phases
 pub mod Promised
 pub mod Told
 pub mod Judging
+pub mod JudgingWork

@@ -1,2 +1,3 @@
 pub mod Promise
+pub mod Certain
 pub mod contracts

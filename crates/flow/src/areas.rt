@@ -3,7 +3,7 @@ ghost use mathlib.Core.Path.{_≡_};
 ghost use Prim.Native.Nat.{_≤_};
 ghost use lib.Dec.{leb};
 ghost use Rattle.flow.specs.Format.{verdict, areaChecks};
-ghost use Rattle.flow.specs.Limits.{maxStatements, maxArrays};
+ghost use Rattle.flow.specs.Limits.{maxStatements, maxArrays, workWords};
 ghost use Rattle.flow.specs.contracts.Answers.{isFit};
 use crate::WORK_PER_STATEMENT;
 
@@ -14,7 +14,15 @@ pub fn area_fits(need: usize, have: usize) -> bool
     need <= have
 }
 
-// Masks of n × arrays bytes, live-in and live-out of n words, work of 64 × n words.
+// Work of 64 × n words.
+pub fn work_fits(n: usize, work: usize) -> bool
+    requires { ⌜ n ≤ maxStatements ⌝ }
+    ensures { λ r. ⌜ r ≡ leb (workWords n) work ⌝ }
+{
+    area_fits(WORK_PER_STATEMENT * n, work)
+}
+
+// Masks of n × arrays bytes, live-in and live-out of n words, and the work area.
 pub fn areas_fit(
     n: usize,
     arrays: usize,
@@ -35,5 +43,5 @@ pub fn areas_fit(
     if !area_fits(n, live_out) {
         return false;
     }
-    area_fits(WORK_PER_STATEMENT * n, work)
+    work_fits(n, work)
 }

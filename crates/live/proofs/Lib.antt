@@ -3,6 +3,7 @@ pub mod Noting
 pub mod Spread
 pub mod Pushing
 pub mod Bits
+pub mod Walks
 pub mod Solving
 pub mod Solution
 pub mod Sweeping

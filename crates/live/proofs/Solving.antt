@@ -1,44 +1,38 @@
--- One statement handled keeps the solver's invariant: its live-in is sound by its live-out, its predecessors' live-out by its live-in, and whatever does not wait
--- afterwards satisfies its equation and has handed its live-in on. Assumes nothing.
-use Prim.Native.Nat.{ℕ, _^_, _<_, _≤_, zero-le}
+-- One statement handled keeps the solver's invariant: the live-out words solve the law's problem, backward, so the law says which names they have afterwards and what has been handed on.
+-- Besides, whatever does not wait satisfies its equation, and the names in a live-in are live. Assumes nothing.
+use Prim.Native.Nat.{ℕ, suc, _^_, _<_, _≤_, zero-le}
 use mathlib.Core.Bool.{Bool, true, false}
 use mathlib.Core.List.{List, _∷_, List·Memᴰ·tail, List·Memᴰ·cases-cons}
 use mathlib.Core.Logic.{_⊎_, inl, inr, ⊎-elim, _≢_}
 use mathlib.Core.Path.{_≡_, refl, sym, _∙_, ap, subst}
 use native.Mathlib.Decide.{ℕ-discrete}
 use native.Mathlib.Omega.{arith}
+use borrow.Author.Tests.{eq-eqb}
 use lib.ListN.{length, getD, set}
 use lib.Seq.{getD-set-same, getD-set-other}
-use Rattle.words.specs.contracts.Row.{bit, has}
-use Rattle.words.proofs.Row.{has-lt}
+use Rattle.words.specs.contracts.Row.{bit}
+use Rattle.words.proofs.Bit.{bits-ext}
 use Rattle.flow.specs.Flow.{Flow, statement}
+use Rattle.flow.specs.Format.{flowOf}
 use Rattle.theory.specs.Lists as lists
 use Rattle.theory.specs.Lists.{In}
 use Rattle.theory.specs.Body.{successors}
-use Rattle.theory.specs.Live.{LiveIn, LiveOut, bitOf, writes, reads}
-use Rattle.theory.proofs.Lists.{In-elem, elem-In}
-use Rattle.statements.specs.contracts.Layout.{rowAt}
+use Rattle.theory.specs.Live.{LiveIn, LiveOut, bitOf}
+use Rattle.theory.proofs.Lists.{says-one, In-elem, elem-In, elem-not}
+use Rattle.statements.specs.contracts.Ready.{Ready}
+use Rattle.statements.proofs.Names.{written-word}
 use Rattle.solve.specs.declared.Queue.{Queue}
+use Rattle.solve.specs.contracts.Sets as law
+use Rattle.solve.proofs.Sets.{handled}
 use Rattle.live.specs.contracts.Predecessors.{Predecessors}
-use Rattle.live.specs.contracts.Spread.{pushed, Follows, PushedLive}
-use Rattle.live.specs.contracts.Solving.{transfer, Sound, HandedOn, Solving}
-use Rattle.live.proofs.Bits.{or-first, or-second, or-either, transfer-cases}
-use Rattle.live.proofs.Pushing.{pushed-member, pushed-other}
-
-bit-one : (b : Bool) → bitOf b ≡ 1 → b ≡ true
-bit-one true e = refl
-bit-one false e = absurd (omega arith)
+use Rattle.live.specs.contracts.Spread.{sets, Follows, PushedLive}
+use Rattle.live.specs.contracts.Solving.{backward, transfer, Sound, HandedOn, Solving}
+use Rattle.live.proofs.Bits.{transfer-cases, transfer-has}
+use Rattle.live.proofs.Walks.{leaves-in, out-comes, comes-out, live-word}
 
 -- a name of a live-in that follows from a live-out is live
 pub transfer-sound : (f : Flow) (j a x : ℕ) → a < 2 ^ 64 → statement f j .written < 2 ^ 64 → (bit a x ≡ 1 → LiveOut f x j) → bit (transfer f j a) x ≡ 1 → LiveIn f x j
-transfer-sound f j a x word written sound e = go (transfer-cases f j a x word written e)
-  where
-    on : writes f j x ≡ false → LiveOut f x j → LiveIn f x j
-    on d (LiveOut.at-successor m h) = LiveIn.later d m h
-
-    go : (reads f j x ≡ true) ⊎ ((writes f j x ≡ false) × (bit a x ≡ 1)) → LiveIn f x j
-    go (inl d) = LiveIn.now d
-    go (inr d) = on (d .0) (sound (d .1))
+transfer-sound f j a x word written sound e = leaves-in (⊎-elim (λ d. inl d) (λ d. inr (d .0, out-comes (sound (d .1)))) (transfer-cases f j a x word written e))
 
 -- a word whose names are live takes a place
 pub sound-set : {f : Flow} {n j : ℕ} (ins : List ℕ) (live : ℕ) → j < length ins → Sound f n ins → ((x : ℕ) → bit live x ≡ 1 → LiveIn f x j) → Sound f n (set ins j live)
@@ -48,77 +42,82 @@ sound-set {f} {n} {j} ins live room s sound i x l e = go (ℕ-discrete i j)
     go (yes d) = subst (λ z. LiveIn f x z) (sym d) (sound x (subst (λ z. bit z x ≡ 1) (ap (λ z. getD (set ins j live) z 0) d ∙ getD-set-same ins j live 0 room) e))
     go (no d) = s i x l (subst (λ z. bit z x ≡ 1) (getD-set-other ins j i live 0 d) e)
 
-module _ {f : Flow} {ws vs ins outs outs′ w v : List ℕ} {n j live : ℕ} {q r : Queue}
-    (small : j < n) (room : n ≤ length ins) (rows : Predecessors f ws n) (s : Solving f 0 n ins outs (j ∷ w))
-    (value : live ≡ transfer f j (getD outs j 0)) (word : getD outs j 0 < 2 ^ 64) (written : statement f j .written < 2 ^ 64)
-    (p : PushedLive ws vs outs outs′ n q r j live) (follows : Follows n outs outs′ w v) where
-  live-sound : (x : ℕ) → bit live x ≡ 1 → LiveIn f x j
-  live-sound x e = transfer-sound f j (getD outs j 0) x word written (s .sound-out j x zero-le small) (subst (λ z. bit z x ≡ 1) value e)
+-- the law holds of the live-out words
 
-  -- a predecessor's word has what it had and the live-in; every other word is as it was
+pub out-word : {s ws ins outs w : List ℕ} {n : ℕ} → Ready s ws n → Solving (flowOf s) 0 n ins outs w → (i : ℕ) → i < n → getD outs i 0 < 2 ^ 64
+out-word {outs = outs} r h i l = live-word r (getD outs i 0) (λ x. h .sound-out i x zero-le l)
 
-  in-row : (k : ℕ) → k < n → In j (successors f k) → has ws (rowAt n j) k ≡ 1
-  in-row k l m = rows k l j small ∙ ap bitOf (In-elem m)
+pub lawful : {s ws ins outs w : List ℕ} {n : ℕ} → Ready s ws n → Solving (flowOf s) 0 n ins outs w → (elements : ℕ) → law.Solving (backward (flowOf s)) n elements (sets outs) (λ k. In k w)
+lawful {s} {outs = outs} r h elements = record {
+  sound = λ i x l m e. out-comes (h .sound-out i x zero-le l e);
+  started = λ i x l m e. absurd e;
+  handed-on = λ j l.
+      ⊎-elim (λ m. inl m)
+      (λ t. inr (λ i x b m e g. t .carried i x zero-le b e (subst (λ z. bit z x ≡ 1) (sym (t .equation zero-le))
+      (transfer-has (flowOf s) j (getD outs j 0) x (out-word r h j l) (written-word r j) g))))
+      (h .handed-on j l);
+}
 
-  row-in : (k : ℕ) → k < n → has ws (rowAt n j) k ≡ 1 → In j (successors f k)
-  row-in k l e = elem-In j (successors f k) (bit-one (lists.elem j (successors f k)) (sym (rows k l j small) ∙ e))
+module _ {s ws vs us ins outs outs′ w v : List ℕ} {n j live : ℕ} {q p : Queue} (r : Ready s ws n) (small : j < n) (room : n ≤ length ins) (rows : Predecessors (flowOf s) vs n)
+    (h : Solving (flowOf s) 0 n ins outs (j ∷ w)) (value : live ≡ transfer (flowOf s) j (getD outs j 0)) (push : PushedLive vs us outs outs′ n q p j live)
+    (rest : Follows n outs outs′ w v) where
+  -- the live-in is what leaves the statement, and the row holds the predecessors
 
-  out-more : (k x : ℕ) → k < n → bit (getD outs k 0) x ≡ 1 → bit (getD outs′ k 0) x ≡ 1
-  out-more k x l e = subst (λ z. bit z x ≡ 1) (sym (p .words k l)) (go (ℕ-discrete (has ws (rowAt n j) k) 1))
-    where
-      go : Dec (has ws (rowAt n j) k ≡ 1) → bit (pushed ws (rowAt n j) live outs k) x ≡ 1
-      go (yes d) = subst (λ z. bit z x ≡ 1) (sym (pushed-member ws (rowAt n j) live outs k d)) (or-first (getD outs k 0) live x e)
-      go (no d) = subst (λ z. bit z x ≡ 1) (sym (pushed-other ws (rowAt n j) live outs k (omega (arith, d, has-lt ws (rowAt n j) k)))) e
-
-  out-gets : (k x : ℕ) → k < n → In j (successors f k) → bit live x ≡ 1 → bit (getD outs′ k 0) x ≡ 1
-  out-gets k x l m e =
-      subst (λ z. bit z x ≡ 1) (sym (p .words k l ∙ pushed-member ws (rowAt n j) live outs k (in-row k l m))) (or-second (getD outs k 0) live x e)
-
-  out-sound : (k x : ℕ) → k < n → bit (getD outs′ k 0) x ≡ 1 → LiveOut f x k
-  out-sound k x l e = go (ℕ-discrete (has ws (rowAt n j) k) 1)
-    where
-      go : Dec (has ws (rowAt n j) k ≡ 1) → LiveOut f x k
-      go (yes d) =
-          ⊎-elim (s .sound-out k x zero-le l) (λ c. LiveOut.at-successor (row-in k l d) (live-sound x c))
-          (or-either (getD outs k 0) live x (subst (λ z. bit z x ≡ 1) (p .words k l ∙ pushed-member ws (rowAt n j) live outs k d) e))
-      go (no d) =
-          s .sound-out k x zero-le l
-          (subst (λ z. bit z x ≡ 1) (p .words k l ∙ pushed-other ws (rowAt n j) live outs k (omega (arith, d, has-lt ws (rowAt n j) k))) e)
-
-  -- the live-in words
-
-  here : getD (set ins j live) j 0 ≡ live
-  here = getD-set-same ins j live 0 (omega arith)
-
-  -- a statement whose live-out did not grow
-
-  handed-on-here : getD outs′ j 0 ≡ getD outs j 0 → HandedOn f 0 n (set ins j live) outs′ j
-  handed-on-here same = record {
-    equation = λ o. here ∙ value ∙ ap (transfer f j) (sym same);
-    carried = λ i x o l m e. out-gets i x l m (subst (λ z. bit z x ≡ 1) here e);
+  joins : (elements : ℕ) → law.Joins n elements (λ i. In j (successors (flowOf s) i)) (law.Leaves (backward (flowOf s)) (sets outs) j) (sets outs) (sets outs′)
+  joins elements = record {
+    more = push .joins elements .more;
+    gets = λ i x l m e g. push .joins elements .gets i x l m (l, rows i l j small ∙ ap bitOf (In-elem e)) (subst (λ z. bit z x ≡ 1) (sym value) (transfer-has (flowOf s) j (getD outs j 0) x (out-word r h j small) (written-word r j) g));
+    from = λ i x l m e.
+        ⊎-elim (λ d. inl d)
+        (λ t. inr (
+          elem-In j (successors (flowOf s) i) (sym (says-one (lists.elem j (successors (flowOf s) i))) ∙ eq-eqb _ _ (sym (rows i l j small) ∙ t .0 .1)),
+          transfer-cases (flowOf s) j (getD outs j 0) x (out-word r h j small) (written-word r j) (subst (λ z. bit z x ≡ 1) value (t .1)),
+        ))
+        (push .joins elements .from i x l m e);
   }
 
-  handed-on-other : (k : ℕ) → k ≢ j → getD outs′ k 0 ≡ getD outs k 0 → HandedOn f 0 n ins outs k → HandedOn f 0 n (set ins j live) outs′ k
-  handed-on-other k d same t =
-      let kept = getD-set-other ins j k live 0 d in
-      record {
-        equation = λ o. kept ∙ t .equation o ∙ ap (transfer f k) (sym same);
-        carried = λ i x o l m e. out-more i x l (t .carried i x o l m (subst (λ z. bit z x ≡ 1) kept e));
-      }
+  follows : (elements : ℕ) → law.Follows n elements (sets outs) (sets outs′) (λ k. In k (j ∷ w) × (k ≢ j)) (λ k. In k v)
+  follows elements = record {
+    stays = λ k l m. ⊎-elim (λ e. absurd (m .1 e)) (rest .follows elements .stays k l) (List·Memᴰ·cases-cons (m .0));
+    grows = rest .follows elements .grows;
+  }
 
-  handed-on : (k : ℕ) → k < n → In k v ⊎ (getD outs′ k 0 ≡ getD outs k 0) → Dec (k ≡ j) → In k v ⊎ HandedOn f 0 n (set ins j live) outs′ k
-  handed-on k l (inl m) d = inl m
-  handed-on k l (inr same) (yes d) =
-      inr (subst (λ z. HandedOn f 0 n (set ins j live) outs′ z) (sym d) (handed-on-here (ap (λ z. getD outs′ z 0) (sym d) ∙ same ∙ ap (λ z. getD outs z 0) d)))
-  handed-on k l (inr same) (no d) = ⊎-elim waiting (λ t. inr (handed-on-other k d same t)) (s .handed-on k l)
+  after : (elements : ℕ) → law.Solving (backward (flowOf s)) n elements (sets outs′) (λ k. In k v)
+  after elements = handled (lawful r h elements) small (joins elements) (follows elements)
+
+  out-sound : (i x : ℕ) → i < n → bit (getD outs′ i 0) x ≡ 1 → LiveOut (flowOf s) x i
+  out-sound i x l e = comes-out (after (suc x) .sound i x l (omega arith) e)
+
+  -- a statement that does not wait
+
+  same : (k : ℕ) → k < n → (In k v → ⊥) → getD outs′ k 0 ≡ getD outs k 0
+  same k l out = bits-ext _ _ (λ x. ⊎-elim (λ m. absurd (out m)) (λ e. e x (omega arith)) (rest .follows (suc x) .grows k l))
+
+  equation : (k : ℕ) → k < n → (In k v → ⊥) → getD (set ins j live) k 0 ≡ transfer (flowOf s) k (getD outs′ k 0)
+  equation k l out = go (ℕ-discrete k j) (h .handed-on k l) ∙ ap (transfer (flowOf s) k) (sym (same k l out))
     where
-      waiting : In k (j ∷ w) → In k v ⊎ HandedOn f 0 n (set ins j live) outs′ k
-      waiting m = ⊎-elim (λ e. absurd (d e)) (λ r. inl (follows .stays k r)) (List·Memᴰ·cases-cons m)
+      go : Dec (k ≡ j) → In k (j ∷ w) ⊎ HandedOn (flowOf s) 0 n ins outs k → getD (set ins j live) k 0 ≡ transfer (flowOf s) k (getD outs k 0)
+      go (yes d) t = rw d (getD-set-same ins j live 0 (omega arith) ∙ value)
+      go (no d) (inl m) = absurd (out (follows 0 .stays k l (m, d)))
+      go (no d) (inr t) = getD-set-other ins j k live 0 d ∙ t .equation zero-le
 
-  pub handled : Solving f 0 n (set ins j live) outs′ v
-  handled = record {
-    small = λ k m. ⊎-elim (λ r. s .small k (List·Memᴰ·tail r)) (λ l. l) (follows .comes k m);
-    sound-in = sound-set ins live (omega arith) (s .sound-in) live-sound;
+  handed-on : (k : ℕ) → k < n → (b : Bool) → lists.elem k v ≡ b → In k v ⊎ HandedOn (flowOf s) 0 n (set ins j live) outs′ k
+  handed-on k l true e = inl (elem-In k v e)
+  handed-on k l false e =
+      let equal = equation k l (elem-not k v e) in
+      inr (record {
+        equation = λ o. equal;
+        carried = λ i x o b m c.
+            ⊎-elim (λ d. absurd (elem-not k v e d))
+            (λ t. t i x b (omega arith) m (transfer-cases (flowOf s) k (getD outs′ k 0) x (live-word r (getD outs′ k 0) (λ y. out-sound k y l)) (written-word r k) (subst (λ z. bit z x ≡ 1) equal c)))
+            (after (suc x) .handed-on k l);
+      })
+
+  pub handled-solving : Solving (flowOf s) 0 n (set ins j live) outs′ v
+  handled-solving = record {
+    small = λ k m. ⊎-elim (λ d. h .small k (List·Memᴰ·tail d)) (λ l. l) (rest .comes k m);
+    sound-in = sound-set ins live (omega arith) (h .sound-in) (λ x e.
+        transfer-sound (flowOf s) j (getD outs j 0) x (out-word r h j small) (written-word r j) (h .sound-out j x zero-le small) (subst (λ z. bit z x ≡ 1) value e));
     sound-out = λ k x o. out-sound k x;
-    handed-on = λ k l. handed-on k l (follows .grows k l) (ℕ-discrete k j);
+    handed-on = λ k l. handed-on k l (lists.elem k v) refl;
   }

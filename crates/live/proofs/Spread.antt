@@ -1,119 +1,101 @@
--- One word joined, and the queue after it: a word that grew has a bit more, so the number that joins the queue is paid for.
+-- A set joined to one word, and the queue after it: a word that grew has a bit more, so the number that joins the queue is paid for.
 -- Changes one after another are one change. Assumes nothing.
-use Prim.Native.Nat.{ℕ, _+_, _*_, _-_, _/_, _%_, _^_, _<_, _≤_}
+use Prim.Native.Nat.{ℕ, _^_, _<_, _≤_, zero-le}
 use mathlib.Core.Bool.{Bool, true, false}
 use mathlib.Core.List.{List}
-use mathlib.Core.Logic.{_⊎_, inl, inr, ⊎-elim}
-use mathlib.Core.Path.{_≡_, refl, sym, _∙_, ap, subst}
+use mathlib.Core.Logic.{_⊎_, inl, inr, ⊎-elim, _≢_}
+use mathlib.Core.Path.{_≡_, sym, _∙_, ap, subst}
 use native.Mathlib.Decide.{ℕ-discrete}
-use native.Mathlib.Nat.{le-refl, le-of-eq, zero-add}
+use native.Mathlib.Nat.{le-refl}
 use native.Mathlib.Omega.{arith}
-use borrow.Author.Tests.{eqb-true, eqb-false, not-true, not-false}
-use lib.Bits.{bitOr}
-use lib.ListN.{length, getD, set}
-use lib.Seq.{set-getD}
-use Rattle.words.specs.contracts.Row.{Words, bit, has, members}
-use Rattle.words.specs.contracts.Change.{Joined, joined, differs}
-use Rattle.words.proofs.Bit.{bit-or}
+use lib.ListN.{length, getD}
+use Rattle.words.specs.contracts.Row.{Words, bit}
+use Rattle.words.specs.contracts.Change.{Joined}
+use Rattle.words.proofs.Bit.{bit-lt, bit-or}
 use Rattle.words.proofs.Row.{members-le}
-use Rattle.words.proofs.Rewritten.{differs-false, differs-members}
-use Rattle.words.proofs.Inserted.{joined-word, joined-other, words-joined}
+use Rattle.words.proofs.Inserted.{joined-word, joined-other}
+use Rattle.words.proofs.Joined.{not-grown, grew-members}
 use Rattle.theory.specs.Lists.{In}
 use Rattle.theory.specs.Queue.{join}
 use Rattle.theory.proofs.Enqueue.{join-keeps, join-adds, join-cases, join-length}
+use Rattle.statements.specs.contracts.Ready.{Keeps}
+use Rattle.statements.proofs.Keeps.{keeps-refl, keeps-trans, keeps-joined}
 use Rattle.solve.specs.declared.Queue.{Queue}
+use Rattle.solve.specs.contracts.Sets.{Joins}
 use Rattle.solve.specs.contracts.Waiting.{Enqueued}
+use Rattle.solve.proofs.Sets.{joins-none, joins-one, joins-then, follows-refl, follows-trans}
 use Rattle.solve.proofs.Waiting.{rest-refl, rest-trans}
-use Rattle.live.specs.contracts.Spread.{missing, Follows, Spread, PushedTo}
+use Rattle.live.specs.contracts.Spread.{sets, missing, Follows, Spread, PushedTo}
 
-pub follows-refl : {n : ℕ} {before w : List ℕ} → Follows n before before w w
-follows-refl = record { stays = λ k m. m; comes = λ k m. inl m; grows = λ k l. inr refl; falls = le-refl _ }
+unchanged : {n : ℕ} {before w : List ℕ} → Follows n before before w w
+unchanged = record { follows = λ elements. follows-refl; comes = λ k m. inl m; falls = le-refl _ }
 
-pub follows-trans : {n : ℕ} {a b c u v w : List ℕ} → Follows n a b u v → Follows n b c v w → Follows n a c u w
-follows-trans {n} {a} {b} {c} {u} {v} {w} p q = record {
-  stays = λ k m. q .stays k (p .stays k m);
-  comes = λ k m. ⊎-elim (p .comes k) (λ l. inr l) (q .comes k m);
-  grows = λ k l. ⊎-elim (λ m. inl m) (λ e. ⊎-elim (λ m. inl (q .stays k m)) (λ d. inr (e ∙ d)) (p .grows k l)) (q .grows k l);
-  falls = let x = p .falls in let y = q .falls in omega arith;
+pub spread-none : {ws before : List ℕ} {n live : ℕ} {q : Queue} {to : ℕ → Type 0} → ((k : ℕ) → to k → ⊥) → Spread ws ws before before n q q to live
+spread-none none = record {
+  joins = λ elements. joins-none none;
+  waits = λ w h. (w, h, unchanged);
+  area = keeps-refl;
+  kept = rest-refl;
 }
 
-pub spread-refl : {ws before : List ℕ} {n : ℕ} {q : Queue} → Spread ws ws before before n q q
-spread-refl = record { waits = λ w h. (w, h, follows-refl); kept = rest-refl }
-
-pub spread-trans : {ws vs us a b c : List ℕ} {n : ℕ} {o p q : Queue} → Spread ws vs a b n o p → Spread vs us b c n p q → Spread ws us a c n o q
-spread-trans s t = record {
+pub spread-then : {ws vs us a b c : List ℕ} {n live : ℕ} {o p q : Queue} {first then to : ℕ → Type 0} → Spread ws vs a b n o p first live → Spread vs us b c n p q then live
+    → ((k : ℕ) → to k → first k ⊎ then k) → ((k : ℕ) → first k ⊎ then k → to k) → Spread ws us a c n o q to live
+spread-then s t split join = record {
+  joins = λ elements. joins-then (s .joins elements) (t .joins elements) split join;
   waits = λ w h.
-      let first = s .waits w h in
-      let then = t .waits (first .0) (first .1) in
-      (then .0, then .1, follows-trans (first .2) (then .2));
+      let x = s .waits w h in
+      let y = t .waits (x .0) (x .1) in (
+        y .0,
+        y .1,
+        record {
+          follows = λ elements. follows-trans (x .2 .follows elements) (y .2 .follows elements);
+          comes = λ k m. ⊎-elim (x .2 .comes k) (λ l. inr l) (y .2 .comes k m);
+          falls = omega (arith, x .2 .falls, y .2 .falls);
+        },
+      );
+  area = keeps-trans (s .area) (t .area);
   kept = rest-trans (s .kept) (t .kept);
 }
 
--- a word that grew
+-- one word
 
-module _ {before after : List ℕ} {n i live : ℕ} {r : Bool} (j : Joined before after i live r) (words : Words before) (fits : live < 2 ^ 64) (l : i < n) (room : n ≤ length before) where
-  more-bits : (m : ℕ) → m < 64 * n → has before 0 m ≤ has (joined before i live) 0 m
-  unfolding has
-  more-bits m b = go (ℕ-discrete (0 + m / 64) i)
-    where
-      go : Dec (0 + m / 64 ≡ i) → bit (getD before (0 + m / 64) 0) (m % 64) ≤ bit (getD (joined before i live) (0 + m / 64) 0) (m % 64)
-      go (yes e) =
-          let word : getD (joined before i live) (0 + m / 64) 0 ≡ bitOr (getD before (0 + m / 64) 0) live =
-          ap (λ z. getD (joined before i live) z 0) e ∙ joined-word before i live (omega arith) ∙ ap (λ z. bitOr (getD before z 0) live) (sym e) in
-          let joins = ap (λ z. bit z (m % 64)) word ∙ bit-or (getD before (0 + m / 64) 0) live (m % 64) in
-          omega arith
-      go (no d) = le-of-eq (sym (ap (λ z. bit z (m % 64)) (joined-other before i live (0 + m / 64) d)))
+module _ {before after : List ℕ} {n i live : ℕ} {r : Bool} (j : Joined before after i live r) (l : i < n) (room : n ≤ length before) where
+  other : (k : ℕ) → k ≢ i → getD after k 0 ≡ getD before k 0
+  other k d = rw (j .slice) (joined-other before i live k d)
 
-  grew-differs : r ≡ true → differs before (joined before i live) 0 n ≡ true
-  grew-differs e = go (differs before (joined before i live) 0 n) refl
-    where
-      go : (b : Bool) → differs before (joined before i live) 0 n ≡ b → b ≡ true
-      go true d = refl
-      go false d =
-          let same : getD (joined before i live) i 0 ≡ getD before i 0 = subst (λ z. getD (joined before i live) z 0 ≡ getD before z 0) (zero-add i) (differs-false before (joined before i live) 0 n d i l) in
-          absurd
-          (eqb-false (bitOr (getD before i 0) live) (getD before i 0) (not-true _ (sym (j .grew) ∙ e)) (sym (joined-word before i live (omega arith)) ∙ same))
+  joins-word : (elements : ℕ) → Joins n elements (λ k. k ≡ i) (λ x. bit live x ≡ 1) (sets before) (sets after)
+  joins-word elements =
+      joins-one (λ k. bit-lt (getD before k 0)) (bit-lt live)
+      (λ x m. rw (j .slice) (ap (λ z. bit z x) (joined-word before i live (omega arith)) ∙ bit-or (getD before i 0) live x)) (λ k x d m. ap (λ z. bit z x) (other k d))
 
-  pub grew-falls : r ≡ true → missing after n < missing before n
+  area-word : Keeps 0 n before after
+  area-word = rw (j .slice) (keeps-joined before i live zero-le l)
+
+  pub pushed-waits : {ws vs : List ℕ} {q p : Queue} → r ≡ true → Words before → live < 2 ^ 64 → Enqueued ws vs n 0 q i p → PushedTo ws vs before after n q p i live
   unfolding missing
-  grew-falls e =
-      subst (λ z. 64 * n - members z 0 n < 64 * n - members before 0 n) (sym (j .slice))
-      (let more : members before 0 n < members (joined before i live) 0 n =
-      differs-members before (joined before i live) 0 n words (words-joined before i live words fits) more-bits (grew-differs e) in
-      omega (arith, members-le (joined before i live) 0 n))
-
--- a word that did not grow
-pub not-grown : {before after : List ℕ} {i live : ℕ} {r : Bool} → Joined before after i live r → r ≡ false → after ≡ before
-unfolding joined
-not-grown {before} {after} {i} {live} j e =
-    let same : bitOr (getD before i 0) live ≡ getD before i 0 = eqb-true _ _ (not-false _ (sym (j .grew) ∙ e)) in
-    j .slice ∙ ap (set before i) same ∙ set-getD before i 0
-
-pub pushed-waits : {ws vs before after : List ℕ} {n i live : ℕ} {q p : Queue} {r : Bool} → Joined before after i live r → r ≡ true → Words before → live < 2 ^ 64 → i < n → n ≤ length before
-    → Enqueued ws vs n 0 q i p → PushedTo ws vs before after n q p i live
-pushed-waits {ws} {vs} {before} {after} {n} {i} {live} {q} {p} j e words fits l room s = record {
-  word = j .slice;
-  spread = record {
+  pushed-waits e words fits s = record {
+    joins = joins-word;
     waits = λ w h. (
       join w i,
       s .waits w h,
       record {
-        stays = λ k m. join-keeps w i m;
+        follows = λ elements. record { stays = λ k b m. join-keeps w i m; grows = λ k b. grown w k (ℕ-discrete k i) };
         comes = λ k m. ⊎-elim (λ x. inl x) (λ x. inr (rw x l)) (join-cases w i m);
-        grows = λ k b. grown w k (ℕ-discrete k i);
-        falls = omega (arith, join-length w i, grew-falls j words fits l room e);
+        falls = omega (arith, join-length w i, grew-members j words fits 0 n (omega arith) (omega arith) (omega arith) e, members-le after 0 n);
       },
     );
+    area = area-word;
     kept = s .kept;
-  };
-}
-  where
-    grown : (w : List ℕ) (k : ℕ) → Dec (k ≡ i) → In k (join w i) ⊎ (getD after k 0 ≡ getD before k 0)
-    grown w k (yes d) = inl (subst (λ z. In z (join w i)) (sym d) (join-adds w i))
-    grown w k (no d) = inr (ap (λ z. getD z k 0) (j .slice) ∙ joined-other before i live k d)
+  }
+    where
+      grown : {elements : ℕ} (w : List ℕ) (k : ℕ) → Dec (k ≡ i) → In k (join w i) ⊎ ((x : ℕ) → x < elements → bit (getD after k 0) x ≡ bit (getD before k 0) x)
+      grown w k (yes d) = inl (subst (λ z. In z (join w i)) (sym d) (join-adds w i))
+      grown w k (no d) = inr (λ x m. ap (λ z. bit z x) (other k d))
 
-pub pushed-same : {ws before after : List ℕ} {n i live : ℕ} {q : Queue} {r : Bool} → Joined before after i live r → r ≡ false → PushedTo ws ws before after n q q i live
-pushed-same {ws} {before} {after} {n} {i} {live} {q} j e = record {
-  word = j .slice;
-  spread = subst (λ z. Spread ws ws before z n q q) (sym (not-grown j e)) spread-refl;
-}
+  pub pushed-same : {ws : List ℕ} {q : Queue} → r ≡ false → PushedTo ws ws before after n q q i live
+  pushed-same e = record {
+    joins = joins-word;
+    waits = λ w h. (w, h, subst (λ z. Follows n before z w w) (sym (not-grown j e)) unchanged);
+    area = area-word;
+    kept = rest-refl;
+  }

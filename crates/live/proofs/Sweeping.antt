@@ -22,12 +22,12 @@ use Rattle.theory.specs.Queue.{unionBelow}
 use Rattle.theory.specs.Live.{LiveOut}
 use Rattle.theory.proofs.Lists.{getD-In}
 use Rattle.statements.specs.contracts.Ready.{Ready, RecordOf}
+use Rattle.statements.proofs.Names.{successor-in, written-word}
 use Rattle.live.specs.contracts.Solving.{transfer, Sound, HandedOn, Solving}
 use Rattle.live.specs.contracts.Sweeping.{gathered, Settled}
-use Rattle.live.proofs.Facts.{successor-in, written-word}
 use Rattle.live.proofs.Bits.{union-has, has-union, union-cong}
+use Rattle.live.proofs.Walks.{live-word}
 use Rattle.live.proofs.Solving.{transfer-sound, sound-set}
-use Rattle.live.proofs.Solution.{live-word}
 
 -- before the last statement is settled, nothing is said of any
 pub solving-none : {f : Flow} {n : ℕ} {ins outs : List ℕ} → Sound f n ins → Solving f n n ins outs []

@@ -16,10 +16,8 @@ use Rattle.solve.proofs.Waiting.{rest-trans, rest-keeps}
 use Rattle.live.specs.contracts.Predecessors.{Predecessors}
 use Rattle.live.specs.contracts.Spread.{PushedLive}
 use Rattle.live.specs.contracts.Solving.{transfer, Solving, Held, Visited}
-use Rattle.live.proofs.Facts.{written-word}
 use Rattle.live.proofs.Pushing.{rest-row}
-use Rattle.live.proofs.Solving.{handled}
-use Rattle.live.proofs.Solution.{out-word}
+use Rattle.live.proofs.Solving.{handled-solving}
 
 -- the queue's words are kept apart from the noted places and from the rows
 
@@ -62,15 +60,15 @@ module _ {s ws vs us ins outs outs′ : List ℕ} {n j live : ℕ} {q p o : Queu
   visited =
       let c = front h l in
       let small = taken-small h l t in
-      let after = u .spread .waits (c .rest) (subst (λ z. Waits vs n 0 z (c .rest)) (sym e) (t .waits (c .first) (c .rest) (c .waits))) in
+      let after = u .waits (c .rest) (subst (λ z. Waits vs n 0 z (c .rest)) (sym e) (t .waits (c .first) (c .rest) (c .waits))) in
       record {
         held = (
           after .0,
           after .1,
-          handled small room (rest-predecessors (flowOf s) (t .kept) rows) taken value (out-word r taken j small) (written-word r j) u (after .2),
+          handled-solving r small room (rest-predecessors (flowOf s) (t .kept) rows) taken value u (after .2),
         );
         falls = let a = c .waits .count in let b = after .1 .count in let d = after .2 .falls in omega arith;
-        kept = rest-trans (t .kept) (u .spread .kept);
+        kept = rest-trans (t .kept) (u .kept);
         in-area = keeps-set ins j live zero-le small;
         out-area = u .area;
       }

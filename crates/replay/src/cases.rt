@@ -3,6 +3,7 @@ ghost use Prim.Native.Nat.{_≤_};
 ghost use lib.ListN.{length};
 use crate::answers;
 use crate::data;
+use crate::names;
 
 pub struct Counts {
     pub cases: u64,
@@ -43,10 +44,12 @@ fn replay_case(
 {
     let case = data::read_case(s, at, file);
     let sizes = data::answer_sizes(file);
-    let same = answers::lend(s, file, case, sizes, masks, live_in, live_out, work);
+    let at = data::end(s, case, sizes);
+    let states = answers::lend(s, file, case, sizes, masks, live_in, live_out, work);
+    let certain = names::lend(s, at, file, case, work);
     Replayed {
-        next: data::end(s, case, sizes),
-        different: told(number, same),
+        next: data::after_names(s, at),
+        different: told(number, states & certain),
     }
 }
 

@@ -151,7 +151,7 @@ pub fn answer_sizes(file: &[u8]) -> Sizes
     }
 }
 
-// The place after a case. An accepted one has visits, masks, live-in and live-out words too.
+// The place after the first answer of a case. An accepted one has visits, masks, live-in and live-out words too.
 pub fn end(s: &[u8], case: Case, sizes: Sizes) -> usize
     requires { ⌜ (case .answers ≤ length (now s)) × (sizes .masks ≤ 16711425) × (sizes .live ≤ 524280) ⌝ }
     ensures { λ r. ⌜ (case .answers ≤ r) × (r ≤ length (now (s .entry))) ⌝ }
@@ -160,4 +160,12 @@ pub fn end(s: &[u8], case: Case, sizes: Sizes) -> usize
         return case.answers;
     }
     skip(s, case.answers, 4 + sizes.masks + 2 * sizes.live)
+}
+
+// The place after the answer about certain names at `at`, which every case has: 13 bytes.
+pub fn after_names(s: &[u8], at: usize) -> usize
+    requires { ⌜ at ≤ length (now s) ⌝ }
+    ensures { λ r. ⌜ (at ≤ r) × (r ≤ length (now (s .entry))) ⌝ }
+{
+    skip(s, at, 13)
 }

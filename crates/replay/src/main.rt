@@ -4,6 +4,7 @@ mod answers;
 mod areas;
 mod cases;
 mod data;
+mod names;
 
 fn main() {
     let mut stored = [0u8; 400000];

@@ -4,3 +4,4 @@ pub mod Stepping
 pub mod Wrapped
 pub mod Waiting
 pub mod Growing
+pub mod Sets

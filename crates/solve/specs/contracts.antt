@@ -3,3 +3,4 @@ pub mod Layout
 pub mod Rows
 pub mod Waiting
 pub mod Pushed
+pub mod Sets

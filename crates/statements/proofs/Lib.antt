@@ -3,6 +3,7 @@ pub mod Keeps
 pub mod ByNumber
 pub mod MembersWord
 pub mod WellFormed
+pub mod Names
 pub mod Members
 pub mod Copies
 pub mod Noted

@@ -1,4 +1,4 @@
--- The cases of the paper hold: one table and one theorem, which the checker computes, from the bytes of a file to its masks, visits, live sets and listing.
+-- The cases of the paper hold: one table and one theorem, which the checker computes, from the bytes of a file to its masks, visits, live sets, listing and certain names.
 -- Assumes nothing.
 use lib.Dec.{T}
 use Rattle.flow.specs.Flow.{firstOf}
@@ -11,9 +11,10 @@ use Rattle.theory.specs.Doubled.{returnsTo, returnEdges, once, callEdges
 use Rattle.theory.specs.Masks.{maskLeft}
 use Rattle.theory.specs.Computed.{visitFront, visitTimes, solved, maskOf, visitsOf}
 use Rattle.theory.specs.Live.{unwritten, liveIn, liveOut, namesWord, liveInWord, liveOutWord}
+use Rattle.theory.specs.Certain.{reachedAt, unwrittenAt, certain, certainWord}
 use Rattle.theory.specs.Listing.{placesWithin, places, decimal, hexadecimal, lineOf, maskDigits, firstLine, statementLine, flowText, refusalText, listing}
 use Rattle.theory.specs.Cases.{cases, allRight}
 
 pub all-right : T (allRight cases)
-unfolding leAt tabulate verdict each headerChecks startChecks successorChecks referenceCountChecks referenceChecks nameChecks itemChecks lineChecks continuationChecks dimChecks gosubChecks onGosubChecks dataChecks restChecks recordChecks recordEnd recordPlace statementChecks countLines lineRecordChecks endChecks fileChecks kindOf statementAt flowOf areaChecks firstOf any elem select concatMap optionList upTo sumBelow allBelow upd closure closureFuel reached entered callees walkNext walked called bodies touches onCycle opaque opaqueCall callTouches stepAll arcCount brings unionBelow pulled changed enqueue visit visitFront visitTimes initial solved returnsTo returnEdges once callEdges listedEdges edgesOf edges kindEffects statementEffects edgeEffects boundary arcsOf doubled maskLeft maskOf visitsOf unwritten liveIn liveOut namesWord liveInWord liveOutWord placesWithin places decimal hexadecimal lineOf maskDigits firstLine statementLine flowText refusalText listing
+unfolding leAt tabulate verdict each headerChecks startChecks successorChecks referenceCountChecks referenceChecks nameChecks itemChecks lineChecks continuationChecks dimChecks gosubChecks onGosubChecks dataChecks restChecks recordChecks recordEnd recordPlace statementChecks countLines lineRecordChecks endChecks fileChecks kindOf statementAt flowOf areaChecks firstOf any elem select concatMap optionList upTo sumBelow allBelow upd closure closureFuel reached entered callees walkNext walked called bodies touches onCycle opaque opaqueCall callTouches stepAll arcCount brings unionBelow pulled changed enqueue visit visitFront visitTimes initial solved returnsTo returnEdges once callEdges listedEdges edgesOf edges kindEffects statementEffects edgeEffects boundary arcsOf doubled maskLeft maskOf visitsOf unwritten liveIn liveOut namesWord liveInWord liveOutWord reachedAt unwrittenAt certain certainWord placesWithin places decimal hexadecimal lineOf maskDigits firstLine statementLine flowText refusalText listing
 all-right = tt

@@ -4,6 +4,7 @@ pub mod Body
 pub mod Transparent
 pub mod Live
 pub mod Names
+pub mod Certain
 pub mod Cases
 pub mod MaskLaws
 pub mod Pulls

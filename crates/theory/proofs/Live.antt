@@ -18,7 +18,7 @@ use Rattle.theory.proofs.Lists.{or-cases, or-left, or-right, and-both, 
 use Rattle.theory.proofs.Reach.{reach-first, reach-back, reached-sound, reached-complete}
 
 -- a walk goes on from a statement that does not write the name
-In-unwritten : (f : Flow) (x i : ℕ) {j : ℕ} → In j (unwritten f x i) → (writes f i x ≡ false) × In j (successors f i)
+pub In-unwritten : (f : Flow) (x i : ℕ) {j : ℕ} → In j (unwritten f x i) → (writes f i x ≡ false) × In j (successors f i)
 unfolding unwritten
 In-unwritten f x i {j} m = go (writes f i x) refl m
   where
@@ -26,7 +26,7 @@ In-unwritten f x i {j} m = go (writes f i x) refl m
     go true e m = absurd (List·Memᴰ·not-nil m)
     go false e m = (e, m)
 
-unwritten-In : (f : Flow) (x i : ℕ) {j : ℕ} → writes f i x ≡ false → In j (successors f i) → In j (unwritten f x i)
+pub unwritten-In : (f : Flow) (x i : ℕ) {j : ℕ} → writes f i x ≡ false → In j (successors f i) → In j (unwritten f x i)
 unfolding unwritten
 unwritten-In f x i e m = rw e m
 
@@ -44,7 +44,7 @@ liveOut-sound f x i h =
     LiveOut.at-successor (r .1) (liveIn-sound f x (r .0) (r .2))
 
 module _ {f : Flow} (w : WellFormed f) where
-  unwritten-below : (x i j : ℕ) → In j (unwritten f x i) → j < size f
+  pub unwritten-below : (x i j : ℕ) → In j (unwritten f x i) → j < size f
   unwritten-below x i j m = w .successor i j (In-unwritten f x i m .1)
 
   -- the statement that reads the name

@@ -1,6 +1,7 @@
--- Document 01, "Flows worked through", as one table: P1 to P10 and the line "Also", then a file for each point of "Where a port goes astray" and for each rule that
--- a wrong definition would fail. A case is a step, or a file as bytes with the verdict on it and what is known of it: masks, visits, term 1's bound, live sets, listing.
-use Prim.Native.Nat.{ℕ, _/_}
+-- Document 01, "Flows worked through", as one table: P1 to P10 and the line "Also", then a file for each point of "Where a port goes astray" and for each rule, those of
+-- request E1 too, that a wrong definition would fail. A case is a step, or a file as bytes with the verdict on it and what is known of it: masks, visits, term 1's bound,
+-- live sets, listing, certain names.
+use Prim.Native.Nat.{ℕ, _/_, _^_}
 use Prim.Native.Char.{code}
 use Prim.Native.String.{String, [] as []ˢ, _∷_ as _∷ˢ_}
 use mathlib.Core.Bool.{Bool, true, false, _&&_}
@@ -11,8 +12,8 @@ use Rattle.masks.specs.declared.Effect.{Effect}
 use Rattle.masks.specs.declared.Effect.the-variants.{Reference, Touched}
 use Rattle.masks.specs.Step.{stepOf}
 use Rattle.flow.specs.Flow.{Flow, size}
-use Rattle.flow.specs.Limits.{noContinuation}
-use Rattle.flow.specs.Format.{Verdict, verdict, fileChecks, areaChecks, flowOf}
+use Rattle.flow.specs.Limits.{noContinuation, workWords}
+use Rattle.flow.specs.Format.{Verdict, verdict, fileChecks, areaCheck, areaChecks, flowOf}
 use Rattle.flow.specs.Format.{verdictNumber, verdictPlace}
 use Rattle.flow.specs.Cases.{u16s, FH, FN, FL, FE}
 use Rattle.theory.specs.Lists.{concatMap, upTo}
@@ -20,6 +21,7 @@ use Rattle.theory.specs.Queue.{visitBound}
 use Rattle.theory.specs.Doubled.{doubled}
 use Rattle.theory.specs.Computed.{maskOf, visitsOf}
 use Rattle.theory.specs.Live.{liveInWord, liveOutWord}
+use Rattle.theory.specs.Certain.{certainWord}
 use Rattle.theory.specs.Listing.{listing, longText}
 
 -- what is known of a file
@@ -31,6 +33,10 @@ pub data Fact : Type 0 where
   prints : List String → Fact
   -- areas for masks, live-in, live-out and work of these lengths: refused by this number, or 0
   areas : ℕ → ℕ → ℕ → ℕ → ℕ → Fact
+  -- the word of certain names
+  certain : ℕ → Fact
+  -- request E1's one area, of this length: refused by this number, or 0
+  work : ℕ → ℕ → Fact
 
 pub data Case : Type 0 where
   -- an effect on a mask, and what it gives
@@ -257,6 +263,53 @@ twoNames =
     ++ FN 40 0 (1 ∷ []) [] 0 2
     ++ FE
 
+-- Request E1: bit x of a word is name x
+
+-- with the names that it writes and those that it reads
+abbrev pub uses : ℕ → List ℕ → ℕ → ℕ → List ℕ
+uses l ss ws rs = FN l 0 ss [] ws rs
+
+-- statement 1 reads and writes both names; 0 writes name 1 before
+abbrev pub readerWrites : List ℕ
+readerWrites = FH 2 0 2 0 ++ uses 10 (1 ∷ []) 2 0 ++ uses 20 [] 3 3 ++ FE
+
+-- so does the entry, which goes to itself: only its first visit is without a write
+abbrev pub entryWrites : List ℕ
+entryWrites = FH 1 0 1 0 ++ uses 10 (0 ∷ []) 1 1 ++ FE
+
+-- nothing reaches statement 2, which reads name 0 and alone writes name 1
+abbrev pub unreached : List ℕ
+unreached = FH 3 0 2 0 ++ uses 10 (1 ∷ []) 1 0 ++ uses 20 [] 0 1 ++ uses 30 (1 ∷ []) 2 1 ++ FE
+
+-- in the loop, 2 writes name 0 after 1 reads it; name 1 is written before the loop
+abbrev pub writtenLater : List ℕ
+writtenLater = FH 3 0 2 0 ++ uses 10 (1 ∷ []) 2 0 ++ uses 20 (2 ∷ []) 0 3 ++ uses 30 (1 ∷ []) 1 0 ++ FE
+
+-- name 0 is written on one of two branches, name 1 on both; name 2 is written and not read, name 3 read and not written, name 4 neither
+abbrev pub branches : List ℕ
+branches =
+    FH 4 0 5 0
+    ++ uses 10 (1 ∷ 2 ∷ []) 0 0
+    ++ uses 20 (3 ∷ []) 3 0
+    ++ uses 30 (3 ∷ []) 2 0
+    ++ uses 40 [] 4 11
+    ++ FE
+
+-- the entry is statement 1 of a loop: 0 writes name 0 before 1 reads it in the file, and after it on the walk; name 1 is the other way round
+abbrev pub entryInLoop : List ℕ
+entryInLoop = FH 3 0 2 1 ++ uses 10 (1 ∷ []) 1 2 ++ uses 20 (2 ∷ []) 0 1 ++ uses 30 (0 ∷ []) 2 0 ++ FE
+
+-- the call writes the name that its continuation reads, and the RETURN goes on to these: only a listed walk counts, and a CLR on it takes no name away
+abbrev pub callWrites : List ℕ → List ℕ
+callWrites ss =
+    FH 4 0 1 0
+    ++ FN 10 5 (2 ∷ []) [] 1 0 ++ u16s (30 ∷ 1 ∷ [])
+    ++ uses 20 [] 0 1
+    ++ clr 30 (3 ∷ []) []
+    ++ returns 40 ss
+    ++ FL 30 2
+    ++ FE
+
 abbrev pub cases : List Case
 cases =
     -- P1 to P4
@@ -271,6 +324,7 @@ cases =
     ∷ bound 19
     ∷ live-in (0 ∷ 1 ∷ 0 ∷ 0 ∷ [])
     ∷ live-out (0 ∷ 0 ∷ 0 ∷ 0 ∷ [])
+    ∷ certain 0
     ∷ prints
     ("F 4 1 1"
     ∷ "0 10 1 0000000000000000 0000000000000000"
@@ -283,7 +337,7 @@ cases =
     ∷ accepted p7 (masks (1 ∷ 1 ∷ 1 ∷ 1 ∷ []) ∷ visits 4 ∷ bound 16 ∷ [])
     ∷ accepted p8 (masks (1 ∷ 1 ∷ 1 ∷ 1 ∷ []) ∷ visits 4 ∷ bound 16 ∷ [])
     ∷ accepted p9 (masks (1 ∷ 0 ∷ []) ∷ visits 2 ∷ bound 10 ∷ [])
-    ∷ accepted p10 (masks [] ∷ visits 0 ∷ bound 1 ∷ prints ("F 0 0 0" ∷ []) ∷ areas 0 0 0 0 0 ∷ [])
+    ∷ accepted p10 (masks [] ∷ visits 0 ∷ bound 1 ∷ prints ("F 0 0 0" ∷ []) ∷ areas 0 0 0 0 0 ∷ certain 0 ∷ work 0 0 ∷ [])
     -- Also: 64 arrays accepted, 65 refused 3; entry n-1 accepted, n refused 3; work 64 × n accepted, one word less refused 10
     ∷ accepted (withArrays 64) (masks (replicate 64 1) ∷ visits 1 ∷ bound 1 ∷ [])
     ∷ refused (withArrays 65) 3 0 (prints ("R 3 0" ∷ []) ∷ [])
@@ -298,6 +352,7 @@ cases =
     ∷ bound 11
     ∷ live-in (2 ∷ 3 ∷ 1 ∷ 3 ∷ [])
     ∷ live-out (3 ∷ 3 ∷ 1 ∷ 3 ∷ [])
+    ∷ certain 1
     ∷ prints
     ("F 4 0 2"
     ∷ "0 10 - 0000000000000002 0000000000000003"
@@ -323,6 +378,19 @@ cases =
     ∷ accepted nestedTouched (masks (1 ∷ 1 ∷ 3 ∷ 1 ∷ 1 ∷ 1 ∷ 3 ∷ 1 ∷ 1 ∷ 1 ∷ 2 ∷ 1 ∷ 0 ∷ 0 ∷ []) ∷ visits 6 ∷ bound 61 ∷ [])
     ∷ accepted manyLines (masks (1 ∷ 3 ∷ 1 ∷ 3 ∷ 1 ∷ 3 ∷ []) ∷ visits 8 ∷ bound 37 ∷ [])
     ∷ accepted twoContinuations (masks (1 ∷ 1 ∷ 3 ∷ 3 ∷ 1 ∷ []) ∷ visits 7 ∷ bound 31 ∷ [])
+    -- request E1
+    ∷ accepted readerWrites (certain 2 ∷ [])
+    ∷ accepted entryWrites (certain 0 ∷ [])
+    ∷ accepted unreached (certain 2 ∷ [])
+    ∷ accepted writtenLater (certain 2 ∷ [])
+    ∷ accepted branches (certain 6 ∷ [])
+    ∷ accepted entryInLoop (certain 2 ∷ [])
+    ∷ accepted (callWrites []) (certain 0 ∷ [])
+    ∷ accepted (callWrites (1 ∷ [])) (certain 1 ∷ [])
+    -- n 0 with 64 names, and one statement that writes the last of them
+    ∷ accepted (FH 0 0 64 0 ++ FE) (certain 0 ∷ [])
+    ∷ accepted (FH 1 0 64 0 ++ uses 10 [] (2 ^ 63) 0 ++ FE) (certain (2 ^ 63) ∷ [])
+    ∷ accepted p5 (work 256 0 ∷ work 255 10 ∷ [])
     ∷ []
 
 -- Whether a case is right
@@ -352,6 +420,8 @@ factHolds v f (visits k) = eqb (visitsOf f) k
 factHolds v f (bound k) = eqb (visitBound (doubled f)) k
 factHolds v f (prints ls) = sameList (listing v f) (concatMap bytes ls)
 factHolds v f (areas m i o w k) = eqb (verdictNumber (verdict (areaChecks (size f) (f .arrays) m i o w))) k
+factHolds v f (certain w) = eqb (certainWord f) w
+factHolds v f (work w k) = eqb (verdictNumber (verdict (areaCheck (workWords (size f)) w ∷ []))) k
 
 abbrev pub factsHold : Verdict → Flow → List Fact → Bool
 factsHold v f [] = true

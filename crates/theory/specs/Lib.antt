@@ -7,6 +7,7 @@ pub mod Walks
 pub mod Masks
 pub mod Computed
 pub mod Live
+pub mod Certain
 pub mod Runs
 pub mod Listing
 pub mod Cases

@@ -3,6 +3,7 @@ pub mod Tally
 pub mod Row
 pub mod Inserted
 pub mod Rewritten
+pub mod Joined
 pub mod Unioned
 pub mod Lowest
 pub mod Zeroed

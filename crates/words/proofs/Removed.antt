@@ -1,17 +1,18 @@
 -- A number removed: that word, the other words, and what the rows then have.
 -- By the bits of a difference and of a power of two. Assumes nothing.
-use mathlib.Core.Path.{_≡_, refl, ap, _∙_}
+use mathlib.Core.Path.{_≡_, refl, sym, ap, _∙_}
 use mathlib.Core.List.{List}
 use mathlib.Core.Logic.{_≢_}
-use Prim.Native.Nat.{ℕ, _+_, _-_, _/_, _%_, _^_, _<_, min}
+use Prim.Native.Nat.{ℕ, _+_, _-_, _*_, _/_, _%_, _^_, _<_, min}
 use native.Mathlib.Decide.{ℕ-discrete}
 use native.Mathlib.Omega.{arith}
 use lib.ListN.{length, getD, length-set}
 use lib.Pow.{pow-lt}
 use lib.Seq.{getD-set-same, getD-set-other}
-use Rattle.words.specs.contracts.Row.{bit, has, Words}
+use Rattle.words.specs.contracts.Row.{bit, has, members, Words}
 use Rattle.words.specs.contracts.Change.{removed, without}
 use Rattle.words.proofs.Bit.{bit-without, bit-pow-same, bit-pow-other}
+use Rattle.words.proofs.Tally.{tally-suc}
 use Rattle.words.proofs.Row.{has-lt, has-cong}
 
 module _ (ws : List ℕ) (base i : ℕ) where
@@ -45,3 +46,9 @@ module _ (ws : List ℕ) (base i : ℕ) where
         at : Dec (j / 64 ≡ i / 64) → has (removed ws base i) base j ≡ has ws base j
         at (yes e) = removed-has j e ∙ omega (arith, bit-pow-other (i % 64) (j % 64) (omega (arith, d)), has-lt ws base j)
         at (no n) = has-cong (removed ws base i) ws base j (removed-other (base + j / 64) (omega (arith, n)))
+
+    -- a member removed is one less
+    pub remove-members : (width : ℕ) → i < 64 * width → has ws base i ≡ 1 → members ws base width ≡ members (removed ws base i) base width + 1
+    unfolding members
+    remove-members width m e =
+        tally-suc (has (removed ws base i) base) (has ws base) (64 * width) i m (e ∙ sym (ap (λ z. z + 1) remove-same)) (λ j d. sym (remove-other j d))

@@ -8,7 +8,7 @@ use Rattle.theory.specs.Body.{successors}
 use Rattle.statements.specs.contracts.Layout.{rowAt}
 use Rattle.statements.proofs.Keeps.{ready-keeps, ready-most, ready-room}
 use Rattle.statements.proofs.WorkArea.{row-fits, member-word}
-use Rattle.live.proofs.Facts.{target-in}
+use Rattle.statements.proofs.Names.{target-in}
 use Rattle.live.proofs.Noting.{Noting, noting-none, noting-more, noting-all}
 use Rattle.live.proofs.note_predecessors.Statement.{statement}
 use Rattle.live.proofs.note_predecessors.Tie as tie

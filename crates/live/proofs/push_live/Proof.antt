@@ -30,7 +30,7 @@ push-to-requires c κs =
     let start = c .before .before .before .before .before .before .before .before .before in
     let inv = c .before .before .before .loop .inv in
     let held = inv .spread .waits (start .pre .4 .0) (start .pre .4 .1) in
-    (start .pre .0, omega (arith, inv .spread .kept .size), omega (arith, inv .size), omega arith, (held .0, held .1))
+    (start .pre .0, omega (arith, inv .spread .kept .size), omega (arith, inv .spread .area .size), omega arith, (held .0, held .1))
 
 add-next : tie.Need-add-next Inv-loop μ-loop
 add-next c = omega arith
@@ -39,7 +39,7 @@ next-requires-2 : tie.Need-next-requires-2 Inv-loop μ-loop
 next-requires-2 c κs =
     let start = c .before .before .before .before .before .before .before .before .before .before .before .before .before .before .before in
     let size = c .before .before .before .before .before .before .before .before .before .loop .inv .spread .kept .size in
-    let size-2 = c .before .before .before .before .before .push-to .ensures .spread .kept .size in
+    let size-2 = c .before .before .before .before .before .push-to .ensures .kept .size in
     row-room (c .before .before .before .before .before .before .before .before .before .before .before .before .row .ensures) (start .pre .3) (omega arith)
 
 loop-less : tie.Need-loop-less Inv-loop μ-loop
@@ -50,16 +50,16 @@ loop-less c =
 loop-again : tie.Need-loop-again Inv-loop μ-loop
 loop-again c =
     let start = c .before .before .before .before .before .before .before .before .before .before .before .before .before .before .before .before in
-    pushing-more (c .before .before .before .before .before .before .before .before .before .before .loop .inv) (omega arith) (start .pre .2) (start .pre .3) (c .before .before .before .before .before .before .push-to .ensures) (c .before .before .before .before .before .before .before .before .before .before .before .before .before .row .ensures) (c .next2 .ensures)
+    pushing-more (c .before .before .before .before .before .before .before .before .before .before .loop .inv) (omega arith) (start .pre .3) (c .before .before .before .before .before .before .push-to .ensures) (c .before .before .before .before .before .before .before .before .before .before .before .before .before .row .ensures) (c .next2 .ensures)
 
 same-length : tie.Need-same-length Inv-loop μ-loop
 same-length c = c .before .loop .inv .spread .kept .size
 
 same-length-2 : tie.Need-same-length-2 Inv-loop μ-loop
-same-length-2 c = c .before .loop .inv .size
+same-length-2 c = c .before .loop .inv .spread .area .size
 
 returns : tie.Need-returns Inv-loop μ-loop
-returns c = pushing-all (c .before .before .before .before .row .ensures) (c .before .loop .inv) (omega arith)
+returns c = pushing-all (c .before .before .before .before .before .before .before .args .j .0) (c .before .before .before .before .row .ensures) (c .before .loop .inv) (omega arith)
 
 pub push-live-spec : {M : Type 1} → statement M
 push-live-spec =

@@ -20,14 +20,16 @@ same-length-2 c = search needs
 returns : tie.Need-returns
 returns c =
     let start = c .before .before .before .before .before .before .before .before .before .before .before in
-    pushed-waits (c .before .before .before .before .before .before .before .union-word .ensures) (c .before .before .before .before .if1 .taken) (λ x. c .before .before .before .before .before .before .before .before .before .slice-known2 .given x .fits) (start .fits .live .fits) (start .pre .3) (start .pre .2)
+    pushed-waits (c .before .before .before .before .before .before .before .union-word .ensures) (start .pre .3) (start .pre .2) (c .before .before .before .before .if1 .taken) (λ x. c .before .before .before .before .before .before .before .before .before .slice-known2 .given x .fits) (start .fits .live .fits)
     (c .before .before .enqueue .ensures)
 
 same-length-3 : tie.Need-same-length-3
 same-length-3 c = search needs
 
 returns-2 : tie.Need-returns-2
-returns-2 c = pushed-same (c .before .before .before .union-word .ensures) (c .if1 .left)
+returns-2 c =
+    let start = c .before .before .before .before .before .before .before in
+    pushed-same (c .before .before .before .union-word .ensures) (start .pre .3) (start .pre .2) (c .if1 .left)
 
 pub push-to-spec : {M : Type 1} → statement M
 push-to-spec =

@@ -1,6 +1,7 @@
 -- What holds of the live sets while statements wait: every name in a set is live, and a statement that does not wait satisfies document 01's equation and has
 -- handed its live-in on to its predecessors. A sweep that has come down to statement lo says so of the statements from lo on, and the worklist of all.
 use Prim.Native.Nat.{ℕ, _+_, _<_, _≤_}
+use mathlib.Core.Bool.{true, false}
 use mathlib.Core.List.{List}
 use mathlib.Core.Logic.{_⊎_}
 use mathlib.Core.Path.{_≡_}
@@ -11,11 +12,16 @@ use Rattle.words.specs.contracts.Change.{without}
 use Rattle.flow.specs.Flow.{Flow, statement}
 use Rattle.theory.specs.Lists.{In}
 use Rattle.theory.specs.Body.{successors}
-use Rattle.theory.specs.Live.{LiveIn, LiveOut}
+use Rattle.theory.specs.Live.{reads, writes, LiveIn, LiveOut}
 use Rattle.statements.specs.contracts.Ready.{Keeps}
 use Rattle.solve.specs.declared.Queue.{Queue}
+use Rattle.solve.specs.contracts.Sets.{Problem}
 use Rattle.solve.specs.contracts.Waiting.{Waits, KeepsRest}
 use Rattle.live.specs.contracts.Spread.{missing}
+
+-- what leaves statement j comes to its predecessors' live-out: the names that it reads, and those of its own live-out that it does not write
+abbrev pub backward : Flow → Problem
+backward f = record { edge = λ i j. In j (successors f i); starts = λ i x. ⊥; gives = λ j x. reads f j x ≡ true; passes = λ j x. writes f j x ≡ false }
 
 -- live-in of statement j, from a live-out
 abbrev pub transfer : Flow → ℕ → ℕ → ℕ

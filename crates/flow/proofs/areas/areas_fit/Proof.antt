@@ -39,14 +39,11 @@ area-fits-requires-3 c κs = search needs
 returns-3 : tie.Need-returns-3
 returns-3 c = rw areas-fit (rw (long (c .before .before .before .before .before .area-fits .ensures) (c .before .before .before .before .if1 .left), long (c .before .before .before .area-fits2 .ensures) (c .before .before .if2 .left), short (c .before .area-fits3 .ensures) (c .if3 .taken)) refl)
 
-mul-area-fits-2 : tie.Need-mul-area-fits-2
-mul-area-fits-2 c = search needs
-
-area-fits-requires-4 : tie.Need-area-fits-requires-4
-area-fits-requires-4 c κs = search needs
+work-fits-requires : tie.Need-work-fits-requires
+work-fits-requires c κs = search needs
 
 returns-4 : tie.Need-returns-4
-returns-4 c = rw areas-fit (rw (long (c .before .before .before .before .before .before .area-fits .ensures) (c .before .before .before .before .before .if1 .left), long (c .before .before .before .before .area-fits2 .ensures) (c .before .before .before .if2 .left), long (c .before .before .area-fits3 .ensures) (c .before .if3 .left)) (c .area-fits4 .ensures))
+returns-4 c = rw areas-fit (rw (long (c .before .before .before .before .before .before .area-fits .ensures) (c .before .before .before .before .before .if1 .left), long (c .before .before .before .before .area-fits2 .ensures) (c .before .before .before .if2 .left), long (c .before .before .area-fits3 .ensures) (c .before .if3 .left)) (c .work-fits .ensures))
 
 pub areas-fit-spec : {M : Type 1} → statement M
 areas-fit-spec =
@@ -59,6 +56,5 @@ areas-fit-spec =
     returns-2
     area-fits-requires-3
     returns-3
-    mul-area-fits-2
-    area-fits-requires-4
+    work-fits-requires
     returns-4)

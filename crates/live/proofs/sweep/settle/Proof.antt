@@ -3,7 +3,7 @@
 use borrow.Author.Needs.{needs}
 use denote.Ref.{now}
 use native.Mathlib.Omega.{arith}
-use Rattle.live.proofs.Facts.{target-in}
+use Rattle.statements.proofs.Names.{target-in}
 use Rattle.live.proofs.Sweeping.{settled-by}
 use Rattle.live.proofs.sweep.settle.Statement.{statement}
 use Rattle.live.proofs.sweep.settle.Tie as tie

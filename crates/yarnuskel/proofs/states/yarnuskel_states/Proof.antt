@@ -2,7 +2,7 @@
 -- Assumes nothing.
 use borrow.Author.Needs.{needs}
 use mathlib.Core.Path.{ap, sym, _∙_}
-use Rattle.yarnuskel.specs.Door.{numberOfAnswer, placeOfAnswer, visitsOfAnswer}
+use Rattle.yarnuskel.specs.Door.{numberOfAnswer, placeOfAnswer, foundOfAnswer}
 use Rattle.yarnuskel.proofs.states.yarnuskel_states.Statement.{statement}
 use Rattle.yarnuskel.proofs.states.yarnuskel_states.Tie as tie
 
@@ -40,7 +40,7 @@ returns c =
       answer = c .before .before .before .before .before .before .before .before .before .before .before .states .result;
       number = sym (ap numberOfAnswer told);
       place-is = sym (ap placeOfAnswer told);
-      visits-is = sym (ap visitsOfAnswer told);
+      visits-is = sym (ap foundOfAnswer told);
       promise = c .before .before .before .before .before .before .before .before .before .before .before .states .ensures;
     }
 
@@ -63,7 +63,7 @@ returns-2 c =
       answer = c .before .before .before .before .before .before .before .before .before .before .before .before .before .states .result;
       number = c .number .ensures ∙ sym (ap numberOfAnswer told);
       place-is = c .before .place .ensures ∙ sym (ap placeOfAnswer told);
-      visits-is = sym (ap visitsOfAnswer told);
+      visits-is = sym (ap foundOfAnswer told);
       promise = c .before .before .before .before .before .before .before .before .before .before .before .before .before .states .ensures;
     }
 

@@ -1,0 +1,4 @@
+pub mod Pushing
+pub mod Visiting
+pub mod Solution
+pub mod Covering
