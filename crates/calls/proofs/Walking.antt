@@ -257,7 +257,7 @@ walking-first {f} {ws} {vs} {n} {e} {height} s l empty m = record {
 }
 
 -- the stack stands within the area
-pub stack-fits : {ws : List ℕ} {n e top : ℕ} → Stack ws n e top → queueAt n + top ≤ 48 * n
+pub stack-fits : {ws : List ℕ} {n e top : ℕ} → Stack ws n e top → queueAt n + top ≤ 49 * n
 stack-fits {ws} {n} {e} s = omega (arith, s .high, met-le ws n e, queue-below (s .area .few))
 
 pub stack-less : {ws : List ℕ} {n e top up : ℕ} → up ≡ suc top → Stack ws n e up → Stack ws n e top

@@ -52,10 +52,10 @@ module _ (n w : ℕ) where
   sent-from i = omega arith
 
 -- no place in the area is too large
-pub node-below : {n w k : ℕ} → n ≤ maxStatements → w ≤ maxWidth → k ≤ 2 * n → maskRowAt n w k ≤ 58 * n + 7
+pub node-below : {n w k : ℕ} → n ≤ maxStatements → w ≤ maxWidth → k ≤ 2 * n → maskRowAt n w k ≤ 59 * n + 7
 node-below {n} {w} {k} h l b = omega (arith, queue-below h, mul-le-mul-right k l)
 
-pub end-below : {n w k : ℕ} → n ≤ maxStatements → w ≤ maxWidth → k ≤ n → sentRowAt n w k ≤ 61 * n + 7
+pub end-below : {n w k : ℕ} → n ≤ maxStatements → w ≤ maxWidth → k ≤ n → sentRowAt n w k ≤ 62 * n + 7
 end-below {n} {w} {k} h l b = omega (arith, node-below h l (le-refl (2 * n)), mul-le-mul-right k l)
 
 pub solver-fits : {n w : ℕ} → 0 < n → n ≤ maxStatements → w ≤ maxWidth → areaEnd n w ≤ workWords n

@@ -58,11 +58,11 @@ unfolding rowsEnd rowWords
 one-word {n} l = let one : (n + 63) / 64 ≤ 1 = omega arith in omega (arith, mul-le-mul-right n one)
 
 -- rows and lists together end at one place for all n
-pub queue-place : {n : ℕ} → 0 < n → n ≤ maxStatements → queueAt n ≡ 47 * n - 7
+pub queue-place : {n : ℕ} → 0 < n → n ≤ maxStatements → queueAt n ≡ 48 * n - 7
 unfolding rowsEnd listWords
 queue-place {n} p h = omega (arith, mul-le-mul-right n (row-words-most h))
 
-pub queue-below : {n : ℕ} → n ≤ maxStatements → queueAt n ≤ 47 * n
+pub queue-below : {n : ℕ} → n ≤ maxStatements → queueAt n ≤ 48 * n
 unfolding rowsEnd listWords
 queue-below {n} h = omega (arith, mul-le-mul-right n (row-words-most h))
 

@@ -96,7 +96,7 @@ pub fn queue(n: usize) -> usize
     if n == 0 {
         return 0;
     }
-    47 * n - 7
+    48 * n - 7
 }
 
 // What stands k parts of n words behind the lists.

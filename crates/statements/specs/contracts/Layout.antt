@@ -41,9 +41,9 @@ rowAt n i = rowsEnd n i
 abbrev pub listsAt : ℕ → ℕ
 listsAt n = rowsEnd n n
 
--- the lists have what the matrix leaves of 41 × n words, less seven: the solver needs these besides its words for each statement
+-- the lists have what the matrix leaves of 42 × n words, less seven: the solver needs these besides its words for each statement
 unfoldable pub listWords : ℕ → ℕ
-listWords n = 41 * n - 7 - rowWords n * n
+listWords n = 42 * n - 7 - rowWords n * n
 
 abbrev pub queueAt : ℕ → ℕ
 queueAt n = listsAt n + listWords n

@@ -44,7 +44,7 @@ module _ (c : tie.After-queue) where
   abbrev start : tie.Start
   start = row .before .before
 
-  room : queueAt (start .args .n) + start .args .top < 48 * start .args .n
+  room : queueAt (start .args .n) + start .args .top < 49 * start .args .n
   room =
       let p = start .pre in
       let new = c .before .before .before .before .before in

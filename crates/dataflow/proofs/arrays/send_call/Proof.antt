@@ -1,6 +1,6 @@
 -- `dataflow::arrays::send_call` meets its contract: the rows of the call's edges are made, and pushed along them.
 -- What is pushed is what the doubled graph's edges bring.
-use Prim.Native.Nat.{_≤_}
+use Prim.Native.Nat.{ℕ, _<_}
 use mathlib.Core.List.{List}
 use mathlib.Core.Option.{Option}
 use mathlib.Core.Path.{refl, sym, ap, subst}
@@ -12,13 +12,14 @@ use Rattle.theory.specs.Doubled.{Node, Edge}
 use Rattle.statements.specs.contracts.Layout.{queueAt}
 use Rattle.statements.specs.contracts.Ready.{Keeps}
 use Rattle.statements.proofs.Keeps.{keeps-widen}
+use Rattle.calls.specs.contracts.Held.{SeveralLines}
 use Rattle.calls.specs.contracts.Slots.{present}
 use Rattle.calls.proofs.Classes.{slots-call, call-says}
 use Rattle.solve.specs.contracts.Layout.{maskRowAt}
 use Rattle.dataflow.specs.contracts.Sent.{edgeRow, Sent}
 use Rattle.dataflow.proofs.Kept.{indexed-stays, ready-stays, linked-stays}
 use Rattle.dataflow.proofs.Sharing.{goes-sent}
-use Rattle.dataflow.proofs.Sends.{beside-waits, beside-shared, sends}
+use Rattle.dataflow.proofs.Sends.{call-state, beside-waits, beside-shared, sends}
 use borrow.Author.Needs.{needs}
 use Rattle.dataflow.proofs.arrays.send_call.Statement.{statement}
 use Rattle.dataflow.proofs.arrays.send_call.Tie as tie
@@ -39,14 +40,20 @@ call-of-requires c κs =
 push-call-requires : tie.Need-push-call-requires
 push-call-requires c κs =
     let s = c .before .before .before .before .before .before .before .before .before in
+    let rows = c .before .before .before .before .before .call-rows in
     let keeps = beside (c .before .before .before .before .before) in
+    let linked = linked-stays keeps (s .pre .2) in
+    let call = c .before .call-of .ensures in
     let most = limited (s .pre .1 .ready .fit) .arrays in (
       omega (arith, s .pre .0, ap (λ h. h .arrays) (s .pre .1 .header)),
       indexed-stays keeps (s .pre .1),
       s .pre .4,
       s .pre .6,
-      c .before .call-of .ensures,
-      (_, beside-waits (now (s .args .work)) (c .before .before .before .before .before .call-rows .last .1 .1 .0) (s .args .h .statements) (s .args .width) (c .before .before .before .before .before .call-rows .ensures .keeps) (s .pre .9 .1)),
+      call,
+      λ several.
+          let lines : SeveralLines (flowOf (now (s .args .file))) (rows .last .1 .1 .0) (s .args .h .statements) (s .args .i .0) = record { state = call-state (s .pre .7) linked (s .pre .6); several = subst (λ (k : ℕ). 1 < k) (call .lines) several } in
+          linked .orders (s .args .i .0) (s .pre .6) lines,
+      (_, beside-waits (now (s .args .work)) (rows .last .1 .1 .0) (s .args .h .statements) (s .args .width) (rows .ensures .keeps) (s .pre .9 .1)),
     )
 
 same-length : tie.Need-same-length

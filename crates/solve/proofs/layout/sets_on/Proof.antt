@@ -1,4 +1,4 @@
--- `sets_on` meets its contract: the sums are not too large, since the queue stands below 47 × n (`queue-below`).
+-- `sets_on` meets its contract: the sums are not too large, since the queue stands below 48 × n (`queue-below`).
 -- Assumes nothing.
 use borrow.Author.Needs.{needs}
 use native.Mathlib.Nat.{mul-le-mul-right}

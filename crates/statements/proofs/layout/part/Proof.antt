@@ -1,4 +1,4 @@
--- `part` meets its contract: the queue stands below 47 × n, so that the sum is not too large (`queue-below`).
+-- `part` meets its contract: the queue stands below 48 × n, so that the sum is not too large (`queue-below`).
 -- Assumes nothing.
 use borrow.Author.Needs.{needs}
 use native.Mathlib.Nat.{mul-le-mul-right}
