@@ -32,13 +32,13 @@ use Rattle.statements.specs.contracts.Layout.{callsAt, callTouchedAt, bodiesAt,
 use Rattle.statements.specs.contracts.Ready.{Keeps, MembersWord}
 use Rattle.statements.proofs.WorkArea.{member-word, row-from, row-fits}
 use Rattle.statements.proofs.Keeps.{keeps-has}
-use Rattle.calls.specs.contracts.Held.{WalkRow, Empty, EmptyRow, CallSummaries, Summarized, Leads, Leaders, SeveralLines, Linked, transparent, opaque}
+use Rattle.calls.specs.contracts.Held.{WalkRow, Empty, EmptyRow, CallSummaries, Summarized, Leads, Leaders, Linked, transparent, opaque}
 use Rattle.calls.specs.contracts.Orders.{OrdersNoted}
 use Rattle.calls.specs.contracts.Joins.{Joins, Gains, Apart, Gathers, Adds, NotesCalls, Summary, BodyRows, ReturnSet, inWord, isShared, bodyOf, bodiesOf, fromBodies}
 use Rattle.calls.proofs.Joined.{joins-none, joins-then, joins-same, gains-none, gains-same, gains-insert, gains-then, gains-after, gains-joins, row-stays, adds-same, adds-all}
 use Rattle.calls.proofs.Summing.{walk-low, walk-kept}
 use Rattle.calls.proofs.BodySummary.{return-stays, return-ordinary}
-use Rattle.calls.proofs.Ordering.{orders-keep, order-kept}
+use Rattle.calls.proofs.Ordering.{orders-keep}
 
 -- A word, bit by bit
 
@@ -279,9 +279,9 @@ summary-kept {f} {n = n} {c = c} w z s js l = record {
 }
 
 -- the edges are known once the leaders are noted too, which writes words of the bodies only, and the orders of calls, which stand outside the rows
-pub linked : {f : Flow} {ws us vs ts qs : List ℕ} {n hi p : ℕ} → size f ≡ n → Summarized f ws n → ((r : ℕ) → r < n → isReturn (kind f r) ≡ true → EmptyRow ws n r)
+pub linked : {f : Flow} {ws us vs ts qs : List ℕ} {n hi : ℕ} → size f ≡ n → Summarized f ws n → ((r : ℕ) → r < n → isReturn (kind f r) ≡ true → EmptyRow ws n r)
     → Joins f ws us n hi (λ r k. any (returnsTo f r k) (upTo n)) → NotesCalls f us vs n 0 n
-    → Keeps (bodiesAt n) (matrixAt n) vs ts → Leaders f ts n → OrdersNoted f ts qs n n p (SeveralLines f ts n) → Linked f qs n
+    → Keeps (bodiesAt n) (matrixAt n) vs ts → Leaders f ts n → OrdersNoted f ts qs n n → Linked f qs n
 linked {f} {ws} {us} {vs} {ts} {qs} {n} z s free js ns k ls o = record {
   calls = summaries-kept (omega arith) (orders-keep o) (summaries-kept (omega arith) k (summaries-kept (omega arith) (ns .kept) (summaries-kept (omega arith) (js .kept) (s .calls))));
   bodies = λ c j l lj e. row c j l lj ∙ ns .noted c j (omega arith) l lj (sym (state c l ∙ k .below (callsAt n + c) (omega arith) ∙ ns .kept .below (callsAt n + c) (omega arith)) ∙ e);
@@ -294,7 +294,7 @@ linked {f} {ws} {us} {vs} {ts} {qs} {n} z s free js ns k ls o = record {
       let y = ls r l is in
       subst (λ (x : ℕ). Leads qs n r x) (sym (o .low (bodiesAt n + r) (omega arith)))
       (record { below = y .below; same = λ j m. beside (getD ts (bodiesAt n + r) 0) j (y .below) m ∙ y .same j m ∙ sym (beside r j l m) });
-  orders = λ c l a. order-kept (o .to) refl (λ x b e. refl) (o .orders c l (record { state = sym (state c l) ∙ a .state; several = a .several }));
+  orders = o .orders;
 }
   where
     state : (c : ℕ) → c < n → getD qs (callsAt n + c) 0 ≡ getD ts (callsAt n + c) 0

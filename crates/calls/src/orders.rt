@@ -1,7 +1,8 @@
 // The order in which a call of several lines enters statements, each once: what a visit needs of its lines. It is noted once, as a list of 12-bit numbers, five in a word, as far as
 // there is room behind the matrix; a call whose list finds none looks its lines up.
-ghost use Prim.Native.Nat.{ℕ, _+_, _*_, _/_, _%_, _^_, _<_, _≤_};
+ghost use Prim.Native.Nat.{_+_, _/_, _%_, _^_, _<_, _≤_};
 ghost use mathlib.Core.List.{[], _∷_};
+ghost use mathlib.Core.Bool.{true};
 ghost use mathlib.Core.Path.{_≡_};
 ghost use lib.ListN.{length, getD};
 ghost use Rattle.flow.specs.Flow.{enters};
@@ -11,8 +12,8 @@ ghost use Rattle.theory.specs.Lists.{optionList};
 ghost use Rattle.theory.specs.Body.{kind, callLines};
 ghost use Rattle.statements.specs.contracts.Layout.{touchedAt, listsAt, queueAt, enteredRowAt};
 ghost use Rattle.statements.specs.contracts.Ready.{Indexed};
-ghost use Rattle.calls.specs.contracts.Held.{Area, Empty, SeveralLines};
-ghost use Rattle.calls.specs.contracts.Orders.{order, entryAt, listEnd, orderWord, Put, Listing, Lists, OrderNoted, OrdersNoted};
+ghost use Rattle.calls.specs.contracts.Held.{Area, Empty, CallSummaries};
+ghost use Rattle.calls.specs.contracts.Orders.{order, several, entryAt, listEnd, orderWord, Put, Listing, Lists, OrderNoted, OrdersNoted};
 use crate::TRANSPARENT;
 use crate::rows;
 use flow::LineEntry;
@@ -118,8 +119,8 @@ fn note_list(
     at: usize,
     count: usize,
 ) -> usize
-    requires { ⌜ Indexed (now file) h (now work) × (c .0 < h .statements) × (count ≡ length (callLines (kind (flowOf (now file)) (c .0)))) × (listsAt (h .statements) ≤ at) × (listEnd at count ≤ queueAt (h .statements)) ⌝ }
-    ensures { λ r. ⌜ OrderNoted (flowOf (now (file .entry))) (now (work .entry)) (now (work .exit)) (h .statements) (c .0) at r (SeveralLines (flowOf (now (file .entry))) (now (work .entry)) (h .statements) (c .0)) ⌝ }
+    requires { ⌜ Indexed (now file) h (now work) × (c .0 < h .statements) × (count ≡ length (callLines (kind (flowOf (now file)) (c .0)))) × (listsAt (h .statements) ≤ at) × (listEnd at count ≤ queueAt (h .statements)) × (several (flowOf (now file)) (c .0) ≡ true) ⌝ }
+    ensures { λ r. ⌜ OrderNoted (flowOf (now (file .entry))) (now (work .entry)) (now (work .exit)) (h .statements) (c .0) at r ⌝ }
 {
     let n = h.statements;
     rows::zero_row(work, n, layout::entered_row(n));
@@ -130,8 +131,8 @@ fn note_list(
 
 // The same of statement c, if it is a call of several lines that is not opaque, and if there is room.
 fn note_order(file: &[u8], h: flow::Header, work: &mut [u64], c: StmtId, at: usize) -> usize
-    requires { ⌜ Indexed (now file) h (now work) × (c .0 < h .statements) × (listsAt (h .statements) ≤ at) × (at ≤ queueAt (h .statements)) ⌝ }
-    ensures { λ r. ⌜ OrderNoted (flowOf (now (file .entry))) (now (work .entry)) (now (work .exit)) (h .statements) (c .0) at r (SeveralLines (flowOf (now (file .entry))) (now (work .entry)) (h .statements) (c .0)) ⌝ }
+    requires { ⌜ Indexed (now file) h (now work) × CallSummaries (flowOf (now file)) (now work) (h .statements) × (c .0 < h .statements) × (listsAt (h .statements) ≤ at) × (at ≤ queueAt (h .statements)) ⌝ }
+    ensures { λ r. ⌜ OrderNoted (flowOf (now (file .entry))) (now (work .entry)) (now (work .exit)) (h .statements) (c .0) at r ⌝ }
 {
     let n = h.statements;
     if work[layout::calls(n) + c.0] != TRANSPARENT {
@@ -150,8 +151,8 @@ fn note_order(file: &[u8], h: flow::Header, work: &mut [u64], c: StmtId, at: usi
 
 // The orders of all calls of several lines that are not opaque, as far as there is room.
 pub fn note_orders(file: &[u8], h: flow::Header, work: &mut [u64])
-    requires { ⌜ Indexed (now file) h (now work) ⌝ }
-    ensures { λ _. ⌜ ((p : ℕ) × OrdersNoted (flowOf (now (file .entry))) (now (work .entry)) (now (work .exit)) (h .statements) (h .statements) p (SeveralLines (flowOf (now (file .entry))) (now (work .entry)) (h .statements))) ⌝ }
+    requires { ⌜ Indexed (now file) h (now work) × CallSummaries (flowOf (now file)) (now work) (h .statements) ⌝ }
+    ensures { λ _. ⌜ OrdersNoted (flowOf (now (file .entry))) (now (work .entry)) (now (work .exit)) (h .statements) (h .statements) ⌝ }
 {
     let n = h.statements;
     let mut at = layout::lists(n);

@@ -1,6 +1,6 @@
 -- What is sent along the edges of a call's order is sent along the edges of all its lines: an edge that was gone through changes nothing when it comes again.
 -- By induction on the statements that the lines enter.
-use Prim.Native.Nat.{ℕ, suc, _+_, _/_, _%_, _^_, _<_, _≤_}
+use Prim.Native.Nat.{ℕ, suc, _+_, _*_, _/_, _%_, _^_, _<_, _≤_}
 use mathlib.Core.Bool.{Bool, true, false, cond}
 use mathlib.Core.List.{List, [], _∷_, _++_, map, map-map, foldl, foldl-append, List·Memᴰ·head, List·Memᴰ·tail, List·Memᴰ·not-nil}
 use mathlib.Core.Logic.{_≢_, _⊎_, inl, inr, ⊎-elim}
@@ -23,11 +23,11 @@ use Rattle.theory.specs.contracts.WellFormed.{WellFormed}
 use Rattle.theory.proofs.Lists.{member-cases, getD-In, In-elem, elem-In}
 use Rattle.theory.proofs.Body.{entered-below}
 use Rattle.theory.proofs.Enqueue.{join-keeps, join-adds, join-cases}
-use Rattle.statements.specs.contracts.Layout.{queueAt}
 use Rattle.statements.proofs.WorkArea.{queue-below}
-use Rattle.calls.specs.contracts.Orders.{firsts, order, orderWord, ListOf, OrderOf, no-room, noted}
+use Rattle.calls.specs.contracts.Orders.{firsts, order, fits, listsEnd, orderWord, ListOf, OrderOf}
 use Rattle.calls.specs.contracts.Slots.{edgeTo, lineSlots, present, toArc}
 use Rattle.calls.proofs.Slots.{present-entered, or-assoc}
+use Rattle.calls.proofs.Ordering.{list-to, lists-from, lists-to}
 use Rattle.solve.specs.declared.Queue.{Queue}
 use Rattle.solve.specs.contracts.Rows.{maskAt}
 use Rattle.solve.specs.contracts.Waiting.{Waits}
@@ -142,10 +142,19 @@ module _ (f : Flow) (b : Base) (i k c : ℕ) where
   order-end l = let all : length (orderEdges f b i k) ≤ c = omega (arith, length-map (order f i) (orderEdge b k)) in drop-of-length-le (orderEdges f b i k) all
 
 -- Where the word of a call names a place, the order is the list there
-pub order-list : {f : Flow} {ws : List ℕ} {n i p m : ℕ} → n ≤ maxStatements → p ≡ orderWord ws n i % 2 ^ 32 → m ≡ orderWord ws n i / 2 ^ 32 → p ≢ 0 → OrderOf f ws n (queueAt n) i → ListOf f ws n (queueAt n) i p m
-order-list few at count some (no-room e) = absurd (some (omega (arith, at, e)))
-order-list {f} {ws} {n} {i} {p} {m} few at count some (noted q k e x) =
-    let small : q < 2 ^ 32 = omega (arith, x .to, queue-below few) in
-    let here : q ≡ p = omega (arith, at, e) in
-    let entries : k ≡ m = omega (arith, count, e) in
-    subst (λ (y : ℕ). ListOf f ws n (queueAt n) i y m) here (subst (ListOf f ws n (queueAt n) i q) entries x)
+pub order-list : {f : Flow} {ws : List ℕ} {n i p m : ℕ} → n ≤ maxStatements → p ≡ orderWord ws n i % 2 ^ 32 → m ≡ orderWord ws n i / 2 ^ 32 → p ≢ 0 → OrderOf f ws n i → ListOf f ws n i p m
+order-list {f} {ws} {n} {i} {p} {m} few at count some o = go (fits f n (listsEnd f n i) i) refl
+  where
+    go : (t : Bool) → fits f n (listsEnd f n i) i ≡ t → ListOf f ws n i p m
+    go true e =
+        let word : orderWord ws n i ≡ listsEnd f n i + 2 ^ 32 * length (order f i) = o .word ∙ ap (λ (t : Bool). cond t (listsEnd f n i + 2 ^ 32 * length (order f i)) 0) e in
+        let small : listsEnd f n i < 2 ^ 32 = omega (arith, lists-to f n i, queue-below few) in
+        let here : listsEnd f n i ≡ p = omega (arith, at, word) in
+        let entries : length (order f i) ≡ m = omega (arith, count, word) in
+        subst (λ (x : ℕ). ListOf f ws n i x m) here (record {
+          from = lists-from f n i;
+          to = omega (arith, list-to f n (listsEnd f n i) i e, entries);
+          count = sym entries;
+          entries = o .entries e;
+        })
+    go false e = absurd (some (let none : orderWord ws n i ≡ 0 = o .word ∙ ap (λ (t : Bool). cond t (listsEnd f n i + 2 ^ 32 * length (order f i)) 0) e in omega (arith, at, none)))

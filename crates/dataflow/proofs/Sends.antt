@@ -15,7 +15,7 @@ use Rattle.theory.specs.Lists.{In, differ}
 use Rattle.theory.specs.Body.{callTouches}
 use Rattle.theory.specs.Doubled.{Node, Edge, node, edges, statementEffects, edgeEffects, doubled}
 use Rattle.theory.specs.Queue.{stepAll, brings, enqueue}
-use Rattle.statements.specs.contracts.Layout.{callsAt, callTouchedAt, maxWidth, queueAt}
+use Rattle.statements.specs.contracts.Layout.{callTouchedAt, maxWidth, queueAt}
 use Rattle.statements.specs.contracts.Ready.{Keeps, MembersWord}
 use Rattle.statements.proofs.Keeps.{keeps-trans, keeps-widen}
 use Rattle.calls.specs.contracts.Class.{transparentCall}
@@ -79,14 +79,11 @@ module _ (f : Flow) (ws us : List ℕ) (n w d i : ℕ) (stmt : i ≡ node f d .s
           (subst (λ (j : ℕ). MembersWord (getD us (callTouchedAt n + i) 0) (callTouches f j)) stmt touched)
       at m h x a l false e = out a l ∙ act-row f (node f d .stmt) (f .arrays) m (masksAt ws n w d) x a (h a l) e
 
--- such a call's state is noted, and the arrays that it touches
-pub call-state : {f : Flow} {ws : List ℕ} {n i : ℕ} → transparentCall f i ≡ true → Linked f ws n → i < n → getD ws (callsAt n + i) 0 ≡ transparent
-call-state {f} {i = i} e l below =
-    let says = call-says f i e in
-    l .calls .call i (says .0) below (says .1) ∙ ap (λ (b : Bool). cond b opaque transparent) (says .2)
-
+-- the arrays that such a call touches are noted
 pub call-touches : {f : Flow} {ws : List ℕ} {n i : ℕ} → transparentCall f i ≡ true → Linked f ws n → i < n → MembersWord (getD ws (callTouchedAt n + i) 0) (callTouches f i)
-call-touches {i = i} e l below = l .calls .touched i below (call-state e l below)
+call-touches {f} {ws} {n} {i} e l below =
+    let says = call-says f i e in
+    l .calls .touched i below (l .calls .call i (says .0) below (says .1) ∙ ap (λ (b : Bool). cond b opaque transparent) (says .2))
 
 -- where only the rows for edges are written, the solver's state is as it was
 module _ (ws us : List ℕ) (n w : ℕ) (k : Keeps (setRow n) (maskRowAt n w 0) ws us) where

@@ -210,7 +210,7 @@ fn push_order(
     call: Call,
     order: Order,
 ) -> Queue
-    requires { ⌜ (width ≤ maxWidth) × Ready (now file) (now work) n × (i .0 < n) × CallOf (flowOf (now file)) (now work) (i .0) call × ListOf (flowOf (now file)) (now work) n (queueAt n) (i .0) (order .at) (order .count) × ((l : List ℕ) × Waits (now work) n width first l) ⌝ }
+    requires { ⌜ (width ≤ maxWidth) × Ready (now file) (now work) n × (i .0 < n) × CallOf (flowOf (now file)) (now work) (i .0) call × ListOf (flowOf (now file)) (now work) n (i .0) (order .at) (order .count) × ((l : List ℕ) × Waits (now work) n width first l) ⌝ }
     ensures { λ r. ⌜ Sent (flowOf (now (file .entry))) (now (work .entry)) (now (work .exit)) n width (edgeRow n width) first (i .0) (present (lineSlots (flowOf (now (file .entry))) base (i .0) (call .continuation .0))) r ⌝ }
 {
     let back = node(n, base, call.continuation);
@@ -238,7 +238,7 @@ fn push_lines(
     place: usize,
     call: Call,
 ) -> Queue
-    requires { ⌜ (width ≤ maxWidth) × Indexed (now file) h (now work) × RecordOf (now file) (i .0) place × (i .0 < h .statements) × CallOf (flowOf (now file)) (now work) (i .0) call × (1 < call .lines → OrderOf (flowOf (now file)) (now work) (h .statements) (queueAt (h .statements)) (i .0)) × ((l : List ℕ) × Waits (now work) (h .statements) width first l) ⌝ }
+    requires { ⌜ (width ≤ maxWidth) × Indexed (now file) h (now work) × RecordOf (now file) (i .0) place × (i .0 < h .statements) × CallOf (flowOf (now file)) (now work) (i .0) call × (1 < call .lines → OrderOf (flowOf (now file)) (now work) (h .statements) (i .0)) × ((l : List ℕ) × Waits (now work) (h .statements) width first l) ⌝ }
     ensures { λ r. ⌜ Sent (flowOf (now (file .entry))) (now (work .entry)) (now (work .exit)) (h .statements) width (edgeRow (h .statements) width) first (i .0) (present (lineSlots (flowOf (now (file .entry))) base (i .0) (call .continuation .0))) r ⌝ }
 {
     let n = h.statements;
@@ -316,7 +316,7 @@ fn push_call(
     place: usize,
     call: Call,
 ) -> Queue
-    requires { ⌜ (width ≤ maxWidth) × Indexed (now file) h (now work) × RecordOf (now file) (i .0) place × (i .0 < h .statements) × CallOf (flowOf (now file)) (now work) (i .0) call × (1 < call .lines → OrderOf (flowOf (now file)) (now work) (h .statements) (queueAt (h .statements)) (i .0)) × ((l : List ℕ) × Waits (now work) (h .statements) width first l) ⌝ }
+    requires { ⌜ (width ≤ maxWidth) × Indexed (now file) h (now work) × RecordOf (now file) (i .0) place × (i .0 < h .statements) × CallOf (flowOf (now file)) (now work) (i .0) call × (1 < call .lines → OrderOf (flowOf (now file)) (now work) (h .statements) (i .0)) × ((l : List ℕ) × Waits (now work) (h .statements) width first l) ⌝ }
     ensures { λ r. ⌜ Sent (flowOf (now (file .entry))) (now (work .entry)) (now (work .exit)) (h .statements) width (edgeRow (h .statements) width) first (i .0) (present (callSlots (flowOf (now (file .entry))) base (i .0) (call .continuation .0))) r ⌝ }
 {
     let n = h.statements;

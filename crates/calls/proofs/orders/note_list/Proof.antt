@@ -12,7 +12,7 @@ use Rattle.statements.specs.contracts.Layout.{rowWords, touchedAt, queueAt, ent
 use Rattle.statements.specs.contracts.Ready.{Keeps}
 use Rattle.statements.proofs.WorkArea.{row-from, queue-below}
 use Rattle.statements.proofs.Keeps.{indexed-keeps, ready-most, ready-room}
-use Rattle.calls.specs.contracts.Held.{Area, Empty, SeveralLines}
+use Rattle.calls.specs.contracts.Held.{Area, Empty}
 use Rattle.calls.specs.contracts.Orders.{listEnd, OrderNoted}
 use Rattle.calls.proofs.Listing.{entered-room}
 use Rattle.calls.proofs.Ordering.{listed}
@@ -95,8 +95,8 @@ returns c =
     let us : List ℕ = d .list-lines .last .1 .1 .0 in
     let k : ℕ = d .list-lines .result in
     let fits : touchedAt (n s) + s .args .c .0 < length us = omega (arith, s .pre .1, d .list-lines .ensures .0 .kept .size, zeroed (c .before .before .before .before .before .before .before .before) .1 .size, ready-room (s .pre .0 .ready) (some-statements s), row-from (n s) (n s)) in
-    subst (λ (x : ℕ). OrderNoted f (now (s .args .work)) (set us (x + s .args .c .0) (s .args .at + 2 ^ 32 * k)) (n s) (s .args .c .0) (s .args .at) (listEnd (s .args .at) k) (SeveralLines f (now (s .args .work)) (n s) (s .args .c .0))) (sym (c .before .touched .ensures))
-    (listed f (s .pre .1) (s .pre .3) (short d) fits (zeroed (c .before .before .before .before .before .before .before .before) .1) (d .list-lines .ensures .0))
+    subst (λ (x : ℕ). OrderNoted f (now (s .args .work)) (set us (x + s .args .c .0) (s .args .at + 2 ^ 32 * k)) (n s) (s .args .c .0) (s .args .at) (listEnd (s .args .at) k)) (sym (c .before .touched .ensures))
+    (listed f (s .pre .1) (s .pre .3) (s .pre .5) (omega (arith, s .pre .2, s .pre .4)) fits (zeroed (c .before .before .before .before .before .before .before .before) .1) (d .list-lines .ensures .0))
 
 pub note-list-spec : {M : Type 1} → statement M
 note-list-spec =

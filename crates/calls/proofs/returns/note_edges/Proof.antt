@@ -19,7 +19,7 @@ use Rattle.statements.proofs.Keeps.{keeps-trans, keeps-widen, ready-keeps, inde
 use Rattle.calls.specs.contracts.Held.{EmptyRow, Summarized}
 use Rattle.calls.specs.contracts.Joins.{Joins, ReturnSet}
 use Rattle.calls.proofs.Joined.{row-stays}
-use Rattle.calls.proofs.Gathered.{Calling, calling-start, calling-on, summary-kept, linked}
+use Rattle.calls.proofs.Gathered.{Calling, calling-start, calling-on, summary-kept, summaries-kept, linked}
 use Rattle.calls.proofs.Ordering.{orders-keep}
 use Rattle.calls.proofs.ReturnSet.{return-set-stays, summarized-stays}
 use Rattle.calls.proofs.returns.note_edges.Statement.{statement}
@@ -117,10 +117,13 @@ note-leaders-requires c κs =
     (ready-keeps (indexed (done d) .ready) k (omega arith), return-set-stays k (omega arith) (return-set (done d)))
 
 note-orders-requires : tie.Need-note-orders-requires Inv-loop μ-loop
-note-orders-requires c κs = let d = c .before .before .before .before .before .before .before in indexed-keeps (indexed-keeps (indexed (done d)) (rows-kept d) (omega arith)) (c .before .before .before .note-leaders .ensures .1) (omega arith)
+note-orders-requires c κs =
+    let d = c .before .before .before .before .before .before .before in
+    let led = c .before .before .before .note-leaders .ensures .1 in
+    (indexed-keeps (indexed-keeps (indexed (done d)) (rows-kept d) (omega arith)) led (omega arith), summaries-kept (omega arith) led (summaries-kept (omega arith) (rows-kept d) (summarized (done d) .calls)))
 
 same-length : tie.Need-same-length Inv-loop μ-loop
-same-length c = let d = c .before .before .before .before .before .before .before .before .before .before in c .before .before .note-orders .ensures .1 .size ∙ c .before .before .before .before .before .before .note-leaders .ensures .1 .size ∙ rows-kept d .size ∙ kept (done d) .size
+same-length c = let d = c .before .before .before .before .before .before .before .before .before .before in c .before .before .note-orders .ensures .size ∙ c .before .before .before .before .before .before .note-leaders .ensures .1 .size ∙ rows-kept d .size ∙ kept (done d) .size
 
 returns : tie.Need-returns Inv-loop μ-loop
 returns c =
@@ -131,7 +134,7 @@ returns c =
     let n = n d in
     let loop = turn .loop in
     let led = c .before .before .before .before .before .before .note-leaders .ensures in
-    let orders = c .before .before .note-orders .ensures .1 in
+    let orders = c .before .before .note-orders .ensures in
     let all : loop .c ≡ n = omega arith in (
       linked (ready-size (start d .pre .0 .ready)) (summarized d) (free d)
           (subst (λ (m : ℕ). Joins f (cleared d) (loop .work) n (solverAt n) (λ r k. any (returnsTo f r k) (upTo m))) all (loop .inv .joins)) (e .note-rows .ensures) (led .1) (led .0) orders,

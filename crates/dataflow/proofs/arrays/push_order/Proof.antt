@@ -10,7 +10,6 @@ use Rattle.flow.specs.declared.Base.{Base}
 use Rattle.flow.specs.declared.Base.the-variants.{N}
 use Rattle.flow.specs.Format.{flowOf}
 use Rattle.theory.specs.Doubled.{at, numberIn}
-use Rattle.statements.specs.contracts.Layout.{queueAt}
 use Rattle.statements.proofs.WorkArea.{queue-below}
 use Rattle.statements.proofs.Keeps.{ready-most, ready-size, ready-formed, ready-below}
 use Rattle.calls.specs.contracts.Orders.{order, ListOf}
@@ -27,7 +26,7 @@ use Rattle.dataflow.proofs.arrays.push_order.Tie as tie
 -- of every call whose order is the list at hand and which goes on at `back`
 abbrev Inv-loop : tie.InvT-loop
 Inv-loop file work₀ n width back p count queue₀ k₀ work queue k =
-    (b : Base) (i m : ℕ) → ListOf (flowOf file) work₀ n (queueAt n) i p count → m < n → back .0 ≡ numberIn n (at b m)
+    (b : Base) (i m : ℕ) → ListOf (flowOf file) work₀ n i p count → m < n → back .0 ≡ numberIn n (at b m)
     → Sending (flowOf file) work₀ work n width (edgeRow n width) queue₀ i (orderEdges (flowOf file) b i m) queue (drop k (orderEdges (flowOf file) b i m))
 
 abbrev μ-loop : tie.MeasureT-loop
@@ -54,7 +53,7 @@ entry-requires c κs =
 
 -- the statement at hand is entry k of the order
 entry-is : (c : tie.After-entry Inv-loop μ-loop) {i : ℕ} → let a = c .before .before .before .before .before .before .before .args in
-    ListOf (flowOf (now (a .file))) (now (a .work)) (a .n) (queueAt (a .n)) i (a .order .at) (a .order .count) → c .entry .result .0 ≡ getD (order (flowOf (now (a .file))) i) (c .before .before .before .loop .k) 0
+    ListOf (flowOf (now (a .file))) (now (a .work)) (a .n) i (a .order .at) (a .order .count) → c .entry .result .0 ≡ getD (order (flowOf (now (a .file))) i) (c .before .before .before .loop .k) 0
 entry-is c list = c .entry .ensures ∙ list-stays (sending (c .before .before .before) .sent .keeps) list .entries (c .before .before .before .loop .k) (omega (arith, list .count, c .before .before .loop-test .taken))
 
 below : (c : tie.After-entry Inv-loop μ-loop) → c .entry .result .0 < c .before .before .before .before .before .before .before .args .n

@@ -1,25 +1,29 @@
 -- `dataflow::arrays::send_call` meets its contract: the rows of the call's edges are made, and pushed along them.
 -- What is pushed is what the doubled graph's edges bring.
-use Prim.Native.Nat.{ℕ, _<_}
 use mathlib.Core.List.{List}
 use mathlib.Core.Option.{Option}
 use mathlib.Core.Path.{refl, sym, ap, subst}
 use native.Mathlib.Omega.{arith}
+use borrow.Author.Tests.{lt-ltb}
 use denote.Ref.{now}
+use lib.Dec.{ltb}
+use lib.ListN.{length}
 use Rattle.flow.specs.Format.{flowOf}
 use Rattle.records.proofs.Files.{limited}
+use Rattle.theory.specs.Body.{kind, callLines}
 use Rattle.theory.specs.Doubled.{Node, Edge}
+use Rattle.theory.proofs.Lists.{and-true}
 use Rattle.statements.specs.contracts.Layout.{queueAt}
 use Rattle.statements.specs.contracts.Ready.{Keeps}
 use Rattle.statements.proofs.Keeps.{keeps-widen}
-use Rattle.calls.specs.contracts.Held.{SeveralLines}
+use Rattle.calls.specs.contracts.Class.{transparentCall}
 use Rattle.calls.specs.contracts.Slots.{present}
 use Rattle.calls.proofs.Classes.{slots-call, call-says}
 use Rattle.solve.specs.contracts.Layout.{maskRowAt}
 use Rattle.dataflow.specs.contracts.Sent.{edgeRow, Sent}
 use Rattle.dataflow.proofs.Kept.{indexed-stays, ready-stays, linked-stays}
 use Rattle.dataflow.proofs.Sharing.{goes-sent}
-use Rattle.dataflow.proofs.Sends.{call-state, beside-waits, beside-shared, sends}
+use Rattle.dataflow.proofs.Sends.{beside-waits, beside-shared, sends}
 use borrow.Author.Needs.{needs}
 use Rattle.dataflow.proofs.arrays.send_call.Statement.{statement}
 use Rattle.dataflow.proofs.arrays.send_call.Tie as tie
@@ -44,15 +48,15 @@ push-call-requires c κs =
     let keeps = beside (c .before .before .before .before .before) in
     let linked = linked-stays keeps (s .pre .2) in
     let call = c .before .call-of .ensures in
+    let f = flowOf (now (s .args .file)) in
+    let i = s .args .i .0 in
     let most = limited (s .pre .1 .ready .fit) .arrays in (
       omega (arith, s .pre .0, ap (λ h. h .arrays) (s .pre .1 .header)),
       indexed-stays keeps (s .pre .1),
       s .pre .4,
       s .pre .6,
       call,
-      λ several.
-          let lines : SeveralLines (flowOf (now (s .args .file))) (rows .last .1 .1 .0) (s .args .h .statements) (s .args .i .0) = record { state = call-state (s .pre .7) linked (s .pre .6); several = subst (λ (k : ℕ). 1 < k) (call .lines) several } in
-          linked .orders (s .args .i .0) (s .pre .6) lines,
+      λ many. linked .orders i (s .pre .6) (and-true (transparentCall f i) (ltb 1 (length (callLines (kind f i)))) (s .pre .7) (lt-ltb 1 (length (callLines (kind f i))) (omega (arith, call .lines)))),
       (_, beside-waits (now (s .args .work)) (rows .last .1 .1 .0) (s .args .h .statements) (s .args .width) (rows .ensures .keeps) (s .pre .9 .1)),
     )
 
