@@ -575,7 +575,26 @@ fn largest() -> Vec<Case> {
     cases.push(Case::repeated("262,145 bytes, none of them right", vec![(52_429, b"xxxxx".to_vec())]));
     let spare = vec![(1, header(251, 1, 0)), (250, call(255, 255)), (1, call(255, 48)), end()];
     cases.push(Case::repeated("262,144 bytes, two after FE", [spare, vec![(2, b"F".to_vec())]].concat()));
+    cases.push(many_long_calls());
     cases
+}
+
+/// 445 calls that each enter 255 RETURNs, the last one first: the work area has no room to note that of
+/// the last 20 of them. The first goes on at the last 15.
+fn many_long_calls() -> Case {
+    let (calls, returns) = (445, 255);
+    let lines = (0..returns).rev().map(|i| 1_000 + i).collect();
+    let kind = Kind::OnGosub { lines, continuation: Some(calls) };
+    let successors: Vec<u16> = (calls - 15..calls).collect();
+    let call = record(&Statement::new(10, kind, &successors, &[0]));
+    let mut blocks = vec![(1, header(calls + returns, 2, 0)), (calls, call)];
+    blocks.push((returns, record(&Statement::new(20, Kind::Return, &[], &[]))));
+    for i in 0..returns {
+        let [line, statement] = [1_000 + i, calls + i].map(u16::to_le_bytes);
+        blocks.push((1, [b"FL".as_slice(), &line, &statement].concat()));
+    }
+    blocks.push((1, b"FE".to_vec()));
+    Case::repeated("445 calls of 255 lines", blocks)
 }
 
 /// Every row of the refusal table, its order, and each limit on both sides.

@@ -19,7 +19,7 @@ use Rattle.theory.specs.Body.{kind, successors, callLines, continuationOf, ente
 use Rattle.theory.specs.Doubled.{at}
 use Rattle.theory.proofs.Lists.{clash}
 use Rattle.statements.specs.contracts.Layout.{callsAt, rowAt}
-use Rattle.calls.specs.contracts.Held.{Linked, transparent, opaque}
+use Rattle.calls.specs.contracts.Held.{CallSummaries, Linked, transparent, opaque}
 use Rattle.calls.specs.contracts.Slots.{byKind, callSlots, returnSlots, listedSlots, slotsOf, slots}
 use Rattle.calls.specs.contracts.Class.{transparentCall, CallOf}
 use Rattle.calls.specs.declared.edges.Call.{Call}
@@ -91,17 +91,17 @@ no-call f i e = go (isReturn (kind f i)) refl
     go false h = rw (e, h) refl
 
 -- the state of the call says so
-pub call-state : {f : Flow} {ws : List ℕ} {n i : ℕ} → Linked f ws n → i < n → eqb (getD ws (callsAt n + i) 0) transparent ≡ transparentCall f i
+pub call-state : {f : Flow} {ws : List ℕ} {n i : ℕ} → CallSummaries f ws n → i < n → eqb (getD ws (callsAt n + i) 0) transparent ≡ transparentCall f i
 unfolding transparentCall
 call-state {f} {ws} {n} {i} h l = go (continuationOf (kind f i)) refl
   where
     go : (o : Option ℕ) → continuationOf (kind f i) ≡ o → eqb (getD ws (callsAt n + i) 0) transparent ≡ transparentCall f i
-    go none e = let free : getD ws (callsAt n + i) 0 ≡ 0 = h .calls .ordinary i l e in ne-eqb (getD ws (callsAt n + i) 0) transparent (λ q. omega arith) ∙ sym (no-call f i e)
+    go none e = let free : getD ws (callsAt n + i) 0 ≡ 0 = h .ordinary i l e in ne-eqb (getD ws (callsAt n + i) 0) transparent (λ q. omega arith) ∙ sym (no-call f i e)
     go (some k) e = at (opaqueCall f i) refl
       where
         at : (t : Bool) → opaqueCall f i ≡ t → eqb (getD ws (callsAt n + i) 0) transparent ≡ byKind f i false false (λ k. true) (continuationOf (kind f i))
-        at true q = ne-eqb (getD ws (callsAt n + i) 0) transparent (λ s. let is : getD ws (callsAt n + i) 0 ≡ opaque = h .calls .call i k l e ∙ ap (λ (t : Bool). cond t opaque transparent) q in omega arith) ∙ sym (rw (e, q) refl)
-        at false q = eq-eqb _ transparent (h .calls .call i k l e ∙ ap (λ (t : Bool). cond t opaque transparent) q) ∙ sym (rw (e, q) refl)
+        at true q = ne-eqb (getD ws (callsAt n + i) 0) transparent (λ s. let is : getD ws (callsAt n + i) 0 ≡ opaque = h .call i k l e ∙ ap (λ (t : Bool). cond t opaque transparent) q in omega arith) ∙ sym (rw (e, q) refl)
+        at false q = eq-eqb _ transparent (h .call i k l e ∙ ap (λ (t : Bool). cond t opaque transparent) q) ∙ sym (rw (e, q) refl)
 
 -- What a call's row holds
 

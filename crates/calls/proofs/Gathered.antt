@@ -19,7 +19,7 @@ use Rattle.words.specs.contracts.Row.{bit, has}
 use Rattle.words.specs.contracts.Change.{Inserted, without}
 use Rattle.words.proofs.Bit.{bit-of-zero, trailing-zero}
 use Rattle.words.proofs.Lowest.{lowest-lt, lowest-one, lowest-other}
-use Rattle.words.proofs.Row.{has-lt, has-both}
+use Rattle.words.proofs.Row.{has-lt, has-both, has-cong}
 use Rattle.flow.specs.Flow.{Flow, size}
 use Rattle.theory.specs.Lists.{any, elem, concatMap, upTo}
 use Rattle.theory.specs.Reach.{Reach}
@@ -30,13 +30,15 @@ use Rattle.theory.proofs.Lists.{clash, same-test, not-so, eqb-sym, says-one, an
 use Rattle.theory.proofs.Body.{entered-below, walked-sound, walked-complete}
 use Rattle.statements.specs.contracts.Layout.{callsAt, callTouchedAt, bodiesAt, matrixAt, rowAt, rowWords, queueAt, solverAt, returnsRowAt}
 use Rattle.statements.specs.contracts.Ready.{Keeps, MembersWord}
-use Rattle.statements.proofs.WorkArea.{member-word, row-from}
+use Rattle.statements.proofs.WorkArea.{member-word, row-from, row-fits}
 use Rattle.statements.proofs.Keeps.{keeps-has}
-use Rattle.calls.specs.contracts.Held.{WalkRow, Empty, EmptyRow, CallSummaries, Summarized, Leaders, Linked, transparent, opaque}
+use Rattle.calls.specs.contracts.Held.{WalkRow, Empty, EmptyRow, CallSummaries, Summarized, Leads, Leaders, Linked, transparent, opaque}
+use Rattle.calls.specs.contracts.Orders.{OrdersNoted}
 use Rattle.calls.specs.contracts.Joins.{Joins, Gains, Apart, Gathers, Adds, NotesCalls, Summary, BodyRows, ReturnSet, inWord, isShared, bodyOf, bodiesOf, fromBodies}
 use Rattle.calls.proofs.Joined.{joins-none, joins-then, joins-same, gains-none, gains-same, gains-insert, gains-then, gains-after, gains-joins, row-stays, adds-same, adds-all}
 use Rattle.calls.proofs.Summing.{walk-low, walk-kept}
 use Rattle.calls.proofs.BodySummary.{return-stays, return-ordinary}
+use Rattle.calls.proofs.Ordering.{orders-keep}
 
 -- A word, bit by bit
 
@@ -276,23 +278,33 @@ summary-kept {f} {n = n} {c = c} w z s js l = record {
   bodies = λ k e. rows-kept c w z js (λ b m other. s .walks c b l (rw e m) other);
 }
 
--- the edges are known once the leaders are noted too, which writes words of the bodies only
-pub linked : {f : Flow} {ws us vs ts : List ℕ} {n hi : ℕ} → size f ≡ n → Summarized f ws n → ((r : ℕ) → r < n → isReturn (kind f r) ≡ true → EmptyRow ws n r)
+-- the edges are known once the leaders are noted too, which writes words of the bodies only, and the orders of calls, which stand outside the rows
+pub linked : {f : Flow} {ws us vs ts qs : List ℕ} {n hi : ℕ} → size f ≡ n → Summarized f ws n → ((r : ℕ) → r < n → isReturn (kind f r) ≡ true → EmptyRow ws n r)
     → Joins f ws us n hi (λ r k. any (returnsTo f r k) (upTo n)) → NotesCalls f us vs n 0 n
-    → Keeps (bodiesAt n) (matrixAt n) vs ts → Leaders f ts n → Linked f ts n
-linked {f} {ws} {us} {vs} {ts} {n} z s free js ns k ls = record {
-  calls = summaries-kept (omega arith) k (summaries-kept (omega arith) (ns .kept) (summaries-kept (omega arith) (js .kept) (s .calls)));
-  bodies = λ c j l lj e. row c j ∙ ns .noted c j (omega arith) l lj (sym (k .below (callsAt n + c) (omega arith) ∙ ns .kept .below (callsAt n + c) (omega arith)) ∙ e);
+    → Keeps (bodiesAt n) (matrixAt n) vs ts → Leaders f ts n → OrdersNoted f ts qs n n → Linked f qs n
+linked {f} {ws} {us} {vs} {ts} {qs} {n} z s free js ns k ls o = record {
+  calls = summaries-kept (omega arith) (orders-keep o) (summaries-kept (omega arith) k (summaries-kept (omega arith) (ns .kept) (summaries-kept (omega arith) (js .kept) (s .calls))));
+  bodies = λ c j l lj e. row c j l lj ∙ ns .noted c j (omega arith) l lj (sym (state c l ∙ k .below (callsAt n + c) (omega arith) ∙ ns .kept .below (callsAt n + c) (omega arith)) ∙ e);
   returns = λ r j lr lj is.
       let goes : ℕ → ℕ = λ m. cond (any (returnsTo f r j) (upTo m)) 1 0 in
       let only : max 0 (goes n) ≡ goes n = omega arith in
-      row r j ∙ ns .others r j lr lj (λ a b e. no-call r lr is e)
+      row r j lr lj ∙ ns .others r j lr lj (λ a b e. no-call r lr is e)
       ∙ js .joined r j lr lj is ∙ ap (λ (x : ℕ). max x (goes n)) (free r lr is j lj) ∙ only ∙ ap goes (sym z);
-  leaders = ls;
+  leaders = λ r l is.
+      let y = ls r l is in
+      subst (λ (x : ℕ). Leads qs n r x) (sym (o .low (bodiesAt n + r) (omega arith)))
+      (record { below = y .below; same = λ j m. beside (getD ts (bodiesAt n + r) 0) j (y .below) m ∙ y .same j m ∙ sym (beside r j l m) });
+  orders = o .orders;
 }
   where
-    row : (e j : ℕ) → has ts (rowAt n e) j ≡ has vs (rowAt n e) j
-    row e j = keeps-has k (rowAt n e) j (λ a b. omega (arith, row-from n e))
+    state : (c : ℕ) → c < n → getD qs (callsAt n + c) 0 ≡ getD ts (callsAt n + c) 0
+    state c l = o .low (callsAt n + c) (omega arith)
+
+    beside : (e j : ℕ) → e < n → j < n → has qs (rowAt n e) j ≡ has ts (rowAt n e) j
+    beside e j l m = has-cong qs ts (rowAt n e) j (o .rows (rowAt n e + j / 64) (omega (arith, row-from n e)) (omega (arith, row-fits n l, member-word m)))
+
+    row : (e j : ℕ) → e < n → j < n → has qs (rowAt n e) j ≡ has vs (rowAt n e) j
+    row e j l m = beside e j l m ∙ keeps-has k (rowAt n e) j (λ a b. omega (arith, row-from n e))
 
     -- a RETURN is no transparent call
     no-call : (r : ℕ) → r < n → isReturn (kind f r) ≡ true → getD us (callsAt n + r) 0 ≡ transparent → ⊥

@@ -13,4 +13,7 @@ pub mod CallRows
 pub mod Gathered
 pub mod ReturnSet
 pub mod Leading
+pub mod Entries
+pub mod Listing
+pub mod Ordering
 pub mod Next

@@ -14,7 +14,7 @@ use Rattle.theory.specs.Lists.{In, elem, concatMap, upTo}
 use Rattle.theory.specs.Body.{kind, isReturn}
 use Rattle.theory.specs.contracts.WellFormed.{WellFormed}
 use Rattle.theory.proofs.Lists.{same-test, In-elem, elem-In, concatMap-In, In-concatMap, concatMap-append, upTo-In}
-use Rattle.statements.specs.contracts.Layout.{bodiesAt, rowWords, rowsEnd, rowAt, returnsRowAt}
+use Rattle.statements.specs.contracts.Layout.{bodiesAt, rowWords, rowsEnd, listWords, rowAt, returnsRowAt}
 use Rattle.statements.specs.contracts.Ready.{Ready, Keeps}
 use Rattle.statements.proofs.WorkArea.{row-words-le}
 use Rattle.statements.proofs.Keeps.{ready-room, keeps-has}
@@ -25,7 +25,7 @@ use Rattle.calls.proofs.Summing.{walk-low, walk-kept, callee-low}
 use Rattle.calls.proofs.Gathered.{summaries-kept}
 
 pub returns-room : {s ws : List ℕ} (n : ℕ) → Ready s ws n → returnsRowAt n + rowWords n ≤ length ws
-unfolding rowsEnd rowWords
+unfolding rowsEnd rowWords listWords
 returns-room zero r = omega arith
 returns-room (suc n) r = omega (arith, row-words-le (suc n), ready-room r (omega arith))
 

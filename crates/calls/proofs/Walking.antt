@@ -26,7 +26,7 @@ use Rattle.theory.specs.Body.{kind, successors, continuationOf, isReturn, orEls
 use Rattle.theory.proofs.Reach.{reach-below}
 use Rattle.statements.specs.contracts.Layout.{rowAt, rowWords, matrixAt, queueAt, enteredRowAt}
 use Rattle.statements.specs.contracts.Ready.{Keeps}
-use Rattle.statements.proofs.WorkArea.{member-word, row-from, row-fits, row-below, area-fits}
+use Rattle.statements.proofs.WorkArea.{member-word, row-from, row-fits, queue-below, area-fits}
 use Rattle.calls.specs.contracts.Held.{EmptyRow, OnlyRow, Walked}
 use Rattle.calls.specs.contracts.Walking.{met, Stack, Stacked, Entry, Met}
 
@@ -257,8 +257,8 @@ walking-first {f} {ws} {vs} {n} {e} {height} s l empty m = record {
 }
 
 -- the stack stands within the area
-pub stack-fits : {ws : List ℕ} {n e top : ℕ} → Stack ws n e top → queueAt n + top ≤ 39 * n
-stack-fits {ws} {n} {e} s = omega (arith, s .high, met-le ws n e, row-below (s .area .few) (le-refl n))
+pub stack-fits : {ws : List ℕ} {n e top : ℕ} → Stack ws n e top → queueAt n + top ≤ 49 * n
+stack-fits {ws} {n} {e} s = omega (arith, s .high, met-le ws n e, queue-below (s .area .few))
 
 pub stack-less : {ws : List ℕ} {n e top up : ℕ} → up ≡ suc top → Stack ws n e up → Stack ws n e top
 stack-less q s = record { area = s .area; high = let h = s .high in omega arith }

@@ -1,4 +1,5 @@
 -- What the functions of this crate promise one another and their callers. No promise of a door cites it.
+pub mod Orders
 pub mod Held
 pub mod Walking
 pub mod Summing

@@ -11,6 +11,7 @@ pub const OPAQUE: u64 = 3;
 
 pub mod edges;
 pub mod leaders;
+pub mod orders;
 pub mod returns;
 mod rows;
 pub mod summary;

@@ -12,6 +12,7 @@ ghost use Rattle.calls.specs.contracts.Held.{Area, Summarized, Linked};
 ghost use Rattle.calls.specs.contracts.Joins.{Joins, Gains, Apart, Gathers, Adds, Summary, BodyRows, ReturnSet, ifReturn, inWord, isShared, fromBodies};
 use crate::OPAQUE;
 use crate::leaders;
+use crate::orders;
 use crate::rows;
 use flow::StmtId;
 use statements::fields;
@@ -127,7 +128,7 @@ fn note_call(file: &[u8], h: flow::Header, work: &mut [u64], c: StmtId)
 }
 
 // Notes what the edges are made from: first where each RETURN goes, then, since no walk is needed any more, in the row of each call that is not
-// opaque the statements that it enters, and which RETURNs go to the same continuations.
+// opaque the statements that it enters, which RETURNs go to the same continuations, and in which order calls of several lines enter statements.
 pub fn note_edges(file: &[u8], h: flow::Header, work: &mut [u64])
     requires { ⌜ Indexed (now file) h (now work) × Summarized (flowOf (now file)) (now work) (h .statements) ⌝ }
     ensures { λ _. ⌜ Linked (flowOf (now (file .entry))) (now (work .exit)) (h .statements) ⌝ }
@@ -143,4 +144,5 @@ pub fn note_edges(file: &[u8], h: flow::Header, work: &mut [u64])
     }
     rows::note_rows(file, h, work);
     leaders::note_leaders(file, work, n);
+    orders::note_orders(file, h, work);
 }

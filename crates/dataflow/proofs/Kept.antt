@@ -1,4 +1,4 @@
--- What the solver leaves alone: the calls' summaries and the rows of the RETURNs and of the calls lie outside the words that it writes.
+-- What the solver leaves alone: the calls' summaries, the rows of the RETURNs and of the calls, and the calls' orders lie outside the words that it writes.
 -- By the layout of the work area.
 use Prim.Native.Nat.{ℕ, _+_, _/_, _<_, _≤_}
 use mathlib.Core.List.{List}
@@ -8,14 +8,16 @@ use lib.ListN.{length, getD}
 use Rattle.words.specs.contracts.Row.{has}
 use Rattle.flow.specs.declared.Header.{Header}
 use Rattle.flow.specs.Flow.{Flow, size}
-use Rattle.statements.specs.contracts.Layout.{callsAt, bodiesAt, rowAt, queueAt}
+use Rattle.statements.specs.contracts.Layout.{callsAt, bodiesAt, touchedAt, rowAt, queueAt}
 use Rattle.statements.specs.contracts.Ready.{Ready, Indexed, Keeps}
 use Rattle.statements.proofs.WorkArea.{row-from, row-fits, member-word}
 use Rattle.statements.proofs.Keeps.{keeps-has, ready-keeps, indexed-keeps}
 use Rattle.calls.specs.declared.edges.Call.{Call}
 use Rattle.calls.specs.contracts.Class.{CallOf}
 use Rattle.calls.specs.contracts.Held.{Leads, Linked}
+use Rattle.calls.specs.contracts.Orders.{listsEnd, ListOf, OrderOf}
 use Rattle.calls.proofs.Gathered.{summaries-kept}
+use Rattle.calls.proofs.Ordering.{list-to, list-kept, order-kept}
 
 -- the words from the queue on are the solver's
 pub queue-above : (n : ℕ) → n + n + n + n + n ≤ queueAt n
@@ -25,6 +27,14 @@ pub indexed-stays : {s ws vs : List ℕ} {h : Header} {hi : ℕ} → Keeps (queu
 indexed-stays {h = h} k x = let above = queue-above (h .statements) in indexed-keeps x k (omega arith)
 
 module _ {ws vs : List ℕ} {n hi : ℕ} (k : Keeps (queueAt n) hi ws vs) where
+  -- a noted order and its list stand before the queue
+
+  pub list-stays : {f : Flow} {c p m : ℕ} → ListOf f ws n c p m → ListOf f vs n c p m
+  list-stays x = list-kept (λ y b. k .below y b) x
+
+  pub order-stays : {f : Flow} {c : ℕ} → c < n → OrderOf f ws n c → OrderOf f vs n c
+  order-stays {f} {c} l x = order-kept (k .below (touchedAt n + c) (omega (arith, row-from n n))) (λ e y a b. k .below y (omega (arith, list-to f n (listsEnd f n c) c e))) x
+
   pub linked-stays : {f : Flow} → Linked f ws n → Linked f vs n
   linked-stays {f} x =
       let h = queue-above n in
@@ -38,6 +48,7 @@ module _ {ws vs : List ℕ} {n hi : ℕ} (k : Keeps (queueAt n) hi ws vs) where
             let y = x .leaders r l e in
             subst (λ (z : ℕ). Leads vs n r z) (sym (k .below (bodiesAt n + r) (omega arith)))
             (record { below = y .below; same = λ j m. row (getD ws (bodiesAt n + r) 0) j (y .below) m ∙ y .same j m ∙ sym (row r j l m) });
+        orders = λ c l s. order-stays l (x .orders c l s);
       }
 
   pub ready-stays : {s : List ℕ} → Ready s ws n → Ready s vs n

@@ -12,7 +12,7 @@ pub mod Running
 pub mod NotedRows
 pub mod MaskBytes
 pub mod Members
-pub mod Covered
+pub mod Ordered
 pub mod Phases
 pub mod Promised
 pub mod Told

@@ -9,7 +9,7 @@ use mathlib.Core.Path.{_≡_, ap, ap₂, sym, _∙_, subst}
 use lib.Bits.{bitOr}
 use lib.ListN.{length, getD}
 use Rattle.words.specs.contracts.Change.{zeroed}
-use Rattle.words.proofs.Zeroed.{length-zeroed, zeroed-word, zeroed-other}
+use Rattle.words.proofs.Zeroed.{length-zeroed, zeroed-run, zeroed-other}
 use Rattle.flow.specs.declared.Header.{Header}
 use Rattle.flow.specs.Flow.{size}
 use Rattle.flow.specs.Format.{flowOf, lineCount}
@@ -69,14 +69,13 @@ module _ {s : List ℕ} {h : Header} where
     unfolding cleared first
     low x l m =
         ap (λ v. getD v x 0) c ∙ zeroed-other first (edgesEnd n) (areaEnd n w - edgesEnd n) x (λ k b e. omega (arith, area.row-from n n))
-        ∙ subst (λ (y : ℕ). getD first y 0 ≡ 0) (omega arith) (zeroed-word ws (linesAt n) (matrixAt n - linesAt n) (omega (arith, flow-fit .work-room)) (x - linesAt n) (omega arith))
+        ∙ zeroed-run ws (linesAt n) (matrixAt n) x (omega (arith, flow-fit .work-room)) l m
 
     high : (x : ℕ) → edgesEnd n ≤ x → x < areaEnd n w → getD cs x 0 ≡ 0
     unfolding cleared first
     high x l m =
         ap (λ v. getD v x 0) c
-        ∙ subst (λ (y : ℕ). getD (zeroed first (edgesEnd n) (areaEnd n w - edgesEnd n)) y 0 ≡ 0) (omega arith)
-        (zeroed-word first (edgesEnd n) (areaEnd n w - edgesEnd n) (omega (arith, fits, edges-within n w, length-zeroed ws (linesAt n) (matrixAt n - linesAt n))) (x - edgesEnd n) (omega arith))
+        ∙ zeroed-run first (edgesEnd n) (areaEnd n w) x (omega (arith, fits, length-zeroed ws (linesAt n) (matrixAt n - linesAt n))) l m
 
     pub room-fits : 0 + n ≤ length cs
     room-fits = omega (arith, same-size, flow-fit .work-room)
@@ -140,9 +139,7 @@ linked {s} {h} {ws} {vs} {us} begun some l k c =
     resets = keeps-zeroed vs queue (end - queue) (omega arith) (omega arith)
 
     zeros : (x : ℕ) → queue ≤ x → x < areaEnd (h .statements) (setWords (h .arrays)) → Dec (x < end) → getD (zeroed vs queue (end - queue)) x 0 ≡ 0
-    zeros x a b (yes m) =
-        subst (λ y. getD (zeroed vs queue (end - queue)) y 0 ≡ 0) (omega arith)
-        (zeroed-word vs queue (end - queue) (omega (arith, used-room (indexed′ .ready) some)) (x - queue) (omega arith))
+    zeros x a b (yes m) = zeroed-run vs queue end x (omega (arith, used-room (indexed′ .ready) some)) a m
     zeros x a b (no m) =
         zeroed-other vs queue (end - queue) x (λ j y z. m (omega arith)) ∙ k .above x (omega (arith, m)) ∙ begun .zero x (omega (arith, m)) b
 

@@ -2,7 +2,7 @@
 -- and the rows of the edges stay as they are on the way. A target that holds the row of its edge needs only to wait.
 use Prim.Native.Nat.{ℕ, _+_, _*_, _≤_, _<_}
 use mathlib.Core.Bool.{Bool, true, false, cond}
-use mathlib.Core.List.{List, [], _∷_, _++_, map, map-append, append-nil, append-assoc, List·Memᴰ·head, List·Memᴰ·tail}
+use mathlib.Core.List.{List, [], _∷_, _++_, map, map-append, append-nil, append-assoc}
 use mathlib.Core.Logic.{_≢_, _⊎_, inl, inr}
 use mathlib.Core.Path.{_≡_, refl, sym, ap, ap₂, subst, _∙_}
 use native.Mathlib.Decide.{ℕ-discrete}
@@ -13,13 +13,16 @@ use lib.Dec.{eqb}
 use Rattle.flow.specs.declared.Base.{Base}
 use Rattle.flow.specs.declared.Base.the-variants.{Zero, N}
 use Rattle.flow.specs.Flow.{Flow, size}
-use Rattle.theory.specs.Lists.{In, differ}
+use Rattle.flow.specs.Format.{flowOf}
+use Rattle.theory.specs.Lists.{differ}
 use Rattle.theory.specs.Queue.{Arc, join, enqueue}
 use Rattle.theory.specs.Doubled.{Edge, at, number, numberIn}
 use Rattle.theory.proofs.Push.{differ-chain}
 use Rattle.statements.specs.contracts.Layout.{queueAt}
-use Rattle.statements.specs.contracts.Ready.{Keeps}
-use Rattle.statements.proofs.Keeps.{keeps-refl, keeps-trans}
+use Rattle.statements.specs.contracts.Ready.{Ready, Keeps}
+use Rattle.statements.proofs.Keeps.{keeps-refl, keeps-trans, ready-formed, ready-below}
+use Rattle.calls.specs.declared.edges.Call.{Call}
+use Rattle.calls.specs.contracts.Class.{CallOf}
 use Rattle.calls.specs.contracts.Slots.{toArc}
 use Rattle.calls.proofs.Slots.{or-assoc}
 use Rattle.solve.specs.declared.Queue.{Queue}
@@ -29,9 +32,8 @@ use Rattle.solve.specs.contracts.Waiting.{Waits, Enqueued}
 use Rattle.solve.specs.contracts.Pushed.{masksAt, Source, Pushed}
 use Rattle.solve.proofs.Room.{row-first}
 use Rattle.solve.proofs.Masks.{mask-cong, differ-as}
-use Rattle.solve.proofs.Waiting.{rest-refl, waits-again}
 use Rattle.solve.proofs.Growing.{pushed}
-use Rattle.dataflow.specs.contracts.Sent.{edgeRow, Sources, carried, SettledSet, Sent, Held}
+use Rattle.dataflow.specs.contracts.Sent.{edgeRow, Sources, carried, SettledSet, Sent}
 use Rattle.dataflow.proofs.Unions.{or-between, differ-self, cond-or}
 
 -- The rows that edges carry
@@ -144,6 +146,10 @@ pub copy-below : (n : ℕ) (b : Base) {j : ℕ} → j < n → numberIn n (at b j
 copy-below n Zero l = omega arith
 copy-below n N l = omega arith
 
+-- a call goes on at a statement
+pub back-below : {s ws : List ℕ} {n i : ℕ} {x : Call} → Ready s ws n → CallOf (flowOf s) ws i x → x .continuation .0 < n
+back-below {i = i} {x = x} r c = ready-below r (ready-formed r .continuation i (x .continuation .0) (c .continues))
+
 -- some edges, and then others
 module _ {f : Flow} {ws us vs : List ℕ} {n w i : ℕ} {from : Bool → ℕ} {first queue r : Queue} {xs ys : List Edge} (s : Sent f ws us n w from first i xs queue) (p : Sent f us vs n w from queue i ys r) where
   both-mask : (t a : ℕ) → t < 2 * n → a < 64 * w → masksAt vs n w t a ≡ bitOr (masksAt ws n w t a) (carried f ws w from (xs ++ ys) t a)
@@ -202,9 +208,7 @@ module _ {f : Flow} {ws : List ℕ} {n w i : ℕ} {from : Bool → ℕ} {first :
     sending-all e =
         subst (λ (xs : List Edge). Sent f ws vs n w from first i xs queue) (sym (append-nil (s .done)) ∙ sym (ap (λ (xs : List Edge). s .done ++ xs) e) ∙ s .rest) (s .sent)
 
--- A target that holds the row of its edge
-
--- needs only to wait
+-- A target that holds the row of its edge needs only to wait
 pub held-joined : {ws vs : List ℕ} {n w from d : ℕ} {queue r : Queue} → d < 2 * n → ((a : ℕ) → a < 64 * w → bitOr (masksAt ws n w d a) (maskAt ws w from a) ≡ masksAt ws n w d a)
     → Enqueued ws vs n w queue d r → Pushed ws vs n w queue from d r
 held-joined {ws} {vs} {n} {w} {from} {d} {queue} {r} below holds y =
@@ -216,13 +220,3 @@ held-joined {ws} {vs} {n} {w} {from} {d} {queue} {r} below holds y =
       keeps = keeps-refl;
     })
     y
-
--- and if it waits, nothing changes
-held-pushed : {ws : List ℕ} {n w from d : ℕ} {queue : Queue} → d < 2 * n → Held ws n w from d → Pushed ws ws n w queue from d queue
-held-pushed below h = held-joined below (h .masks) (record { waits = λ l k. waits-again k below (h .waits); kept = rest-refl })
-
-pub sent-held : {f : Flow} {ws : List ℕ} {n w i : ℕ} {from : Bool → ℕ} {queue : Queue} → Sources n w from → (xs : List Edge)
-    → ((x : Edge) → In x xs → (number f (x .to) < 2 * n) × Held ws n w (from (x .continues)) (number f (x .to))) → Sent f ws ws n w from queue i xs queue
-sent-held {f} sources [] h = sent-none
-sent-held {f} sources (x ∷ xs) h =
-    sent-append (sent-one f x sources (held-pushed (h x (List·Memᴰ·head refl) .0) (h x (List·Memᴰ·head refl) .1))) (sent-held sources xs (λ y m. h y (List·Memᴰ·tail m)))

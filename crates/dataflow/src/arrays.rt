@@ -4,8 +4,10 @@ ghost use mathlib.Core.Bool.{true, false};
 ghost use mathlib.Core.List.{List};
 ghost use mathlib.Core.Path.{_≡_};
 ghost use Prim.Native.Nat.{ℕ, _*_, _<_, _≤_};
+ghost use lib.Dec.{eqb};
 ghost use lib.ListN.{getD};
 ghost use Rattle.flow.specs.declared.Base.the-variants.{Zero};
+ghost use Rattle.flow.specs.Limits.{maxStatements};
 ghost use Rattle.flow.specs.Format.{flowOf};
 ghost use Rattle.theory.specs.Lists.{optionList};
 ghost use Rattle.theory.specs.Body.{kind, callLines, isReturn};
@@ -14,17 +16,19 @@ ghost use Rattle.statements.specs.contracts.Layout.{queueAt, setWords, maxWidth
 ghost use Rattle.statements.specs.contracts.Ready.{Ready, Indexed, RecordOf, Keeps};
 ghost use Rattle.calls.specs.contracts.Held.{Linked};
 ghost use Rattle.calls.specs.contracts.Class.{transparentCall, CallOf};
+ghost use Rattle.calls.specs.contracts.Orders.{ListOf, OrderOf};
 ghost use Rattle.calls.specs.contracts.Slots.{present, listedSlots, returnSlots, lineSlot, lineSlots, otherSlot, otherSlots, callSlots, slots};
 ghost use Rattle.solve.specs.contracts.Layout.{areaEnd};
 ghost use Rattle.solve.specs.contracts.Waiting.{Waits};
 ghost use Rattle.solve.specs.contracts.Pushed.{Source};
 ghost use Rattle.dataflow.specs.contracts.Sent.{edgeRow, Sent, Shared, MembersHold, Goes, Sends};
 ghost use Rattle.dataflow.specs.contracts.Solving.{Underway, VisitsFront, Unused, RuleResult};
-use crate::held;
 use crate::transfer;
 use calls::edges;
 use calls::edges::Call;
 use calls::leaders;
+use calls::orders;
+use calls::orders::Order;
 use flow::Base;
 use flow::KIND_RETURN;
 use flow::LineEntry;
@@ -131,6 +135,17 @@ fn push_return(
     join_members(file, work, n, width, first, i, from)
 }
 
+// Where the row stands that a call sends to t, if it goes on at `back`.
+fn call_row(n: usize, width: usize, t: NodeId, back: NodeId) -> usize
+    requires { ⌜ (n ≤ maxStatements) × (width ≤ maxWidth) ⌝ }
+    ensures { λ r. ⌜ r ≡ edgeRow n width (eqb (t .0) (back .0)) ⌝ }
+{
+    if t.0 == back.0 {
+        return layout::back_row(n, width);
+    }
+    layout::out_row(n, width)
+}
+
 // The row of the call i goes to the statement that its line l enters, if any.
 fn push_line(
     file: &[u8],
@@ -151,7 +166,7 @@ fn push_line(
     match edges::line_entered(file, h, work, i, place, call, l) {
         LineEntry::At(b) => {
             let t = node(n, Base::N, b);
-            let from = held::call_row(n, width, t, node(n, base, call.continuation));
+            let from = call_row(n, width, t, node(n, base, call.continuation));
             push::push(work, n, width, queue, from, t)
         }
         LineEntry::Nothing => queue,
@@ -183,8 +198,35 @@ fn push_each_line(
     queue
 }
 
-// The same. Of a call that names several lines the statements that they enter are asked first, in the order of its row: mostly all of them wait and hold what the call
-// would send.
+// The same, by the order that is noted of the call: no line is looked up.
+fn push_order(
+    file: &[u8],
+    work: &mut [u64],
+    n: usize,
+    width: usize,
+    first: Queue,
+    base: Base,
+    i: StmtId,
+    call: Call,
+    order: Order,
+) -> Queue
+    requires { ⌜ (width ≤ maxWidth) × Ready (now file) (now work) n × (i .0 < n) × CallOf (flowOf (now file)) (now work) (i .0) call × ListOf (flowOf (now file)) (now work) n (i .0) (order .at) (order .count) × ((l : List ℕ) × Waits (now work) n width first l) ⌝ }
+    ensures { λ r. ⌜ Sent (flowOf (now (file .entry))) (now (work .entry)) (now (work .exit)) n width (edgeRow n width) first (i .0) (present (lineSlots (flowOf (now (file .entry))) base (i .0) (call .continuation .0))) r ⌝ }
+{
+    let back = node(n, base, call.continuation);
+    let at = order.at;
+    let count = order.count;
+    let mut queue = first;
+    let mut k = 0;
+    while k < count {
+        let t = node(n, Base::N, orders::entry(work, at, k));
+        queue = push::push(work, n, width, queue, call_row(n, width, t, back), t);
+        k += 1;
+    }
+    queue
+}
+
+// The same. Of a call that names several lines the order of what they enter is noted, if there was room for it.
 fn push_lines(
     file: &[u8],
     h: flow::Header,
@@ -196,13 +238,14 @@ fn push_lines(
     place: usize,
     call: Call,
 ) -> Queue
-    requires { ⌜ (width ≤ maxWidth) × Indexed (now file) h (now work) × RecordOf (now file) (i .0) place × (i .0 < h .statements) × CallOf (flowOf (now file)) (now work) (i .0) call × ((l : List ℕ) × Waits (now work) (h .statements) width first l) ⌝ }
+    requires { ⌜ (width ≤ maxWidth) × Indexed (now file) h (now work) × RecordOf (now file) (i .0) place × (i .0 < h .statements) × CallOf (flowOf (now file)) (now work) (i .0) call × (1 < call .lines → OrderOf (flowOf (now file)) (now work) (h .statements) (i .0)) × ((l : List ℕ) × Waits (now work) (h .statements) width first l) ⌝ }
     ensures { λ r. ⌜ Sent (flowOf (now (file .entry))) (now (work .entry)) (now (work .exit)) (h .statements) width (edgeRow (h .statements) width) first (i .0) (present (lineSlots (flowOf (now (file .entry))) base (i .0) (call .continuation .0))) r ⌝ }
 {
     let n = h.statements;
     if 1 < call.lines {
-        if held::all_hold(work, n, width, call.row, node(n, base, call.continuation)) {
-            return first;
+        let order = orders::order_of(work, n, i);
+        if order.at != 0 {
+            return push_order(file, work, n, width, first, base, i, call, order);
         }
     }
     push_each_line(file, h, work, width, first, base, i, place, call)
@@ -273,7 +316,7 @@ fn push_call(
     place: usize,
     call: Call,
 ) -> Queue
-    requires { ⌜ (width ≤ maxWidth) × Indexed (now file) h (now work) × RecordOf (now file) (i .0) place × (i .0 < h .statements) × CallOf (flowOf (now file)) (now work) (i .0) call × ((l : List ℕ) × Waits (now work) (h .statements) width first l) ⌝ }
+    requires { ⌜ (width ≤ maxWidth) × Indexed (now file) h (now work) × RecordOf (now file) (i .0) place × (i .0 < h .statements) × CallOf (flowOf (now file)) (now work) (i .0) call × (1 < call .lines → OrderOf (flowOf (now file)) (now work) (h .statements) (i .0)) × ((l : List ℕ) × Waits (now work) (h .statements) width first l) ⌝ }
     ensures { λ r. ⌜ Sent (flowOf (now (file .entry))) (now (work .entry)) (now (work .exit)) (h .statements) width (edgeRow (h .statements) width) first (i .0) (present (callSlots (flowOf (now (file .entry))) base (i .0) (call .continuation .0))) r ⌝ }
 {
     let n = h.statements;

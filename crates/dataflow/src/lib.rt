@@ -1,7 +1,6 @@
 // `array_states`, live names and names certainly written: the answers to a flow file.
 pub mod arrays;
 pub mod door;
-pub mod held;
 pub mod names;
 pub mod transfer;
 pub mod write;

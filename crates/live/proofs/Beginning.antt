@@ -11,7 +11,7 @@ use native.Mathlib.Omega.{arith}
 use lib.ListN.{length, getD}
 use Rattle.words.specs.contracts.Row.{has}
 use Rattle.words.specs.contracts.Change.{zeroed}
-use Rattle.words.proofs.Zeroed.{zeroed-word}
+use Rattle.words.proofs.Zeroed.{length-zeroed, zeroed-other, zeroed-run}
 use Rattle.flow.specs.Flow.{Flow}
 use Rattle.flow.specs.Format.{flowOf}
 use Rattle.theory.specs.Lists as lists
@@ -21,7 +21,7 @@ use Rattle.theory.specs.Queue.{join}
 use Rattle.theory.specs.Live.{bitOf}
 use Rattle.theory.proofs.Lists.{clash}
 use Rattle.theory.proofs.Enqueue.{join-keeps, join-adds, join-cases}
-use Rattle.statements.specs.contracts.Layout.{rowAt, matrixAt}
+use Rattle.statements.specs.contracts.Layout.{rowAt, matrixAt, listsAt, queueAt}
 use Rattle.statements.specs.contracts.Ready.{Keeps}
 use Rattle.statements.proofs.WorkArea.{row-from, row-fits, member-word}
 use Rattle.statements.proofs.Keeps.{keeps-refl, keeps-trans, keeps-widen, keeps-zeroed}
@@ -49,24 +49,33 @@ pub record Beginning (f : Flow) (n : ℕ) (ws₀ ws ins₀ ins outs₀ outs : Li
   pub out-area : Keeps 0 n outs₀ outs
 
 -- the words of the worklist are zeroed
-module _ (ws : List ℕ) (n : ℕ) {vs : List ℕ} (fits : nodesEnd n 0 ≤ length ws) (e : vs ≡ zeroed ws (matrixAt n) (nodesEnd n 0 - matrixAt n)) where
-  cleared-word : (x : ℕ) → matrixAt n ≤ x → x < nodesEnd n 0 → getD vs x 0 ≡ 0
-  cleared-word x l m =
-      let here : matrixAt n + (x - matrixAt n) ≡ x = omega arith in
-      ap (λ z. getD z x 0) e
-      ∙ subst (λ z. getD (zeroed ws (matrixAt n) (nodesEnd n 0 - matrixAt n)) z 0 ≡ 0) here
-      (zeroed-word ws (matrixAt n) (nodesEnd n 0 - matrixAt n) (omega (arith, row-from n n)) (x - matrixAt n) (omega (arith, row-from n n)))
+module _ (ws : List ℕ) (n : ℕ) {vs : List ℕ} (fits : nodesEnd n 0 ≤ length ws) (e : vs ≡ zeroed (zeroed ws (matrixAt n) (listsAt n - matrixAt n)) (queueAt n) (nodesEnd n 0 - queueAt n)) where
+  rows-zeroed : List ℕ
+  rows-zeroed = zeroed ws (matrixAt n) (listsAt n - matrixAt n)
+
+  row-word : (x : ℕ) → matrixAt n ≤ x → x < listsAt n → getD vs x 0 ≡ 0
+  unfolding rows-zeroed
+  row-word x l m =
+      ap (λ z. getD z x 0) e ∙ zeroed-other rows-zeroed (queueAt n) (nodesEnd n 0 - queueAt n) x (λ k b q. omega arith) ∙ zeroed-run ws (matrixAt n) (listsAt n) x (omega arith) l m
+
+  queue-word : (x : ℕ) → queueAt n ≤ x → x < nodesEnd n 0 → getD vs x 0 ≡ 0
+  unfolding rows-zeroed
+  queue-word x l m =
+      ap (λ z. getD z x 0) e ∙ zeroed-run rows-zeroed (queueAt n) (nodesEnd n 0) x (omega (arith, length-zeroed ws (matrixAt n) (listsAt n - matrixAt n))) l m
 
   pub cleared-kept : Keeps (matrixAt n) (nodesEnd n 0) ws vs
-  cleared-kept = subst (λ z. Keeps (matrixAt n) (nodesEnd n 0) ws z) (sym e) (keeps-zeroed ws (matrixAt n) (nodesEnd n 0 - matrixAt n) (le-refl _) (omega (arith, row-from n n)))
+  unfolding rows-zeroed
+  cleared-kept =
+      subst (λ z. Keeps (matrixAt n) (nodesEnd n 0) ws z) (sym e)
+      (keeps-trans (keeps-zeroed ws (matrixAt n) (listsAt n - matrixAt n) (le-refl _) (omega (arith, row-from n n))) (keeps-zeroed rows-zeroed (queueAt n) (nodesEnd n 0 - queueAt n) (omega (arith, row-from n n)) (omega arith)))
 
   pub beginning-none : {f : Flow} {ins outs : List ℕ} → 0 < n → Sound f n ins → Beginning f n vs vs ins ins outs outs (record { head = 0; len = 0 }) n
   unfolding lists.elem
   beginning-none p sound = record {
     low = le-refl n;
     noted = λ k l m. absurd (omega arith);
-    free = λ k l j m. zero-has vs (rowAt n j) k (cleared-word (rowAt n j + k / 64) (omega (arith, row-from n j)) (omega (arith, row-fits n m, member-word l)));
-    held = ([], waits-none p (λ d m. ap (λ z. z % 2) (cleared-word (stateAt n 0 d) (omega (arith, row-from n n)) (omega (arith, rows.row-fits n 0 m)))), solving-none sound);
+    free = λ k l j m. zero-has vs (rowAt n j) k (row-word (rowAt n j + k / 64) (omega (arith, row-from n j)) (omega (arith, row-fits n m, member-word l)));
+    held = ([], waits-none p (λ d m. ap (λ z. z % 2) (queue-word (stateAt n 0 d) (omega arith) (omega (arith, rows.row-fits n 0 m)))), solving-none sound);
     kept = keeps-refl;
     in-area = keeps-refl;
     out-area = keeps-refl;

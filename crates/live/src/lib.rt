@@ -7,7 +7,7 @@ ghost use lib.ListN.{length};
 ghost use Rattle.flow.specs.Limits.{maxStatements};
 ghost use Rattle.flow.specs.Format.{flowOf};
 ghost use Rattle.words.specs.contracts.Change.{zeroed};
-ghost use Rattle.statements.specs.contracts.Layout.{matrixAt};
+ghost use Rattle.statements.specs.contracts.Layout.{matrixAt, listsAt, queueAt};
 ghost use Rattle.statements.specs.contracts.Ready.{Ready};
 ghost use Rattle.solve.specs.contracts.Layout.{nodesEnd};
 ghost use Rattle.solve.specs.contracts.Waiting.{Waits};
@@ -100,13 +100,15 @@ fn visit(
     push_live(work, live_out, n, queue, j, live)
 }
 
-// The words that the worklist counts on: the matrix, the queue and those of the numbers that wait.
+// The words that the worklist counts on: the matrix, and behind the lists of calls the queue and those of the numbers that wait.
 fn clear(work: &mut [u64], n: usize)
     requires { ⌜ (n ≤ maxStatements) × (nodesEnd n 0 ≤ length (now work)) ⌝ }
-    ensures { λ _. ⌜ now (work .exit) ≡ zeroed (now (work .entry)) (matrixAt n) (nodesEnd n 0 - matrixAt n) ⌝ }
+    ensures { λ _. ⌜ now (work .exit) ≡ zeroed (zeroed (now (work .entry)) (matrixAt n) (listsAt n - matrixAt n)) (queueAt n) (nodesEnd n 0 - queueAt n) ⌝ }
 {
     let matrix = layout::matrix(n);
-    words::zero_row(work, matrix, solve::layout::nodes_end(n, 0) - matrix);
+    words::zero_row(work, matrix, layout::lists(n) - matrix);
+    let queue = layout::queue(n);
+    words::zero_row(work, queue, solve::layout::nodes_end(n, 0) - queue);
 }
 
 // Statement i is settled; if its live-in changed, it waits.

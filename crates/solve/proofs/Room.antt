@@ -1,5 +1,5 @@
 -- The words of the doubled numbers and the rows of what was sent lie one behind the other, and all of them fit into the work area that refusal 10 asks for.
--- By the laws of products, and the bound on n, which makes a row of the matrix at most 32 words.
+-- By the laws of products, and the place of the queue.
 use Prim.Native.Nat.{ℕ, _+_, _*_, _≤_, _<_}
 use native.Mathlib.Decide.{decLt}
 use native.Mathlib.Nat.{le-refl, mul-zero, mul-suc, mul-le-mul-left, mul-le-mul-right}
@@ -12,7 +12,7 @@ use Rattle.flow.specs.Limits.{maxStatements, workWords}
 use Rattle.statements.specs.contracts.Layout.{maxWidth, queueAt}
 use Rattle.statements.specs.contracts.Ready.{Ready}
 use Rattle.statements.proofs.Keeps.{ready-most}
-use Rattle.statements.proofs.WorkArea.{row-below}
+use Rattle.statements.proofs.WorkArea.{queue-place, queue-below}
 use Rattle.solve.specs.contracts.Layout.{backRow, maskRowAt, stateAt, nodesEnd, sentRowAt, areaEnd}
 
 module _ (n w : ℕ) where
@@ -52,14 +52,14 @@ module _ (n w : ℕ) where
   sent-from i = omega arith
 
 -- no place in the area is too large
-pub node-below : {n w k : ℕ} → n ≤ maxStatements → w ≤ maxWidth → k ≤ 2 * n → maskRowAt n w k ≤ 50 * n + 7
-node-below {n} {w} {k} h l b = omega (arith, row-below h (le-refl n), mul-le-mul-right k l)
+pub node-below : {n w k : ℕ} → n ≤ maxStatements → w ≤ maxWidth → k ≤ 2 * n → maskRowAt n w k ≤ 59 * n + 7
+node-below {n} {w} {k} h l b = omega (arith, queue-below h, mul-le-mul-right k l)
 
-pub end-below : {n w k : ℕ} → n ≤ maxStatements → w ≤ maxWidth → k ≤ n → sentRowAt n w k ≤ 53 * n + 7
+pub end-below : {n w k : ℕ} → n ≤ maxStatements → w ≤ maxWidth → k ≤ n → sentRowAt n w k ≤ 62 * n + 7
 end-below {n} {w} {k} h l b = omega (arith, node-below h l (le-refl (2 * n)), mul-le-mul-right k l)
 
 pub solver-fits : {n w : ℕ} → 0 < n → n ≤ maxStatements → w ≤ maxWidth → areaEnd n w ≤ workWords n
-solver-fits {n} {w} p h l = omega (arith, end-below h l (le-refl n))
+solver-fits {n} {w} p h l = omega (arith, queue-place p h, mul-le-mul-right (2 * n) l, mul-le-mul-right n l)
 
 pub solver-room : {s ws : List ℕ} {n w : ℕ} → Ready s ws n → 0 < n → w ≤ maxWidth → areaEnd n w ≤ length ws
 solver-room r p l = let room = r .room in omega (arith, solver-fits p (ready-most r) l)

@@ -1,6 +1,6 @@
 -- The parts of the work area: rows of the matrix lie apart and within it, a row has a word for each of its numbers, and all of them take at most 32 × n words.
 -- By the bound on n, which makes a row at most 32 words.
-use Prim.Native.Nat.{ℕ, _+_, _*_, _/_, _≤_, _<_}
+use Prim.Native.Nat.{ℕ, _+_, _-_, _*_, _/_, _≤_, _<_}
 use native.Mathlib.Omega.{arith}
 use native.Mathlib.Decide.{decLt}
 use native.Mathlib.Nat.{le-refl, mul-suc, mul-le-mul-left, mul-le-mul-right}
@@ -13,7 +13,7 @@ use Rattle.words.specs.contracts.Row.{has}
 use Rattle.words.specs.contracts.Change.{inserted}
 use Rattle.words.proofs.Row.{has-cong}
 use Rattle.words.proofs.Inserted.{insert-else}
-use Rattle.statements.specs.contracts.Layout.{rowWords, rowsEnd, rowAt, matrixAt, queueAt, solverAt}
+use Rattle.statements.specs.contracts.Layout.{rowWords, rowsEnd, rowAt, listsAt, listWords, matrixAt, queueAt, solverAt}
 
 -- Words of a row
 
@@ -44,8 +44,8 @@ pub rows-apart : (n : ℕ) {i j : ℕ} → i < j → rowAt n i + rowWords n ≤ 
 unfolding rowsEnd
 rows-apart n {i} {j} l = omega (arith, mul-suc (rowWords n) i, mul-le-mul-left (rowWords n) l)
 
--- a row ends where the queue begins, or before
-pub row-fits : (n : ℕ) {i : ℕ} → i < n → rowAt n i + rowWords n ≤ queueAt n
+-- a row ends where the lists begin, or before
+pub row-fits : (n : ℕ) {i : ℕ} → i < n → rowAt n i + rowWords n ≤ listsAt n
 row-fits n l = rows-apart n l
 
 pub row-below : {n i : ℕ} → n ≤ maxStatements → i ≤ n → rowAt n i ≤ 38 * n
@@ -57,9 +57,18 @@ pub one-word : {n : ℕ} → n < 8 → rowAt n n ≤ 7 * n
 unfolding rowsEnd rowWords
 one-word {n} l = let one : (n + 63) / 64 ≤ 1 = omega arith in omega (arith, mul-le-mul-right n one)
 
+-- rows and lists together end at one place for all n
+pub queue-place : {n : ℕ} → 0 < n → n ≤ maxStatements → queueAt n ≡ 48 * n - 7
+unfolding rowsEnd listWords
+queue-place {n} p h = omega (arith, mul-le-mul-right n (row-words-most h))
+
+pub queue-below : {n : ℕ} → n ≤ maxStatements → queueAt n ≤ 48 * n
+unfolding rowsEnd listWords
+queue-below {n} h = omega (arith, mul-le-mul-right n (row-words-most h))
+
 -- of a flow with statements, the parts below the solver's and a set of doubled numbers fit into the work area that refusal 10 asks for
 pub area-fits : {n : ℕ} → 0 < n → n ≤ maxStatements → solverAt n + n ≤ workWords n
-area-fits {n} p h = omega (arith, row-below h (le-refl n))
+area-fits {n} p h = omega (arith, queue-place p h)
 
 -- Members of rows
 

@@ -80,14 +80,26 @@ pub fn row(n: usize, i: StmtId) -> usize
     rows_end(n, i.0)
 }
 
-pub fn queue(n: usize) -> usize
+// The lists of what calls enter, behind the rows of the matrix.
+pub fn lists(n: usize) -> usize
     requires { ⌜ n ≤ maxStatements ⌝ }
-    ensures { λ r. ⌜ r ≡ at.queueAt n ⌝ }
+    ensures { λ r. ⌜ r ≡ at.listsAt n ⌝ }
 {
     rows_end(n, n)
 }
 
-// What stands k parts of n words behind the matrix.
+// Behind the lists, which have what the matrix leaves.
+pub fn queue(n: usize) -> usize
+    requires { ⌜ n ≤ maxStatements ⌝ }
+    ensures { λ r. ⌜ r ≡ at.queueAt n ⌝ }
+{
+    if n == 0 {
+        return 0;
+    }
+    48 * n - 7
+}
+
+// What stands k parts of n words behind the lists.
 fn part(n: usize, k: usize) -> usize
     requires { ⌜ (n ≤ maxStatements) × (k ≤ 3) ⌝ }
     ensures { λ r. ⌜ r ≡ at.queueAt n + k * n ⌝ }

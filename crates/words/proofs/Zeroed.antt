@@ -3,7 +3,7 @@
 use mathlib.Core.Path.{_≡_, sym, ap, _∙_, subst}
 use mathlib.Core.List.{List}
 use mathlib.Core.Logic.{_≢_}
-use Prim.Native.Nat.{ℕ, _+_, _*_, _/_, _%_, _≤_, _<_}
+use Prim.Native.Nat.{ℕ, _+_, _-_, _*_, _/_, _%_, _≤_, _<_}
 use native.Mathlib.Nat.{zero-add}
 use native.Mathlib.Omega.{arith}
 use lib.ListN.{length, getD, replicate, length-replicate, getD-replicate}
@@ -34,6 +34,12 @@ module _ (ws : List ℕ) (base width : ℕ) where
   pub zeroed-has : base + width ≤ length ws → (i : ℕ) → i < 64 * width → has (zeroed ws base width) base i ≡ 0
   unfolding has
   zeroed-has fits i l = ap (λ (w : ℕ). bit w (i % 64)) (zeroed-word fits (i / 64) (omega arith)) ∙ bit-of-zero (i % 64)
+
+-- a run of words, by where it begins and ends
+pub zeroed-run : (ws : List ℕ) (from end x : ℕ) → end ≤ length ws → from ≤ x → x < end → getD (zeroed ws from (end - from)) x 0 ≡ 0
+zeroed-run ws from end x fits l m =
+    let here : from + (x - from) ≡ x = omega arith in
+    subst (λ (y : ℕ). getD (zeroed ws from (end - from)) y 0 ≡ 0) here (zeroed-word ws from (end - from) (omega arith) (x - from) (omega arith))
 
 -- a slice zeroed whole
 pub zeroed-all : (ws : List ℕ) → zeroed ws 0 (length ws) ≡ replicate (length ws) 0

@@ -15,6 +15,7 @@ use Rattle.theory.specs.Body.{kind, continuationOf, isReturn, callees, entered,
 use Rattle.theory.specs.Doubled.{returnsTo}
 use Rattle.statements.specs.contracts.Layout.{callsAt, callTouchedAt, bodiesAt, matrixAt, rowAt, rowWords, queueAt, enteredRowAt}
 use Rattle.statements.specs.contracts.Ready.{MembersWord}
+use Rattle.calls.specs.contracts.Orders.{several, OrderOf}
 
 -- the work area of n statements
 pub record Area (ws : List ℕ) (n : ℕ) : Type 0 where
@@ -83,9 +84,10 @@ pub record Leads (ws : List ℕ) (n r l : ℕ) : Type 0 where
 abbrev pub Leaders : Flow → List ℕ → ℕ → Type 0
 Leaders f ws n = (r : ℕ) → r < n → isReturn (kind f r) ≡ true → Leads ws n r (getD ws (bodiesAt n + r) 0)
 
--- what the edges are made from: the summaries, the statements that a transparent call enters, the continuations that each RETURN goes to, and its leader
+-- what the edges are made from: the summaries, the statements that a transparent call enters, the continuations that each RETURN goes to, its leader, and the orders of calls
 pub record Linked (f : Flow) (ws : List ℕ) (n : ℕ) : Type 0 where
   pub calls : CallSummaries f ws n
   pub bodies : (c j : ℕ) → c < n → j < n → getD ws (callsAt n + c) 0 ≡ transparent → has ws (rowAt n c) j ≡ cond (lists.elem j (entered f c)) 1 0
   pub returns : (r k : ℕ) → r < n → k < n → isReturn (kind f r) ≡ true → has ws (rowAt n r) k ≡ cond (any (returnsTo f r k) (upTo (size f))) 1 0
   pub leaders : Leaders f ws n
+  pub orders : (c : ℕ) → c < n → several f c ≡ true → OrderOf f ws n c

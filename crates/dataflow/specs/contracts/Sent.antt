@@ -9,17 +9,16 @@ use lib.Bits.{bitOr}
 use lib.Dec.{eqb, ltb}
 use lib.ListN.{getD}
 use Rattle.words.specs.contracts.Row.{has}
-use Rattle.flow.specs.declared.Base.the-variants.{N}
 use Rattle.flow.specs.Flow.{Flow}
 use Rattle.theory.specs.Lists.{In, differ}
 use Rattle.theory.specs.Body.{kind, isReturn}
-use Rattle.theory.specs.Doubled.{Edge, at, node, number, numberIn, edges, edgeEffects, doubled}
+use Rattle.theory.specs.Doubled.{Edge, node, number, edges, edgeEffects, doubled}
 use Rattle.theory.specs.Queue.{enqueue, brings, stepAll}
 use Rattle.statements.specs.contracts.Layout.{bodiesAt, rowAt, queueAt}
 use Rattle.statements.specs.contracts.Ready.{Keeps}
 use Rattle.calls.specs.contracts.Slots.{toArc}
 use Rattle.solve.specs.declared.Queue.{Queue}
-use Rattle.solve.specs.contracts.Layout.{setRow, outRow, backRow, maskRowAt, waitsIn, settledIn, nodesEnd, sentRowAt, areaEnd}
+use Rattle.solve.specs.contracts.Layout.{setRow, outRow, backRow, maskRowAt, settledIn, nodesEnd, sentRowAt, areaEnd}
 use Rattle.solve.specs.contracts.Rows.{maskAt}
 use Rattle.solve.specs.contracts.Waiting.{Waits}
 use Rattle.solve.specs.contracts.Pushed.{masksAt}
@@ -84,12 +83,3 @@ pub record Sends (f : Flow) (ws vs : List ℕ) (n w : ℕ) (queue : Queue) (d : 
   pub settled : SettledSet n w ws vs
   pub shared : Shared f vs n w
   pub keeps : Keeps (queueAt n) (areaEnd n w) ws vs
-
--- d waits and has every state that the row at `from` has: pushing that row to it changes nothing
-pub record Held (ws : List ℕ) (n w from d : ℕ) : Type 0 where
-  pub waits : waitsIn ws n w d ≡ 1
-  pub masks : (a : ℕ) → a < 64 * w → bitOr (masksAt ws n w d a) (maskAt ws w from a) ≡ masksAt ws n w d a
-
--- every statement that the call's row at `row` holds is held in base n, where the call goes on at the number `back`
-abbrev pub AllHeld : List ℕ → ℕ → ℕ → ℕ → ℕ → Type 0
-AllHeld ws n w row back = (b : ℕ) → b < n → has ws row b ≡ 1 → Held ws n w (edgeRow n w (eqb (numberIn n (at N b)) back)) (numberIn n (at N b))

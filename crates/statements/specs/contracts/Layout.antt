@@ -1,5 +1,5 @@
--- The work area of a flow of n statements: offsets, parts of the lines, calls, bodies, the matrix of statement sets, the queue, the row of entered statements, and the words of the
--- solver, whose layout is crate solve's. The matrix has n rows of `rowWords n` words; all fits into 64 × n words. Each phase writes one run of words, so that
+-- The work area of a flow of n statements: offsets, parts of the lines, calls, bodies, the matrix of statement sets, the lists of what calls enter, the queue, the row of entered statements,
+-- and the words of the solver, whose layout is crate solve's. The matrix has n rows of `rowWords n` words; all fits into 64 × n words. Each phase writes one run of words, so that
 -- what it keeps is an interval.
 use Prim.Native.Nat.{ℕ, _+_, _-_, _*_, _/_}
 use Rattle.flow.specs.Limits.{maxArrays}
@@ -33,13 +33,20 @@ rowWords n = (n + 63) / 64
 unfoldable pub rowsEnd : ℕ → ℕ → ℕ
 rowsEnd n k = matrixAt n + rowWords n * k
 
--- row i of the matrix stands behind the i rows before it, and the queue behind all of them
+-- row i of the matrix stands behind the i rows before it, and the lists behind all of them
 
 abbrev pub rowAt : ℕ → ℕ → ℕ
 rowAt n i = rowsEnd n i
 
+abbrev pub listsAt : ℕ → ℕ
+listsAt n = rowsEnd n n
+
+-- the lists have what the matrix leaves of 42 × n words, less seven: the solver needs these besides its words for each statement
+unfoldable pub listWords : ℕ → ℕ
+listWords n = 42 * n - 7 - rowWords n * n
+
 abbrev pub queueAt : ℕ → ℕ
-queueAt n = rowsEnd n n
+queueAt n = listsAt n + listWords n
 
 abbrev pub enteredRowAt : ℕ → ℕ
 enteredRowAt n = queueAt n + 2 * n

@@ -34,7 +34,7 @@ shared-slice-read-result : tie.Need-shared-slice-read-result
 shared-slice-read-result c = search needs
 
 returns-2 : tie.Need-returns-2
-returns-2 c = let s = c .before .before .before .before .before .before .before in ap (λ (b : ℕ). eqb (getD (now (s .args .work)) (b + s .args .i .0) 0) transparent) (c .before .before .calls .ensures) ∙ call-state (s .pre .1) (s .pre .2)
+returns-2 c = let s = c .before .before .before .before .before .before .before in ap (λ (b : ℕ). eqb (getD (now (s .args .work)) (b + s .args .i .0) 0) transparent) (c .before .before .calls .ensures) ∙ call-state (s .pre .1 .calls) (s .pre .2)
 
 pub is-call-spec : {M : Type 1} → statement M
 is-call-spec =

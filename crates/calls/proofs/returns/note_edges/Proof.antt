@@ -1,6 +1,6 @@
 -- `note_edges` meets its contract. The RETURNs are noted where the summaries do not stand, and only their rows are emptied. The invariant, `Calling`: the RETURNs go where
 -- the calls before c make them go.
--- The measure is how many statements are left. Then the transparent calls' rows are noted, and no RETURN's row is one of them. Assumes nothing.
+-- The measure is how many statements are left. Then the transparent calls' rows are noted, and no RETURN's row is one of them, and then the leaders and the orders. Assumes nothing.
 use Prim.Native.Nat.{ℕ, _+_, _-_, _<_}
 use mathlib.Core.Bool.{true}
 use mathlib.Core.List.{List}
@@ -19,7 +19,8 @@ use Rattle.statements.proofs.Keeps.{keeps-trans, keeps-widen, ready-keeps, inde
 use Rattle.calls.specs.contracts.Held.{EmptyRow, Summarized}
 use Rattle.calls.specs.contracts.Joins.{Joins, ReturnSet}
 use Rattle.calls.proofs.Joined.{row-stays}
-use Rattle.calls.proofs.Gathered.{Calling, calling-start, calling-on, summary-kept, linked}
+use Rattle.calls.proofs.Gathered.{Calling, calling-start, calling-on, summary-kept, summaries-kept, linked}
+use Rattle.calls.proofs.Ordering.{orders-keep}
 use Rattle.calls.proofs.ReturnSet.{return-set-stays, summarized-stays}
 use Rattle.calls.proofs.returns.note_edges.Statement.{statement}
 use Rattle.calls.proofs.returns.note_edges.Tie as tie
@@ -115,23 +116,30 @@ note-leaders-requires c κs =
     let k = rows-kept d in
     (ready-keeps (indexed (done d) .ready) k (omega arith), return-set-stays k (omega arith) (return-set (done d)))
 
+note-orders-requires : tie.Need-note-orders-requires Inv-loop μ-loop
+note-orders-requires c κs =
+    let d = c .before .before .before .before .before .before .before in
+    let led = c .before .before .before .note-leaders .ensures .1 in
+    (indexed-keeps (indexed-keeps (indexed (done d)) (rows-kept d) (omega arith)) led (omega arith), summaries-kept (omega arith) led (summaries-kept (omega arith) (rows-kept d) (summarized (done d) .calls)))
+
 same-length : tie.Need-same-length Inv-loop μ-loop
-same-length c = let d = c .before .before .before .before .before .before in c .before .before .note-leaders .ensures .1 .size ∙ rows-kept d .size ∙ kept (done d) .size
+same-length c = let d = c .before .before .before .before .before .before .before .before .before .before in c .before .before .note-orders .ensures .size ∙ c .before .before .before .before .before .before .note-leaders .ensures .1 .size ∙ rows-kept d .size ∙ kept (done d) .size
 
 returns : tie.Need-returns Inv-loop μ-loop
 returns c =
-    let e = c .before .before .before .before .before .before in
+    let e = c .before .before .before .before .before .before .before .before .before .before in
     let turn = e .before .before .before in
     let d = done e in
     let f = flowOf (now (start d .args .file)) in
     let n = n d in
     let loop = turn .loop in
-    let led = c .before .before .note-leaders .ensures in
+    let led = c .before .before .before .before .before .before .note-leaders .ensures in
+    let orders = c .before .before .note-orders .ensures in
     let all : loop .c ≡ n = omega arith in (
       linked (ready-size (start d .pre .0 .ready)) (summarized d) (free d)
-          (subst (λ (m : ℕ). Joins f (cleared d) (loop .work) n (solverAt n) (λ r k. any (returnsTo f r k) (upTo m))) all (loop .inv .joins)) (e .note-rows .ensures) (led .1) (led .0),
+          (subst (λ (m : ℕ). Joins f (cleared d) (loop .work) n (solverAt n) (λ r k. any (returnsTo f r k) (upTo m))) all (loop .inv .joins)) (e .note-rows .ensures) (led .1) (led .0) orders,
       keeps-trans (keeps-widen (omega arith) (omega arith) (kept d))
-          (keeps-trans (keeps-widen (omega arith) (omega arith) (rows-kept e)) (keeps-widen (omega arith) (omega (arith, row-from n n)) (led .1))),
+          (keeps-trans (keeps-widen (omega arith) (omega arith) (rows-kept e)) (keeps-trans (keeps-widen (omega arith) (omega (arith, row-from n n)) (led .1)) (keeps-widen (omega arith) (omega arith) (orders-keep orders)))),
     )
 
 pub note-edges-spec : {M : Type 1} → statement M
@@ -149,5 +157,6 @@ note-edges-spec =
     loop-again
     note-rows-requires
     note-leaders-requires
+    note-orders-requires
     same-length
     returns)

@@ -1,13 +1,12 @@
 -- `calls::walk::meet` meets its contract: a statement that is new in the row goes on the stack, which has room for it.
 -- By the laws of one statement more.
 use Prim.Native.Nat.{_+_, _*_, _/_, _<_}
-use native.Mathlib.Nat.{le-refl}
 use native.Mathlib.Omega.{arith}
 use borrow.Author.Needs.{needs}
 use denote.Ref.{now}
 use lib.ListN.{length}
 use Rattle.statements.specs.contracts.Layout.{queueAt}
-use Rattle.statements.proofs.WorkArea.{row-below}
+use Rattle.statements.proofs.WorkArea.{queue-below}
 use Rattle.calls.proofs.Walking.{in-row, meet-old, meet-room, meet-new}
 use Rattle.calls.proofs.walk.meet.Statement.{statement}
 use Rattle.calls.proofs.walk.meet.Tie as tie
@@ -45,11 +44,11 @@ module _ (c : tie.After-queue) where
   abbrev start : tie.Start
   start = row .before .before
 
-  room : queueAt (start .args .n) + start .args .top < 47 * start .args .n
+  room : queueAt (start .args .n) + start .args .top < 49 * start .args .n
   room =
       let p = start .pre in
       let new = c .before .before .before .before .before in
-      omega (arith, meet-room (p .0) (p .1) (p .2) (row .row .ensures) (new .before .contains .ensures) (new .if1 .left), row-below (p .0 .area .few) (le-refl (start .args .n)))
+      omega (arith, meet-room (p .0) (p .1) (p .2) (row .row .ensures) (new .before .contains .ensures) (new .if1 .left), queue-below (p .0 .area .few))
 
 add-work : tie.Need-add-work
 add-work c = omega (arith, room c, start c .pre .0 .area .few, c .queue .ensures)

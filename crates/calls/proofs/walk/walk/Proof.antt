@@ -44,7 +44,7 @@ module _ (c : tie.In-loop Inv-loop μ-loop) where
   one-more : c .before .loop .top ≡ suc low
   one-more = omega (arith, c .loop-test .taken)
 
-  within : queueAt (start .args .n) + low < 39 * start .args .n
+  within : queueAt (start .args .n) + low < 49 * start .args .n
   within = omega (arith, one-more, stack-fits (c .before .loop .inv .stack))
 
   is-statement : getD (c .before .loop .work) (queueAt (start .args .n) + low) 0 < start .args .n

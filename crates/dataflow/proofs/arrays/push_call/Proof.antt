@@ -1,6 +1,6 @@
 -- `dataflow::arrays::push_call` meets its contract: what is sent along the three parts of a call's edges, one after the other, is sent along all of them.
 -- By the slots of a call.
-use Prim.Native.Nat.{ℕ, _*_, _<_}
+use Prim.Native.Nat.{ℕ}
 use mathlib.Core.Bool.{true}
 use mathlib.Core.List.{List, [], _∷_, _++_}
 use mathlib.Core.Option.{some}
@@ -13,14 +13,14 @@ use Rattle.flow.specs.Format.{flowOf}
 use Rattle.theory.specs.Lists.{concatMap, optionList}
 use Rattle.theory.specs.Doubled.{Edge, at}
 use Rattle.theory.proofs.Edges.{node-same}
-use Rattle.statements.proofs.Keeps.{keeps-trans, ready-most, ready-size, ready-formed, ready-below}
+use Rattle.statements.proofs.Keeps.{keeps-trans, ready-most, ready-size}
 use Rattle.calls.specs.contracts.Slots.{edgeTo, lineSlots, otherSlots, callSlots, present}
 use Rattle.calls.proofs.Slots.{present-append}
 use Rattle.solve.specs.contracts.Pushed.{Source}
 use Rattle.solve.proofs.Room.{nodes-room}
 use Rattle.dataflow.specs.contracts.Sent.{edgeRow, Sent}
 use Rattle.dataflow.proofs.Kept.{ready-stays, call-stays}
-use Rattle.dataflow.proofs.Sending.{sent-edge, sent-append, source-of, sources-call, copy-below}
+use Rattle.dataflow.proofs.Sending.{sent-edge, sent-append, source-of, sources-call, copy-below, back-below}
 use borrow.Author.Needs.{needs}
 use Rattle.dataflow.proofs.arrays.push_call.Statement.{statement}
 use Rattle.dataflow.proofs.arrays.push_call.Tie as tie
@@ -31,12 +31,8 @@ back-row-requires c κs = let s = c .before .before in (ready-most (s .pre .1 .r
 push-lines-requires : tie.Need-push-lines-requires
 push-lines-requires c κs = search needs
 
--- the continuation is a statement
-back-below : (c : tie.Start) → c .args .call .continuation .0 < c .args .h .statements
-back-below c = let ready = c .pre .1 .ready in ready-below ready (ready-formed ready .continuation (c .args .i .0) (c .args .call .continuation .0) (c .pre .4 .continues))
-
 node-requires : tie.Need-node-requires
-node-requires c κs = (ready-most (c .before .before .before .before .before .before .before .before .pre .1 .ready), back-below (c .before .before .before .before .before .before .before .before))
+node-requires c κs = let s = c .before .before .before .before .before .before .before .before in (ready-most (s .pre .1 .ready), back-below (s .pre .1 .ready) (s .pre .4))
 
 push-requires : tie.Need-push-requires
 push-requires c κs =
@@ -49,9 +45,9 @@ push-requires c κs =
       ready-most ready,
       s .pre .0,
       omega arith,
-      omega (arith, copy-below n (s .args .base) (back-below s), c .node .ensures),
+      omega (arith, copy-below n (s .args .base) (back-below (s .pre .1 .ready) (s .pre .4)), c .node .ensures),
       subst (Source n (s .args .width)) (sym (c .before .before .before .before .before .before .back-row .ensures)) (source-of n (s .args .width) (edgeRow n (s .args .width)) (sources-call n (s .args .width)) true),
-      (_, sent .waits (s .pre .5 .0) (s .pre .5 .1)),
+      (_, sent .waits (s .pre .6 .0) (s .pre .6 .1)),
     )
 
 -- what was sent to the entered statements and to the continuation
@@ -71,7 +67,7 @@ push-others-requires c κs =
     let lines = c .before .before .before .before .before .before .before .before .push-lines .ensures in
     let back = back-sent (c .before .before .before) in
     let keeps = keeps-trans (lines .keeps) (back .keeps) in
-    (s .pre .0, ready-stays keeps (s .pre .1 .ready), s .pre .2, s .pre .3, call-stays keeps (ready-size (s .pre .1 .ready)) (s .pre .3) (s .pre .4), (_, back .waits _ (lines .waits (s .pre .5 .0) (s .pre .5 .1))))
+    (s .pre .0, ready-stays keeps (s .pre .1 .ready), s .pre .2, s .pre .3, call-stays keeps (ready-size (s .pre .1 .ready)) (s .pre .3) (s .pre .4), (_, back .waits _ (lines .waits (s .pre .6 .0) (s .pre .6 .1))))
 
 same-length : tie.Need-same-length
 same-length c = search needs

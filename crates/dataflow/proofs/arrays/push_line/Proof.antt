@@ -20,7 +20,7 @@ use Rattle.calls.proofs.Found.{same-number}
 use Rattle.solve.specs.contracts.Pushed.{Source}
 use Rattle.solve.proofs.Room.{nodes-room}
 use Rattle.dataflow.specs.contracts.Sent.{edgeRow, Sent}
-use Rattle.dataflow.proofs.Sending.{sent-none, sent-edge, source-of, sources-call, copy-below}
+use Rattle.dataflow.proofs.Sending.{sent-none, sent-edge, source-of, sources-call, copy-below, back-below}
 use borrow.Author.Needs.{needs}
 use Rattle.dataflow.proofs.arrays.push_line.Statement.{statement}
 use Rattle.dataflow.proofs.arrays.push_line.Tie as tie
@@ -41,15 +41,11 @@ below c =
     let ready = s .pre .1 .ready in
     ready-below ready (ready-formed ready .first (getD (callLines (kind (flowOf (now (s .args .file))) (s .args .i .0))) (s .args .l) 0) (c .b .given .0 .0 .0) (enters-b c))
 
--- the continuation is a statement
-back-below : (c : tie.Start) → c .args .call .continuation .0 < c .args .h .statements
-back-below c = let ready = c .pre .1 .ready in ready-below ready (ready-formed ready .continuation (c .args .i .0) (c .args .call .continuation .0) (c .pre .4 .continues))
-
 node-requires : tie.Need-node-requires
 node-requires c κs = (ready-most (c .before .before .before .before .before .before .before .pre .1 .ready), below (c .before))
 
 node-requires-2 : tie.Need-node-requires-2
-node-requires-2 c κs = (ready-most (c .before .before .before .before .before .before .before .before .pre .1 .ready), back-below (c .before .before .before .before .before .before .before .before))
+node-requires-2 c κs = let s = c .before .before .before .before .before .before .before .before in (ready-most (s .pre .1 .ready), back-below (s .pre .1 .ready) (s .pre .4))
 
 call-row-requires : tie.Need-call-row-requires
 call-row-requires c κs = (ready-most (c .before .before .before .before .before .before .before .before .before .pre .1 .ready), c .before .before .before .before .before .before .before .before .before .pre .0)
@@ -84,7 +80,7 @@ returns c =
     let e = c .before .before .before .before .before .before .before .before .b .given .0 .0 .0 in
     subst (λ (o : Option ℕ). Sent f (now (s .args .work)) (c .before .before .push .last .0) n (s .args .width) (edgeRow n (s .args .width)) (s .args .queue) (s .args .i .0) (optionList (ifEntered (at b k) o)) (c .before .before .push .result)) (sym (enters-b (c .before .before .before .before .before .before .before .before)))
     (sent-edge (edgeTo (at b k) (at N e)) (ready-size (s .pre .1 .ready)) (sources-call n (s .args .width))
-    (c .before .before .before .before .call-row .ensures ∙ ap (edgeRow n (s .args .width)) (ap₂ eqb (c .before .before .before .before .before .before .node .ensures) (c .before .before .before .before .before .node2 .ensures) ∙ same-number b e k (back-below s))) (c .before .before .before .before .before .before .node .ensures) (c .before .before .push .ensures))
+    (c .before .before .before .before .call-row .ensures ∙ ap (edgeRow n (s .args .width)) (ap₂ eqb (c .before .before .before .before .before .before .node .ensures) (c .before .before .before .before .before .node2 .ensures) ∙ same-number b e k (back-below (s .pre .1 .ready) (s .pre .4)))) (c .before .before .before .before .before .before .node .ensures) (c .before .before .push .ensures))
 
 same-length-2 : tie.Need-same-length-2
 same-length-2 c = search needs

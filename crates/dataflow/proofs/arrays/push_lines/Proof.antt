@@ -1,39 +1,33 @@
--- `dataflow::arrays::push_lines` meets its contract: where all that the lines enter hold the rows, nothing changes; else line by line.
--- By the edges of the lines.
-use Prim.Native.Nat.{ℕ, _+_, _/_, _<_, _≤_}
-use mathlib.Core.Path.{subst}
+-- `dataflow::arrays::push_lines` meets its contract: where a list of the order is noted, by the list; else line by line.
+-- By the word of the call.
 use native.Mathlib.Omega.{arith}
-use denote.Ref.{now}
-use lib.ListN.{length}
-use Rattle.flow.specs.Format.{flowOf}
-use Rattle.statements.proofs.Keeps.{ready-most, ready-size, ready-formed, ready-below}
-use Rattle.calls.specs.contracts.Slots.{present, lineSlots}
-use Rattle.solve.proofs.Room.{nodes-room}
-use Rattle.dataflow.proofs.Sending.{sent-held, sources-call}
-use Rattle.dataflow.proofs.Covered.{lines-held}
+use Rattle.statements.proofs.WorkArea.{row-from}
+use Rattle.statements.proofs.Keeps.{ready-most, ready-room}
+use Rattle.dataflow.proofs.Ordered.{order-list}
 use borrow.Author.Needs.{needs}
 use Rattle.dataflow.proofs.arrays.push_lines.Statement.{statement}
 use Rattle.dataflow.proofs.arrays.push_lines.Tie as tie
 
--- the continuation is a statement
-back-below : (c : tie.Start) → c .args .call .continuation .0 < c .args .h .statements
-back-below c = let ready = c .pre .1 .ready in ready-below ready (ready-formed ready .continuation (c .args .i .0) (c .args .call .continuation .0) (c .pre .4 .continues))
+order-of-requires : tie.Need-order-of-requires
+order-of-requires c κs =
+    let s = c .before .before .before .before .before in
+    let ready = s .pre .1 .ready in
+    let n = s .args .h .statements in
+    let room = ready-room ready (omega (arith, s .pre .3)) in
+    (ready-most ready, s .pre .3, omega (arith, row-from n n, s .pre .3))
 
-node-requires : tie.Need-node-requires
-node-requires c κs = let s = c .before .before .before .before .before in (ready-most (s .pre .1 .ready), back-below s)
-
-all-hold-requires : tie.Need-all-hold-requires
-all-hold-requires c κs = let s = c .before .before .before .before .before .before in let ready = s .pre .1 .ready in (ready-most ready, s .pre .0, nodes-room ready (omega (arith, s .pre .3)) (s .pre .0), subst (λ (m : ℕ). s .args .call .row + (m + 63) / 64 ≤ length (now (s .args .work))) (ready-size ready) (s .pre .4 .room))
+push-order-requires : tie.Need-push-order-requires
+push-order-requires c κs =
+    let s = c .before .before .before .before .before .before .before .before .before in
+    let ready = s .pre .1 .ready in
+    let order = c .before .before .before .order-of .ensures in
+    (s .pre .0, ready, s .pre .3, s .pre .4, order-list (ready-most ready) (order .0) (order .1) (c .before .if2 .taken) (s .pre .5 (c .before .before .before .before .before .if1 .taken)), s .pre .6)
 
 same-length : tie.Need-same-length
 same-length c = search needs
 
 returns : tie.Need-returns
-returns c =
-    let s = c .before .before .before .before .before .before .before .before in
-    let n = s .args .h .statements in
-    sent-held (sources-call n (s .args .width)) (present (lineSlots (flowOf (now (s .args .file))) (s .args .base) (s .args .i .0) (s .args .call .continuation .0)))
-    (lines-held (ready-formed (s .pre .1 .ready)) (ready-size (s .pre .1 .ready)) (s .pre .4) (s .args .base) (c .before .before .node .ensures) (back-below s) (c .before .all-hold .ensures (c .if2 .taken)))
+returns c = search needs
 
 push-each-line-requires : tie.Need-push-each-line-requires
 push-each-line-requires c κs = search needs
@@ -48,8 +42,8 @@ pub push-lines-spec : {M : Type 1} → statement M
 push-lines-spec =
     tie.close
     (tie.spec
-    node-requires
-    all-hold-requires
+    order-of-requires
+    push-order-requires
     same-length
     returns
     push-each-line-requires

@@ -1,17 +1,22 @@
 -- `dataflow::arrays::send_call` meets its contract: the rows of the call's edges are made, and pushed along them.
 -- What is pushed is what the doubled graph's edges bring.
-use Prim.Native.Nat.{_≤_}
 use mathlib.Core.List.{List}
 use mathlib.Core.Option.{Option}
 use mathlib.Core.Path.{refl, sym, ap, subst}
 use native.Mathlib.Omega.{arith}
+use borrow.Author.Tests.{lt-ltb}
 use denote.Ref.{now}
+use lib.Dec.{ltb}
+use lib.ListN.{length}
 use Rattle.flow.specs.Format.{flowOf}
 use Rattle.records.proofs.Files.{limited}
+use Rattle.theory.specs.Body.{kind, callLines}
 use Rattle.theory.specs.Doubled.{Node, Edge}
+use Rattle.theory.proofs.Lists.{and-true}
 use Rattle.statements.specs.contracts.Layout.{queueAt}
 use Rattle.statements.specs.contracts.Ready.{Keeps}
 use Rattle.statements.proofs.Keeps.{keeps-widen}
+use Rattle.calls.specs.contracts.Class.{transparentCall}
 use Rattle.calls.specs.contracts.Slots.{present}
 use Rattle.calls.proofs.Classes.{slots-call, call-says}
 use Rattle.solve.specs.contracts.Layout.{maskRowAt}
@@ -39,14 +44,20 @@ call-of-requires c κs =
 push-call-requires : tie.Need-push-call-requires
 push-call-requires c κs =
     let s = c .before .before .before .before .before .before .before .before .before in
+    let rows = c .before .before .before .before .before .call-rows in
     let keeps = beside (c .before .before .before .before .before) in
+    let linked = linked-stays keeps (s .pre .2) in
+    let call = c .before .call-of .ensures in
+    let f = flowOf (now (s .args .file)) in
+    let i = s .args .i .0 in
     let most = limited (s .pre .1 .ready .fit) .arrays in (
       omega (arith, s .pre .0, ap (λ h. h .arrays) (s .pre .1 .header)),
       indexed-stays keeps (s .pre .1),
       s .pre .4,
       s .pre .6,
-      c .before .call-of .ensures,
-      (_, beside-waits (now (s .args .work)) (c .before .before .before .before .before .call-rows .last .1 .1 .0) (s .args .h .statements) (s .args .width) (c .before .before .before .before .before .call-rows .ensures .keeps) (s .pre .9 .1)),
+      call,
+      λ many. linked .orders i (s .pre .6) (and-true (transparentCall f i) (ltb 1 (length (callLines (kind f i)))) (s .pre .7) (lt-ltb 1 (length (callLines (kind f i))) (omega (arith, call .lines)))),
+      (_, beside-waits (now (s .args .work)) (rows .last .1 .1 .0) (s .args .h .statements) (s .args .width) (rows .ensures .keeps) (s .pre .9 .1)),
     )
 
 same-length : tie.Need-same-length

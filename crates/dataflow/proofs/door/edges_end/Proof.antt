@@ -1,11 +1,10 @@
 -- `edges_end` meets its contract: the row of RETURNs and its words.
 -- Assumes nothing.
 use borrow.Author.Needs.{needs}
-use native.Mathlib.Nat.{le-refl}
 use native.Mathlib.Omega.{arith}
 use Prim.Native.Nat.{_+_}
 use mathlib.Core.Path.{ap₂}
-use Rattle.statements.proofs.WorkArea.{row-below, row-words-le}
+use Rattle.statements.proofs.WorkArea.{queue-below, row-words-le}
 use Rattle.dataflow.proofs.door.edges_end.Statement.{statement}
 use Rattle.dataflow.proofs.door.edges_end.Tie as tie
 
@@ -19,7 +18,7 @@ add-result : tie.Need-add-result
 add-result c =
     let start = c .before .before in
     let n = start .args .n in
-    omega (arith, c .before .returns-row .ensures, c .row-words .ensures, row-below (start .pre) (le-refl n), row-words-le n)
+    omega (arith, c .before .returns-row .ensures, c .row-words .ensures, queue-below (start .pre), row-words-le n)
 
 returns : tie.Need-returns
 returns c = ap₂ _+_ (c .before .returns-row .ensures) (c .row-words .ensures)

@@ -1,9 +1,9 @@
--- `sets_on` meets its contract: the sums are not too large, since the queue stands below 37 × n (`row-below`).
+-- `sets_on` meets its contract: the sums are not too large, since the queue stands below 48 × n (`queue-below`).
 -- Assumes nothing.
 use borrow.Author.Needs.{needs}
-use native.Mathlib.Nat.{le-refl, mul-le-mul-right}
+use native.Mathlib.Nat.{mul-le-mul-right}
 use native.Mathlib.Omega.{arith}
-use Rattle.statements.proofs.WorkArea.{row-below}
+use Rattle.statements.proofs.WorkArea.{queue-below}
 use Rattle.solve.proofs.layout.sets_on.Statement.{statement}
 use Rattle.solve.proofs.layout.sets_on.Tie as tie
 
@@ -14,7 +14,7 @@ mul-result : tie.Need-mul-result
 mul-result c = omega (arith, mul-le-mul-right (c .before .args .width) (c .before .pre .2))
 
 add-result : tie.Need-add-result
-add-result c = omega (arith, row-below (c .before .pre .0) (le-refl (c .before .args .n)), mul-le-mul-right (c .before .args .width) (c .before .pre .2))
+add-result c = omega (arith, queue-below (c .before .pre .0), mul-le-mul-right (c .before .args .width) (c .before .pre .2))
 
 returns : tie.Need-returns
 returns c = search needs

@@ -1,11 +1,11 @@
 -- `solve::ring::enqueue` meets its contract: the place behind the last is free, and the length grows by one where the number did not wait.
 -- Assumes nothing.
 use Prim.Native.Nat.{_+_, _*_, _<_}
-use native.Mathlib.Nat.{le-refl, le-of-lt}
+use native.Mathlib.Nat.{le-of-lt}
 use native.Mathlib.Omega.{arith}
 use denote.Ref.{now}
 use lib.ListN.{length-set}
-use Rattle.statements.proofs.WorkArea.{row-below}
+use Rattle.statements.proofs.WorkArea.{queue-below}
 use Rattle.solve.specs.contracts.Waiting.{ringWords}
 use Rattle.solve.proofs.Room.{row-from, row-fits, node-below}
 use Rattle.solve.proofs.Waiting.{few, slot-in, enqueued}
@@ -40,10 +40,10 @@ wrap-requires : tie.Need-wrap-requires
 wrap-requires c κs = search needs
 
 add-work : tie.Need-add-work
-add-work c = omega (arith, place c, c .before .queue .ensures, row-below (c .before .before .before .before .before .pre .0) (le-refl (c .before .before .before .before .before .args .n)))
+add-work c = omega (arith, place c, c .before .queue .ensures, queue-below (c .before .before .before .before .before .pre .0))
 
 mul-work : tie.Need-mul-work
-mul-work c = omega (arith, place c, c .before .queue .ensures, row-below (c .before .before .before .before .before .pre .0) (le-refl (c .before .before .before .before .before .args .n)))
+mul-work c = omega (arith, place c, c .before .queue .ensures, queue-below (c .before .before .before .before .before .pre .0))
 
 slice-write-work : tie.Need-slice-write-work
 slice-write-work c = let s = c .before .before .before .before .before in omega (arith, place c, c .before .queue .ensures, s .pre .2, row-from (s .args .n) (s .args .width) (2 * s .args .n))

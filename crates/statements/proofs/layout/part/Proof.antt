@@ -1,9 +1,9 @@
--- `part` meets its contract: the queue stands below 38 × n, so that the sum is not too large (`row-below`).
+-- `part` meets its contract: the queue stands below 48 × n, so that the sum is not too large (`queue-below`).
 -- Assumes nothing.
 use borrow.Author.Needs.{needs}
-use native.Mathlib.Nat.{le-refl, mul-le-mul-right}
+use native.Mathlib.Nat.{mul-le-mul-right}
 use native.Mathlib.Omega.{arith}
-use Rattle.statements.proofs.WorkArea.{row-below}
+use Rattle.statements.proofs.WorkArea.{queue-below}
 use Rattle.statements.proofs.layout.part.Statement.{statement}
 use Rattle.statements.proofs.layout.part.Tie as tie
 
@@ -15,7 +15,7 @@ mul-result c = omega (arith, mul-le-mul-right (c .before .args .n) (c .before .p
 
 add-result : tie.Need-add-result
 add-result c =
-    omega (arith, row-below (c .before .pre .0) (le-refl (c .before .args .n)), mul-le-mul-right (c .before .args .n) (c .before .pre .1))
+    omega (arith, queue-below (c .before .pre .0), mul-le-mul-right (c .before .args .n) (c .before .pre .1))
 
 returns : tie.Need-returns
 returns c = search needs

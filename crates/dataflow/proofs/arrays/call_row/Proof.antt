@@ -1,11 +1,11 @@
--- `dataflow::held::call_row` meets its contract: the test picks the row.
+-- `dataflow::arrays::call_row` meets its contract: the test picks the row.
 -- Assumes nothing.
 use mathlib.Core.Path.{sym, ap, _∙_}
 use borrow.Author.Tests.{eq-eqb, ne-eqb}
 use Rattle.dataflow.specs.contracts.Sent.{edgeRow}
 use borrow.Author.Needs.{needs}
-use Rattle.dataflow.proofs.held.call_row.Statement.{statement}
-use Rattle.dataflow.proofs.held.call_row.Tie as tie
+use Rattle.dataflow.proofs.arrays.call_row.Statement.{statement}
+use Rattle.dataflow.proofs.arrays.call_row.Tie as tie
 
 back-row-requires : tie.Need-back-row-requires
 back-row-requires c κs = search needs
