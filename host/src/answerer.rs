@@ -76,10 +76,26 @@ pub enum Fault {
     ClrTakesWritesBack,
     ContinuationsWalked,
     ReturnsNotWalked,
+    NothingSure,
+    SomeWalkMeets,
+    NestedSureLeftOut,
+    SureWithoutReturn,
+    SureWithoutBody,
+    OtherEndsCount,
+    ListedWalked,
+    OnGosubSure,
+    OneLineSure,
+    OnGosubMeets,
+    EndlessCallMeets,
+    SureThroughOpaqueCall,
+    SureStepOnSharedEdge,
+    SureStepNeverWhereEntered,
+    SureStepOnEveryEdge,
+    SureIsAutoAlone,
 }
 
 impl Fault {
-    pub const ALL: [Fault; 26] = [
+    pub const ALL: [Fault; 42] = [
         Fault::EveryMaskSeven,
         Fault::FirstVisitOnly,
         Fault::AreasUntouched,
@@ -106,6 +122,22 @@ impl Fault {
         Fault::ClrTakesWritesBack,
         Fault::ContinuationsWalked,
         Fault::ReturnsNotWalked,
+        Fault::NothingSure,
+        Fault::SomeWalkMeets,
+        Fault::NestedSureLeftOut,
+        Fault::SureWithoutReturn,
+        Fault::SureWithoutBody,
+        Fault::OtherEndsCount,
+        Fault::ListedWalked,
+        Fault::OnGosubSure,
+        Fault::OneLineSure,
+        Fault::OnGosubMeets,
+        Fault::EndlessCallMeets,
+        Fault::SureThroughOpaqueCall,
+        Fault::SureStepOnSharedEdge,
+        Fault::SureStepNeverWhereEntered,
+        Fault::SureStepOnEveryEdge,
+        Fault::SureIsAutoAlone,
     ];
 
     pub fn text(self) -> &'static str {
@@ -136,6 +168,24 @@ impl Fault {
             Fault::ClrTakesWritesBack => "certain names: CLR and RUN take writes back",
             Fault::ContinuationsWalked => "certain names: unlisted continuations are walked",
             Fault::ReturnsNotWalked => "certain names: what a RETURN lists is not walked",
+            Fault::NothingSure => "sure arrays: there are none",
+            Fault::SomeWalkMeets => "sure arrays: a meeting on some walk is enough",
+            Fault::NestedSureLeftOut => "sure arrays: calls on the walk do not count",
+            Fault::SureWithoutReturn => "sure arrays: the body needs no RETURN",
+            Fault::SureWithoutBody => "sure arrays: a call that enters nothing has all of them",
+            Fault::OtherEndsCount => "sure arrays: walks that end elsewhere than at a RETURN count",
+            Fault::ListedWalked => "sure arrays: what a call lists is walked too",
+            Fault::OnGosubSure => "sure arrays: an ON GOSUB has those of all its bodies",
+            Fault::OneLineSure => "sure arrays: an ON GOSUB of one line is a plain GOSUB",
+            Fault::OnGosubMeets => "sure arrays: an ON GOSUB on the walk counts",
+            Fault::EndlessCallMeets => "sure arrays: a GOSUB without a continuation on the walk counts",
+            Fault::SureThroughOpaqueCall => "sure arrays: an opaque call has some",
+            Fault::SureStepOnSharedEdge => "sure arrays: the new step on an edge to an entered statement",
+            Fault::SureStepNeverWhereEntered => {
+                "sure arrays: the old step of base 0 to an entered continuation"
+            }
+            Fault::SureStepOnEveryEdge => "sure arrays: the new step on every edge of the call",
+            Fault::SureIsAutoAlone => "sure arrays: the new step leaves AUTO alone",
         }
     }
 }
@@ -155,11 +205,13 @@ struct Subroutines<'a> {
     flow: &'a Flow,
     fault: Option<Fault>,
     bodies: BTreeMap<usize, Body>,
+    /// For each statement, the arrays that are sure for it.
+    sure: Vec<u64>,
 }
 
 impl<'a> Subroutines<'a> {
     fn new(flow: &'a Flow, fault: Option<Fault>) -> Self {
-        let mut all = Subroutines { flow, fault, bodies: BTreeMap::new() };
+        let mut all = Subroutines { flow, fault, bodies: BTreeMap::new(), sure: Vec::new() };
         for call in 0..flow.statements.len() {
             if flow.statements[call].continuation().is_some() {
                 for e in flow.entered(call) {
@@ -174,7 +226,18 @@ impl<'a> Subroutines<'a> {
             all.close_cycles();
         }
         all.close_calls();
+        all.sure = Sure::new(&all).of_all();
         all
+    }
+
+    /// Where the body walk goes on from a statement.
+    fn walk_next(&self, i: usize) -> Vec<usize> {
+        let s = &self.flow.statements[i];
+        match s.continuation() {
+            Some(k) => vec![k.into()],
+            None if s.kind == Kind::Return => vec![],
+            None => s.successors.iter().map(|&t| usize::from(t)).collect(),
+        }
     }
 
     /// The body walk from `e`, with what its own statements do.
@@ -193,12 +256,10 @@ impl<'a> Subroutines<'a> {
             let s = &self.flow.statements[i];
             body.touched |= array_set(&s.references);
             body.opaque |= self.lays_out(&s.kind);
-            if let Some(k) = s.continuation() {
+            if s.continuation().is_some() {
                 body.callees.extend(self.flow.entered(i));
-                waiting.push(k.into());
-            } else if s.kind != Kind::Return {
-                waiting.extend(s.successors.iter().map(|&t| usize::from(t)));
             }
+            waiting.extend(self.walk_next(i));
         }
         body
     }
@@ -292,36 +353,269 @@ fn array_set(arrays: &[u8]) -> u64 {
     arrays.iter().fold(0, |set, &a| set | 1 << a)
 }
 
+// ----- Sure arrays --------------------------------------------------------
+
+/// Which arrays are sure, each call's and each body's worked out once. A call's need its body's, and a
+/// body's need those of the calls on its walk: calls among bodies that are not opaque have no cycle.
+struct Sure<'a> {
+    subroutines: &'a Subroutines<'a>,
+    fault: Option<Fault>,
+    arrays: u64,
+    calls: Vec<Option<u64>>,
+    bodies: BTreeMap<usize, u64>,
+}
+
+impl<'a> Sure<'a> {
+    fn new(subroutines: &'a Subroutines<'a>) -> Self {
+        let flow = subroutines.flow;
+        Sure {
+            subroutines,
+            fault: subroutines.fault,
+            arrays: (0..flow.arrays).fold(0, |set, a| set | 1 << a),
+            calls: vec![None; flow.statements.len()],
+            bodies: BTreeMap::new(),
+        }
+    }
+
+    fn of_all(mut self) -> Vec<u64> {
+        for e in self.callees_first() {
+            self.of_body(e);
+        }
+        (0..self.calls.len()).map(|i| self.of_call(i)).collect()
+    }
+
+    /// Bodies that are not opaque, each after those that it calls: so that nests are not as deep here as in
+    /// the flow.
+    fn callees_first(&self) -> Vec<usize> {
+        let bodies = &self.subroutines.bodies;
+        let (mut seen, mut order) = (BTreeSet::new(), Vec::new());
+        for &first in bodies.keys() {
+            let mut nest = vec![(first, false)];
+            while let Some((e, called)) = nest.pop() {
+                if called {
+                    order.push(e);
+                } else if !bodies[&e].opaque && seen.insert(e) {
+                    nest.push((e, true));
+                    nest.extend(bodies[&e].callees.iter().map(|&c| (c, false)));
+                }
+            }
+        }
+        order
+    }
+
+    /// The arrays that are sure for a statement; it has some only as a plain GOSUB with a continuation.
+    fn of_call(&mut self, i: usize) -> u64 {
+        if let Some(sure) = self.calls[i] {
+            return sure;
+        }
+        let subroutines = self.subroutines;
+        let s = &subroutines.flow.statements[i];
+        let plain = match &s.kind {
+            Kind::Gosub { .. } => self.fault != Some(Fault::NothingSure),
+            Kind::OnGosub { lines, .. } => match self.fault {
+                Some(Fault::OnGosubSure) => true,
+                Some(Fault::OneLineSure) => lines.len() == 1,
+                _ => false,
+            },
+            _ => false,
+        };
+        let opaque = || self.fault != Some(Fault::SureThroughOpaqueCall) && subroutines.opaque_call(i);
+        let has_some = plain && s.continuation().is_some() && !opaque();
+        let sure = if has_some { self.of_entered(i) } else { 0 };
+        self.calls[i] = Some(sure);
+        sure
+    }
+
+    /// What all bodies that a call enters meet: a plain GOSUB enters one at most.
+    fn of_entered(&mut self, call: usize) -> u64 {
+        let subroutines = self.subroutines;
+        let entered = subroutines.flow.entered(call).into_iter();
+        // A body that is entered without a continuation only is no body here.
+        let bodies = entered.filter(|e| subroutines.bodies.contains_key(e));
+        let met = bodies.map(|e| self.of_body(e)).reduce(|all, one| all & one);
+        met.unwrap_or(if self.fault == Some(Fault::SureWithoutBody) { self.arrays } else { 0 })
+    }
+
+    /// The arrays that every walk of a body to a RETURN meets, where there is a RETURN.
+    fn of_body(&mut self, e: usize) -> u64 {
+        if let Some(&met) = self.bodies.get(&e) {
+            return met;
+        }
+        // Found here again only by a fault that goes around a cycle.
+        self.bodies.insert(e, 0);
+        let (flow, walk) = (self.subroutines.flow, &self.subroutines.bodies[&e].walk);
+        let walked = || (0..walk.len()).filter(|&i| walk[i]);
+        let mut meets = vec![0; walk.len()];
+        for i in walked() {
+            meets[i] = array_set(&flow.statements[i].references) | self.met_by_call(i);
+        }
+        let returns = walked().any(|i| flow.statements[i].kind == Kind::Return);
+        let met = match self.fault {
+            Some(Fault::SomeWalkMeets) => self.met_on_some_walk(e, &meets),
+            Some(Fault::SureWithoutReturn) => self.arrays & !self.missed(e, &meets),
+            _ if returns => self.arrays & !self.missed(e, &meets),
+            _ => 0,
+        };
+        self.bodies.insert(e, met);
+        met
+    }
+
+    /// The arrays that a walk meets by passing a call, besides what the statement refers to.
+    fn met_by_call(&mut self, i: usize) -> u64 {
+        let s = &self.subroutines.flow.statements[i];
+        let (on_gosub, goes_on) = (matches!(s.kind, Kind::OnGosub { .. }), s.continuation().is_some());
+        match self.fault {
+            Some(Fault::NestedSureLeftOut) => 0,
+            Some(Fault::OnGosubMeets) if on_gosub && goes_on => self.of_entered(i),
+            Some(Fault::EndlessCallMeets) if !on_gosub && !goes_on => self.of_entered(i),
+            _ => self.of_call(i),
+        }
+    }
+
+    fn next(&self, i: usize) -> Vec<usize> {
+        let mut next = self.subroutines.walk_next(i);
+        let s = &self.subroutines.flow.statements[i];
+        if self.fault == Some(Fault::ListedWalked) && s.continuation().is_some() {
+            next.extend(s.successors.iter().map(|&t| usize::from(t)));
+        }
+        next
+    }
+
+    /// Whether a walk that comes here is one of those that must meet an array.
+    fn counts(&self, i: usize) -> bool {
+        let ends = || self.fault == Some(Fault::OtherEndsCount) && self.next(i).is_empty();
+        self.subroutines.flow.statements[i].kind == Kind::Return || ends()
+    }
+
+    /// The arrays that some walk from `e` to a RETURN does not meet, where `meets` says what a walk meets
+    /// at a statement.
+    fn missed(&self, e: usize, meets: &[u64]) -> u64 {
+        // The arrays that some walk to a statement has not met before it.
+        let mut unmet = vec![0; meets.len()];
+        unmet[e] = self.arrays;
+        let mut missed = 0;
+        let mut waiting = vec![e];
+        while let Some(i) = waiting.pop() {
+            let left = unmet[i] & !meets[i];
+            if self.counts(i) {
+                missed |= left;
+            }
+            for t in self.next(i) {
+                if left & !unmet[t] != 0 {
+                    unmet[t] |= left;
+                    waiting.push(t);
+                }
+            }
+        }
+        missed
+    }
+
+    /// The arrays that some walk from `e` to a RETURN meets.
+    fn met_on_some_walk(&self, e: usize, meets: &[u64]) -> u64 {
+        let mut before = vec![None; meets.len()];
+        before[e] = Some(0);
+        let mut met = 0;
+        let mut waiting = vec![e];
+        while let Some(i) = waiting.pop() {
+            let after = before[i].unwrap_or(0) | meets[i];
+            if self.counts(i) {
+                met |= after;
+            }
+            for t in self.next(i) {
+                let joined = Some(before[t].unwrap_or(0) | after);
+                if before[t] != joined {
+                    before[t] = joined;
+                    waiting.push(t);
+                }
+            }
+        }
+        met
+    }
+}
+
+/// For each statement, the arrays that are sure for it.
+pub fn sure_arrays(flow: &Flow, fault: Option<Fault>) -> Vec<u64> {
+    Subroutines::new(flow, fault).sure
+}
+
+/// What a flow has of sure arrays: some; some that are sure by way of a call on the walk alone; and some on
+/// an edge that is also the edge to an entered statement, and is reached.
+#[derive(Clone, Copy, Debug, Default, PartialEq, Eq)]
+pub struct SureParts {
+    pub some: bool,
+    pub nested: bool,
+    pub shared: bool,
+}
+
+pub fn sure_parts(flow: &Flow) -> SureParts {
+    let subroutines = Subroutines::new(flow, None);
+    let sure = &subroutines.sure;
+    if sure.iter().all(|&set| set == 0) {
+        return SureParts::default();
+    }
+    let edges = doubled_edges(&subroutines);
+    let mut reached = vec![false; edges.len()];
+    let mut waiting = vec![usize::from(flow.entry)];
+    while let Some(number) = waiting.pop() {
+        if !std::mem::replace(&mut reached[number], true) {
+            waiting.extend(edges[number].iter().map(|edge| edge.to));
+        }
+    }
+    let n = flow.statements.len();
+    let goes_on_where_it_enters = |i: usize| {
+        let k = flow.statements[i].continuation();
+        k.is_some_and(|k| flow.entered(i).contains(&k.into()))
+    };
+    SureParts {
+        some: true,
+        nested: *sure != sure_arrays(flow, Some(Fault::NestedSureLeftOut)),
+        shared: (0..n).any(|i| sure[i] != 0 && reached[n + i] && goes_on_where_it_enters(i)),
+    }
+}
+
 // ----- The doubled graph --------------------------------------------------
 
-/// An edge of the doubled graph, with the arrays that take the touched step on it.
+/// An edge of the doubled graph, with the arrays that take the step of a touched array on it, and those
+/// that take the step of a sure one instead.
 #[derive(Clone, Copy)]
 struct Edge {
     to: usize,
     touched: u64,
+    sure: u64,
+}
+
+impl Edge {
+    fn plain(to: usize) -> Edge {
+        Edge { to, touched: 0, sure: 0 }
+    }
 }
 
 /// The edges that leave each doubled number, in order.
-fn doubled_edges(flow: &Flow, fault: Option<Fault>) -> Vec<Vec<Edge>> {
+fn doubled_edges(subroutines: &Subroutines) -> Vec<Vec<Edge>> {
+    let Subroutines { flow, fault, .. } = *subroutines;
     let n = flow.statements.len();
-    let subroutines = Subroutines::new(flow, fault);
     let returns = subroutines.return_targets();
     let mut edges = Vec::with_capacity(2 * n);
     for base in [0, n] {
         for (i, s) in flow.statements.iter().enumerate() {
-            let plain = |to: usize| Edge { to, touched: 0 };
             edges.push(if s.kind == Kind::Return {
                 let base = match fault {
                     Some(Fault::BodyReturnToBaseZero) => Some(0),
                     Some(Fault::BodyReturnInBody) => Some(base),
                     _ => (base == 0).then_some(0),
                 };
-                let to = |base: usize| returns[i].iter().map(move |k| plain(base + k)).collect();
+                let to = |base: usize| returns[i].iter().map(move |k| Edge::plain(base + k)).collect();
                 base.map_or_else(Vec::new, to)
             } else if s.continuation().is_some() && !subroutines.opaque_call(i) {
-                call_edges(&subroutines, i, base)
+                call_edges(subroutines, i, base)
             } else {
-                s.successors.iter().map(|&t| plain(base + usize::from(t))).collect()
+                let plain = |&t: &u16| Edge::plain(base + usize::from(t));
+                let mut listed: Vec<Edge> = s.successors.iter().map(plain).collect();
+                if let (Some(k), Some(Fault::SureThroughOpaqueCall)) = (s.continuation(), fault) {
+                    let goes_on = listed.iter_mut().filter(|edge| edge.to == base + usize::from(k));
+                    goes_on.for_each(|edge| edge.sure = subroutines.sure[i]);
+                }
+                listed
             });
         }
     }
@@ -340,18 +634,36 @@ fn call_edges(subroutines: &Subroutines, call: usize, base: usize) -> Vec<Edge> 
     numbers.push(base + k);
     let others = s.successors.iter().map(|&t| usize::from(t));
     numbers.extend(others.filter(|t| !entered.contains(t) && *t != k).map(|t| base + t));
-    let lost = shared && subroutines.fault == Some(Fault::ContinuationStepLost);
+    let fault = subroutines.fault;
+    let lost = shared && fault == Some(Fault::ContinuationStepLost);
+    let old_step = match fault {
+        Some(Fault::SureStepOnSharedEdge) => false,
+        Some(Fault::SureStepNeverWhereEntered) => entered.contains(&k),
+        _ => shared,
+    };
+    let (touched, sure) = (subroutines.touched_by_call(call), subroutines.sure[call]);
     let mut edges: Vec<Edge> = Vec::new();
     for to in numbers {
         if edges.iter().all(|e| e.to != to) {
-            let steps = to == base + k && !lost;
-            edges.push(Edge { to, touched: if steps { subroutines.touched_by_call(call) } else { 0 } });
+            let mut edge = Edge::plain(to);
+            if to == base + k && !lost {
+                edge.touched = touched;
+                edge.sure = if old_step { 0 } else { sure };
+            } else if fault == Some(Fault::SureStepOnEveryEdge) {
+                edge.sure = sure;
+            }
+            edges.push(edge);
         }
     }
     edges
 }
 
 // ----- Masks by the queue rule --------------------------------------------
+
+/// A reference turns NONE into AUTO and keeps other states.
+fn referred(mask: u8) -> u8 {
+    if mask & NONE == 0 { mask } else { mask & !NONE | AUTO }
+}
 
 struct Queue<'a> {
     flow: &'a Flow,
@@ -366,11 +678,11 @@ struct Queue<'a> {
 
 impl<'a> Queue<'a> {
     fn new(flow: &'a Flow, fault: Option<Fault>) -> Self {
-        let edges = doubled_edges(flow, fault);
+        let edges = doubled_edges(&Subroutines::new(flow, fault));
         let mut back = vec![Vec::new(); edges.len()];
         for (from, list) in edges.iter().enumerate() {
             for edge in list {
-                back[edge.to].push(Edge { to: from, touched: edge.touched });
+                back[edge.to].push(Edge { to: from, ..*edge });
             }
         }
         let masks = vec![vec![0; flow.arrays.into()]; edges.len()];
@@ -384,9 +696,7 @@ impl<'a> Queue<'a> {
         let mut out = masks.to_vec();
         for &a in &s.references {
             let mask = &mut out[usize::from(a)];
-            if *mask & NONE != 0 {
-                *mask = *mask & !NONE | AUTO;
-            }
+            *mask = referred(*mask);
         }
         match &s.kind {
             Kind::Dim(items) => {
@@ -406,8 +716,22 @@ impl<'a> Queue<'a> {
     fn touched(&self, mask: u8) -> u8 {
         match self.fault {
             _ if mask & NONE == 0 => mask,
-            Some(Fault::NoneDroppedAfterCall) => mask & !NONE | AUTO,
+            Some(Fault::NoneDroppedAfterCall) => referred(mask),
             _ => mask | AUTO,
+        }
+    }
+
+    /// What an edge makes of the mask of array `a`: a sure array's NONE becomes AUTO.
+    fn carried(&self, edge: Edge, a: usize, mask: u8) -> u8 {
+        if edge.sure >> a & 1 == 1 {
+            match self.fault {
+                Some(Fault::SureIsAutoAlone) if mask != 0 => AUTO,
+                _ => referred(mask),
+            }
+        } else if edge.touched >> a & 1 == 1 {
+            self.touched(mask)
+        } else {
+            mask
         }
     }
 
@@ -418,7 +742,7 @@ impl<'a> Queue<'a> {
         for edge in &self.back[number] {
             let Some(acted) = &self.acted[edge.to] else { continue };
             for (a, (mask, &from)) in masks.iter_mut().zip(acted).enumerate() {
-                *mask |= if edge.touched >> a & 1 == 1 { self.touched(from) } else { from };
+                *mask |= self.carried(*edge, a, from);
             }
         }
         masks
@@ -636,6 +960,11 @@ pub fn states(flow: &Flow, fault: Option<Fault>) -> States {
     let masks = queue.statement_masks();
     let (live_in, live_out) = live_sets(flow);
     States { masks, live_in, live_out, visits }
+}
+
+/// The answer without sure arrays: as it was before request E2, and as the original's still is.
+pub fn states_without_sure(flow: &Flow) -> States {
+    states(flow, Some(Fault::NothingSure))
 }
 
 impl Areas {

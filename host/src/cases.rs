@@ -80,23 +80,25 @@ pub fn steps() -> Vec<Worked> {
     let mut touched = joined.clone();
     touched.statements[2] = Statement::new(30, call, &[4], &[]);
     touched.statements[3].successors.clear();
-    touched.statements.push(Statement::new(50, Kind::Other, &[5], &[0]));
-    touched.statements.push(Statement::new(60, Kind::Return, &[], &[]));
+    // A way past the reference, so that the array is not sure.
+    touched.statements.push(Statement::new(50, Kind::Other, &[5, 6], &[]));
+    touched.statements.push(Statement::new(60, Kind::Other, &[6], &[0]));
+    touched.statements.push(Statement::new(70, Kind::Return, &[], &[]));
     touched.lines = vec![(50, 4)];
     vec![
         case("p1", in_line(vec![(Kind::Other, &[0]), (Kind::Other, &[])]), &[1, 2]),
         case("p2", joined, &[1, 1, 5, 6]),
         case("p3", in_line(vec![(dim(), &[]), (Kind::Other, &[0]), (Kind::Other, &[])]), &[1, 4, 4]),
-        case("p4", touched, &[1, 1, 5, 7, 5, 6]),
+        case("p4", touched, &[1, 1, 5, 7, 5, 5, 7]),
     ]
 }
 
-/// P5 to P10.
+/// P5 to P10, P5 as request E2 leaves it.
 pub fn worked() -> Vec<Worked> {
     let case = |name, flow, masks, visits| Worked { name, flow, masks, visits };
     let empty = Flow { arrays: 1, names: 1, entry: 7, ..Flow::default() };
     vec![
-        case("p5", p5_with(Kind::Other, &[0]), &[1, 3, 1, 2], Some(4)),
+        case("p5", p5_with(Kind::Other, &[0]), &[1, 2, 1, 2], Some(4)),
         case("p6", p5_with(Kind::Dim(vec![(0, 1)]), &[]), &[1, 4, 1, 4], None),
         case("p7", p5_with(Kind::Dim(vec![(0, 0)]), &[]), &[1, 1, 1, 1], None),
         case("p8", p5_with(Kind::Clr, &[]), &[1, 1, 1, 1], None),
@@ -268,6 +270,321 @@ pub fn certain() -> Vec<Case> {
     refused.lent = Lent { work: 1, ..short };
     cases.push(refused);
     cases
+}
+
+// ----- Sure arrays --------------------------------------------------------
+
+/// Flows for a rule of request E2 each, with the fault that goes astray there.
+const SURE: [(&str, Fault, &str); 26] = [
+    ("a set-up routine called first", Fault::NothingSure, include_str!("../../examples/setup.txt")),
+    (
+        "sure through two nested calls",
+        Fault::NestedSureLeftOut,
+        "flow 8 statements, 1 array, 0 names, entry 0
+         0: line 10 GOSUB 100 then 1; to 2
+         1: line 20 other; refs 0
+         2: line 100 GOSUB 200 then 3; to 4
+         3: line 110 RETURN
+         4: line 200 GOSUB 300 then 5; to 6
+         5: line 210 RETURN
+         6: line 300 other; to 7; refs 0
+         7: line 310 RETURN
+         lines 100=2 200=4 300=6",
+    ),
+    (
+        "sure through two nested calls, each before its caller in the file",
+        Fault::NestedSureLeftOut,
+        "flow 8 statements, 1 array, 0 names, entry 6
+         0: line 10 other; to 1; refs 0
+         1: line 20 RETURN
+         2: line 30 GOSUB 10 then 3; to 0
+         3: line 40 RETURN
+         4: line 50 GOSUB 30 then 5; to 2
+         5: line 60 RETURN
+         6: line 70 GOSUB 50 then 7; to 4
+         7: line 80 other; refs 0
+         lines 10=0 30=2 50=4",
+    ),
+    (
+        "a nested call on one of two ways, a reference on the other",
+        Fault::NestedSureLeftOut,
+        "flow 8 statements, 2 arrays, 0 names, entry 0
+         0: line 10 GOSUB 100 then 1; to 2
+         1: line 20 other; refs 0 1
+         2: line 100 other; to 3 4
+         3: line 110 GOSUB 200 then 5; to 6
+         4: line 120 other; to 5; refs 0
+         5: line 130 RETURN
+         6: line 200 other; to 7; refs 0 1
+         7: line 210 RETURN
+         lines 100=2 200=6",
+    ),
+    (
+        "a loop before the RETURN",
+        Fault::SomeWalkMeets,
+        "flow 6 statements, 3 arrays, 0 names, entry 0
+         0: line 10 GOSUB 100 then 1; to 2
+         1: line 20 other; refs 0 1 2
+         2: line 100 other; to 3 4; refs 2
+         3: line 110 other; to 2; refs 1
+         4: line 120 other; to 5 2; refs 0
+         5: line 130 RETURN
+         lines 100=2",
+    ),
+    (
+        "two RETURNs, one of them missed",
+        Fault::SomeWalkMeets,
+        "flow 6 statements, 2 arrays, 0 names, entry 0
+         0: line 10 GOSUB 100 then 1; to 2
+         1: line 20 other; refs 0 1
+         2: line 100 other; to 3 4; refs 1
+         3: line 110 RETURN
+         4: line 120 other; to 5; refs 0
+         5: line 130 RETURN
+         lines 100=2",
+    ),
+    (
+        "two RETURNs, both met",
+        Fault::NothingSure,
+        "flow 7 statements, 1 array, 0 names, entry 0
+         0: line 10 GOSUB 100 then 1; to 2
+         1: line 20 other; refs 0
+         2: line 100 other; to 3 5
+         3: line 110 other; to 4; refs 0
+         4: line 120 RETURN
+         5: line 130 other; to 6; refs 0
+         6: line 140 RETURN
+         lines 100=2",
+    ),
+    (
+        "a body without RETURN",
+        Fault::SureWithoutReturn,
+        "flow 4 statements, 2 arrays, 0 names, entry 0
+         0: line 10 GOSUB 100 then 1; to 2
+         1: line 20 other; refs 0 1
+         2: line 100 other; to 3; refs 0
+         3: line 110 other; to 2
+         lines 100=2",
+    ),
+    (
+        "a call whose line enters nothing",
+        Fault::SureWithoutBody,
+        "flow 3 statements, 1 array, 0 names, entry 0
+         0: line 10 GOSUB 100 then 1; to 2
+         1: line 20 other; refs 0
+         2: line 30 RETURN",
+    ),
+    (
+        "a call on the walk whose line enters nothing",
+        Fault::SureWithoutBody,
+        "flow 4 statements, 1 array, 0 names, entry 0
+         0: line 10 GOSUB 100 then 1; to 2
+         1: line 20 other; refs 0
+         2: line 100 GOSUB 200 then 3
+         3: line 110 RETURN
+         lines 100=2",
+    ),
+    (
+        "an ON GOSUB with one line",
+        Fault::OneLineSure,
+        "flow 4 statements, 1 array, 0 names, entry 0
+         0: line 10 ON GOSUB 100 then 1; to 2 1
+         1: line 20 other; refs 0
+         2: line 100 other; to 3; refs 0
+         3: line 110 RETURN
+         lines 100=2",
+    ),
+    (
+        "an ON GOSUB of two bodies that refer to the array",
+        Fault::OnGosubSure,
+        "flow 6 statements, 1 array, 0 names, entry 0
+         0: line 10 ON GOSUB 100 200 then 1; to 2 4 1
+         1: line 20 other; refs 0
+         2: line 100 other; to 3; refs 0
+         3: line 110 RETURN
+         4: line 200 other; to 5; refs 0
+         5: line 210 RETURN
+         lines 100=2 200=4",
+    ),
+    (
+        "an ON GOSUB on the way inside a body",
+        Fault::OnGosubMeets,
+        "flow 7 statements, 2 arrays, 0 names, entry 0
+         0: line 10 GOSUB 100 then 1; to 2
+         1: line 20 other; refs 0 1
+         2: line 100 ON GOSUB 200 then 3; to 5 3
+         3: line 110 other; to 4; refs 1
+         4: line 120 RETURN
+         5: line 200 other; to 6; refs 0
+         6: line 210 RETURN
+         lines 100=2 200=5",
+    ),
+    (
+        "an ON GOSUB on the way, its own reference",
+        Fault::NothingSure,
+        "flow 6 statements, 1 array, 0 names, entry 0
+         0: line 10 GOSUB 100 then 1; to 2
+         1: line 20 other; refs 0
+         2: line 100 ON GOSUB 200 then 3; to 4 3; refs 0
+         3: line 110 RETURN
+         4: line 200 other; to 5
+         5: line 210 RETURN
+         lines 100=2 200=4",
+    ),
+    (
+        "an opaque call that lists its continuation",
+        Fault::SureThroughOpaqueCall,
+        "flow 5 statements, 1 array, 0 names, entry 0
+         0: line 10 GOSUB 100 then 1; to 2 1
+         1: line 20 other; refs 0
+         2: line 100 other; to 3; refs 0
+         3: line 110 CLR; to 4
+         4: line 120 RETURN; to 1
+         lines 100=2",
+    ),
+    (
+        "a body on a cycle of calls",
+        Fault::SureThroughOpaqueCall,
+        "flow 5 statements, 1 array, 0 names, entry 0
+         0: line 10 GOSUB 100 then 1; to 2 1
+         1: line 20 other; refs 0
+         2: line 100 other; to 3 4; refs 0
+         3: line 110 GOSUB 100 then 4; to 2
+         4: line 120 RETURN; to 1 4
+         lines 100=2",
+    ),
+    (
+        "a nested body without RETURN",
+        Fault::SureWithoutReturn,
+        "flow 6 statements, 1 array, 0 names, entry 0
+         0: line 10 GOSUB 100 then 1; to 2
+         1: line 20 other; refs 0
+         2: line 100 GOSUB 200 then 3; to 4
+         3: line 110 RETURN
+         4: line 200 other; to 5; refs 0
+         5: line 210 other; to 4
+         lines 100=2 200=4",
+    ),
+    (
+        "a GOSUB without a continuation inside a body",
+        Fault::EndlessCallMeets,
+        "flow 8 statements, 1 array, 0 names, entry 0
+         0: line 10 GOSUB 100 then 1; to 4
+         1: line 20 other; to 2; refs 0
+         2: line 30 GOSUB 200 then 3; to 6
+         3: line 40 other
+         4: line 100 GOSUB 200; to 6 5
+         5: line 110 RETURN
+         6: line 200 other; to 7; refs 0
+         7: line 210 RETURN
+         lines 100=4 200=6",
+    ),
+    (
+        "a GOSUB without a continuation, walked on to the body that it lists",
+        Fault::NothingSure,
+        "flow 5 statements, 1 array, 0 names, entry 0
+         0: line 10 GOSUB 100 then 1; to 2
+         1: line 20 other; refs 0
+         2: line 100 GOSUB 200; to 3
+         3: line 200 other; to 4; refs 0
+         4: line 210 RETURN
+         lines 100=2 200=3",
+    ),
+    (
+        "a nested call that lists the body of its GOSUB",
+        Fault::ListedWalked,
+        "flow 6 statements, 1 array, 0 names, entry 0
+         0: line 10 GOSUB 100 then 1; to 2
+         1: line 20 other; refs 0
+         2: line 100 GOSUB 200 then 3; to 5
+         3: line 110 other; to 4; refs 0
+         4: line 120 RETURN
+         5: line 200 RETURN
+         lines 100=2 200=5",
+    ),
+    (
+        "the continuation is the entered statement, in base 0",
+        Fault::SureStepNeverWhereEntered,
+        "flow 8 statements, 1 array, 0 names, entry 0
+         0: line 10 other; to 1 2
+         1: line 20 GOSUB 60 then 5; to 5
+         2: line 30 other; to 3
+         3: line 40 other; to 4
+         4: line 50 other; to 5
+         5: line 60 other; to 6
+         6: line 70 other; to 7; refs 0
+         7: line 80 RETURN
+         lines 60=5",
+    ),
+    (
+        "the continuation is the entered statement, in base n",
+        Fault::SureStepOnSharedEdge,
+        "flow 5 statements, 1 array, 0 names, entry 0
+         0: line 10 GOSUB 100 then 1; to 2
+         1: line 20 other; refs 0
+         2: line 100 GOSUB 110 then 3; to 3
+         3: line 110 other; to 4; refs 0
+         4: line 120 RETURN
+         lines 100=2 110=3",
+    ),
+    (
+        "64 arrays, all sure",
+        Fault::NothingSure,
+        "flow 4 statements, 64 arrays, 0 names, entry 0
+         0: line 10 GOSUB 100 then 1; to 2
+         1: line 20 other; refs 0 31 32 63
+         2: line 100 other; to 3; refs 0 1 2 3 4 5 6 7 8 9 10 11 12 13 14 15 16 17 18 19 20 21 22 23 24 25 \
+         26 27 28 29 30 31 32 33 34 35 36 37 38 39 40 41 42 43 44 45 46 47 48 49 50 51 52 53 54 55 56 57 58 \
+         59 60 61 62 63
+         3: line 110 RETURN
+         lines 100=2",
+    ),
+    (
+        "array 63 sure and no other",
+        Fault::SomeWalkMeets,
+        "flow 5 statements, 64 arrays, 0 names, entry 0
+         0: line 10 GOSUB 100 then 1; to 2
+         1: line 20 other; refs 0 31 32 62 63
+         2: line 100 other; to 3 4; refs 63
+         3: line 110 other; to 4; refs 0 31 32 62
+         4: line 120 RETURN
+         lines 100=2",
+    ),
+    (
+        "a walk that ends elsewhere than at a RETURN",
+        Fault::OtherEndsCount,
+        "flow 6 statements, 1 array, 0 names, entry 0
+         0: line 10 GOSUB 100 then 1; to 2
+         1: line 20 other; refs 0
+         2: line 100 other; to 3 4
+         3: line 110 other
+         4: line 120 other; to 5; refs 0
+         5: line 130 RETURN
+         lines 100=2",
+    ),
+    (
+        "a sure array that may be dimensioned before",
+        Fault::SureIsAutoAlone,
+        "flow 6 statements, 1 array, 0 names, entry 0
+         0: line 10 other; to 1 2
+         1: line 20 DIM 0(); to 2
+         2: line 30 GOSUB 100 then 3; to 4
+         3: line 40 other; refs 0
+         4: line 100 other; to 5; refs 0
+         5: line 110 RETURN
+         lines 100=4",
+    ),
+];
+
+/// The flows above, and the fault that each is to show.
+pub fn sure_flows() -> Vec<(&'static str, Fault, Flow)> {
+    SURE.into_iter().map(|(name, fault, text)| (name, fault, said(text))).collect()
+}
+
+/// The flows above.
+pub fn sure() -> Vec<Case> {
+    let case = |(of, _, flow): (&str, Fault, Flow)| Case::new(format!("sure arrays: {of}"), flow.bytes(), 1);
+    sure_flows().into_iter().map(case).collect()
 }
 
 // ----- Refusals and limits ------------------------------------------------

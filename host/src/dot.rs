@@ -1,5 +1,5 @@
-//! A flow as a picture, in the language of Graphviz: a box a statement, with its masks, and below them
-//! the names that are certainly written.
+//! A flow as a picture, in the language of Graphviz: a box a statement, with its masks and with the arrays
+//! that are sure for a call, and below them the names that are certainly written.
 //!
 //! Plain arrows are listed successors, dashed blue ones go to the statements that a call enters,
 //! dotted red ones to its continuation. Unreached statements are grey.
@@ -29,12 +29,14 @@ fn kind(kind: &Kind) -> String {
     text::kind(&short) + &more
 }
 
-fn node(flow: &Flow, i: usize, masks: &[u8]) -> String {
+fn node(flow: &Flow, i: usize, masks: &[u8], sure: u64) -> String {
     let s = &flow.statements[i];
     let mut label = format!("{i}: line {}\\l{}\\l", s.line, kind(&s.kind));
     if !s.references.is_empty() {
-        let references: String = s.references.iter().map(|array| format!(" {array}")).collect();
-        write!(label, "refs{references}\\l").unwrap();
+        write!(label, "refs{}\\l", text::list(&s.references)).unwrap();
+    }
+    if sure != 0 {
+        write!(label, "sure{}\\l", text::list(text::members(sure))).unwrap();
     }
     let digits: String = masks.iter().map(|mask| char::from(b'0' + mask)).collect();
     if !masks.is_empty() {
@@ -66,8 +68,8 @@ pub fn print(flow: &Flow, masks: &[u8]) -> String {
     if !flow.statements.is_empty() {
         write!(text, "  start [shape=plaintext];\n  start -> {};\n", flow.entry).unwrap();
     }
-    for i in 0..flow.statements.len() {
-        text += &node(flow, i, &masks[i * arrays..(i + 1) * arrays]);
+    for (i, sure) in answerer::sure_arrays(flow, None).into_iter().enumerate() {
+        text += &node(flow, i, &masks[i * arrays..(i + 1) * arrays], sure);
     }
     for (i, s) in flow.statements.iter().enumerate() {
         text += &edges(i, &s.successors, "");

@@ -1,4 +1,5 @@
-//! Random flow files: plain graphs, layered scripts, flows at the limits, damaged copies.
+//! Random flow files: plain graphs, layered scripts, flows at the limits, scripts with set-up routines,
+//! damaged copies.
 
 use crate::flow::{Encoded, Flow, Kind, MAX_ARRAYS, MAX_FILE, MAX_STATEMENTS, Statement, What};
 use crate::random::Random;
@@ -8,19 +9,31 @@ pub enum Family {
     Plain,
     Layered,
     Limits,
+    Setup,
     Damaged,
 }
 
 impl Family {
-    pub const ALL: [Family; 4] = [Family::Plain, Family::Layered, Family::Limits, Family::Damaged];
+    pub const ALL: [Family; 5] =
+        [Family::Plain, Family::Layered, Family::Limits, Family::Setup, Family::Damaged];
+
+    /// The turns that the families take in a run.
+    const TURNS: [Family; 6] =
+        [Family::Plain, Family::Layered, Family::Setup, Family::Limits, Family::Damaged, Family::Setup];
 
     pub fn name(self) -> &'static str {
         match self {
             Family::Plain => "plain",
             Family::Layered => "layered",
             Family::Limits => "limits",
+            Family::Setup => "setup",
             Family::Damaged => "damaged",
         }
+    }
+
+    /// Whose turn it is in a run.
+    pub fn of(index: u64) -> Family {
+        Family::TURNS[(index % Family::TURNS.len() as u64) as usize]
     }
 
     pub fn named(name: &str) -> Option<Family> {
@@ -30,7 +43,7 @@ impl Family {
 
 /// File `index` of a run: the families take turns.
 pub fn file(seed: u64, index: u64) -> Vec<u8> {
-    file_of(Family::ALL[(index % 4) as usize], seed, index)
+    file_of(Family::of(index), seed, index)
 }
 
 pub fn file_of(family: Family, seed: u64, index: u64) -> Vec<u8> {
@@ -42,6 +55,7 @@ pub fn file_of(family: Family, seed: u64, index: u64) -> Vec<u8> {
         Family::Layered => layered(&mut random),
         Family::Limits if names.once_in(24) => revisited(&mut names),
         Family::Limits => limits(&mut random),
+        Family::Setup => setup(&mut random),
         Family::Damaged => return damaged(&mut random, &mut names),
     };
     on_walks(&mut names, flow).bytes()
@@ -297,6 +311,254 @@ fn list_returns(random: &mut Random, flow: &mut Flow) {
     }
 }
 
+// ----- Set-up routines ----------------------------------------------------
+
+/// A script that calls set-up routines and then uses their arrays. A routine calls those made before it, and
+/// is made of what tells whether an array is sure: references on all ways or on some, loops, RETURNs and
+/// other ends in between, calls of each kind, a call of the next statement, and now and then what makes a
+/// body opaque.
+struct Setup<'a> {
+    random: &'a mut Random,
+    flow: Flow,
+    /// Where each routine starts.
+    starts: Vec<usize>,
+}
+
+fn setup(random: &mut Random) -> Flow {
+    let arrays = if random.once_in(30) { random.within(63, 64) as u8 } else { random.within(1, 4) as u8 };
+    let names = few(random, 64);
+    let flow = Flow { arrays, names, ..Flow::default() };
+    let mut script = Setup { random, flow, starts: Vec::new() };
+    for _ in 0..script.random.within(1, 5) {
+        script.routine();
+    }
+    script.main();
+    let Setup { mut flow, .. } = script;
+    list_returns(random, &mut flow);
+    for s in &mut flow.statements {
+        (s.written, s.read) = (some_names(random, names), some_names(random, names));
+    }
+    reordered(random, flow)
+}
+
+impl Setup<'_> {
+    /// Where the next statement will stand.
+    fn here(&self) -> usize {
+        self.flow.statements.len()
+    }
+
+    fn put(&mut self, kind: Kind, successors: &[usize], references: &[u8]) {
+        let successors: Vec<u16> = successors.iter().map(|&t| t as u16).collect();
+        self.flow.statements.push(Statement::new(line_of(self.here()), kind, &successors, references));
+    }
+
+    /// A line enters the statement.
+    fn entered(&mut self, e: usize) -> u16 {
+        if let Err(at) = self.flow.lines.binary_search(&(line_of(e), e as u16)) {
+            self.flow.lines.insert(at, (line_of(e), e as u16));
+        }
+        line_of(e)
+    }
+
+    /// One array, or several; of many arrays, those at the ends more often.
+    fn arrays(&mut self) -> Vec<u8> {
+        let arrays = self.flow.arrays;
+        match self.random.below(8) {
+            0 => (0..arrays).collect(),
+            1 => some_of(self.random, arrays, 2),
+            2 => vec![arrays - 1],
+            3 => vec![0],
+            _ => vec![self.random.below(arrays.into()) as u8],
+        }
+    }
+
+    fn refer(&mut self) {
+        let (next, arrays) = (self.here() + 1, self.arrays());
+        self.put(Kind::Other, &[next], &arrays);
+    }
+
+    /// A plain GOSUB as a rule. A call without a continuation lists what stands after it in half of the cases,
+    /// so that a walk can pass it.
+    fn call(&mut self, e: usize) {
+        let (line, next) = (self.entered(e), self.here() + 1);
+        let continuation = (!self.random.once_in(12)).then_some(next as u16);
+        let references = if self.random.once_in(10) { self.arrays() } else { Vec::new() };
+        if self.random.once_in(5) {
+            let (mut lines, mut successors) = (vec![line], vec![e]);
+            if self.random.once_in(2) {
+                let other = if self.starts.is_empty() { e } else { self.random.pick(&self.starts) };
+                lines.push(self.entered(other));
+                successors.push(other);
+            }
+            successors.push(next);
+            return self.put(Kind::OnGosub { lines, continuation }, &successors, &references);
+        }
+        let lists_next = self.random.once_in(if continuation.is_none() { 2 } else { 8 });
+        let successors = if lists_next { vec![e, next] } else { vec![e] };
+        self.put(Kind::Gosub { line, continuation }, &successors, &references);
+    }
+
+    /// A call of the statement after it, which now and then is also come to by a longer way.
+    fn call_next(&mut self) {
+        let here = self.here();
+        let way = if self.random.once_in(3) { self.random.within(2, 4) } else { 0 };
+        if way > 0 {
+            self.put(Kind::Other, &[here + 1 + way, here + 1], &[]);
+            (1..way).for_each(|k| self.put(Kind::Other, &[here + 1 + k], &[]));
+            self.put(Kind::Other, &[here + way + 2], &[]);
+        }
+        let next = self.here() + 1;
+        self.call(next);
+        if !self.random.once_in(3) {
+            self.refer();
+        }
+    }
+
+    /// Two ways with references, often the same, which meet after them or have an end of their own.
+    fn ways(&mut self) {
+        let parts = self.here();
+        let (arrays, same) = (self.arrays(), self.random.below(3) > 0);
+        self.put(Kind::Other, &[parts + 1], &[]);
+        let mut meet = Vec::new();
+        for way in 0..2 {
+            let here = self.here();
+            if way == 1 {
+                self.flow.statements[parts].successors.push(here as u16);
+            }
+            let arrays = if same || way == 0 { arrays.clone() } else { self.arrays() };
+            self.put(Kind::Other, &[here + 1], &arrays);
+            match self.random.below(10) {
+                0 | 1 => self.put(Kind::Return, &[], &[]),
+                2 => self.put(Kind::Other, &[], &[]),
+                3 => self.put(Kind::Other, &[here], &[]),
+                _ => meet.push(here),
+            }
+        }
+        let after = self.here() as u16;
+        meet.into_iter().for_each(|way| self.flow.statements[way].successors = vec![after]);
+    }
+
+    fn step(&mut self, start: usize) {
+        let next = self.here() + 1;
+        match self.random.below(20) {
+            0..=5 => self.refer(),
+            6..=8 => self.ways(),
+            9..=12 => self.call_routine(),
+            // A loop, or a way past the next statement.
+            13 | 14 => {
+                let to = if self.random.once_in(2) { start } else { next + 1 };
+                self.put(Kind::Other, &[next, to], &[]);
+                self.refer();
+            }
+            // A RETURN or an end that is passed by.
+            15 => {
+                let arrays = if self.random.once_in(2) { self.arrays() } else { Vec::new() };
+                self.put(Kind::Other, &[next, next + 1], &arrays);
+                let kind = if self.random.once_in(2) { Kind::Return } else { Kind::Other };
+                self.put(kind, &[], &[]);
+            }
+            16 | 17 => self.call_next(),
+            18 if self.random.once_in(5) => {
+                let kind = match self.random.below(4) {
+                    0 => Kind::Clr,
+                    1 => Kind::Run,
+                    _ => dim(self.random, self.flow.arrays),
+                };
+                self.put(kind, &[next], &[]);
+            }
+            _ => self.put(Kind::Other, &[next], &[]),
+        }
+    }
+
+    /// A call of some routine that stands there already, if there is one.
+    fn call_routine(&mut self) {
+        if self.starts.is_empty() {
+            return self.refer();
+        }
+        let e = self.random.pick(&self.starts);
+        self.call(e);
+    }
+
+    /// In two routines of five there are calls of others in the place of steps.
+    fn routine(&mut self) {
+        let (start, calls) = (self.here(), self.random.below(5) < 2);
+        for _ in 0..self.random.within(1, 3) {
+            if calls { self.call_routine() } else { self.step(start) }
+        }
+        match self.random.below(20) {
+            0 => self.put(Kind::Other, &[], &[]),
+            1 => self.put(Kind::Other, &[start], &[]),
+            _ => self.put(Kind::Return, &[], &[]),
+        }
+        self.starts.push(start);
+    }
+
+    fn main(&mut self) {
+        let start = self.here();
+        self.flow.entry = start as u16;
+        if self.random.once_in(4) {
+            let (next, kind) = (start + 1, dim(self.random, self.flow.arrays));
+            self.put(kind, &[next], &[]);
+        }
+        for _ in 0..self.random.within(1, 3) {
+            self.call_routine();
+            if self.random.once_in(2) {
+                self.refer();
+            }
+        }
+        for _ in 0..self.random.below(3) {
+            self.step(start);
+        }
+        let (back, arrays) = (start + self.random.below(self.here() - start), self.arrays());
+        let loops = self.random.once_in(2);
+        self.put(Kind::Other, if loops { std::slice::from_ref(&back) } else { &[] }, &arrays);
+    }
+}
+
+/// The same flow with its statements in another order of the file: as made, so that routines stand before
+/// those that call them; turned around; or in any order.
+fn reordered(random: &mut Random, flow: Flow) -> Flow {
+    let n = flow.statements.len();
+    let mut place: Vec<usize> = (0..n).collect();
+    match random.below(3) {
+        0 => {}
+        1 => place.reverse(),
+        _ => (1..n).for_each(|i| place.swap(i, random.within(0, i))),
+    }
+    moved(flow, &place, line_of)
+}
+
+/// The same flow with statement i at `place[i]`, and lines by these places. A line that enters a statement is
+/// to be that statement's own.
+pub fn moved(flow: Flow, place: &[usize], line_of: impl Fn(usize) -> u16) -> Flow {
+    let to = |i: u16| place[usize::from(i)] as u16;
+    let new_line = |line: u16| match flow.lines.binary_search_by_key(&line, |&(line, _)| line) {
+        Ok(at) => line_of(to(flow.lines[at].1).into()),
+        Err(_) => line,
+    };
+    let mut statements = flow.statements.clone();
+    for (i, s) in flow.statements.iter().enumerate() {
+        let mut s = s.clone();
+        s.successors.iter_mut().for_each(|t| *t = to(*t));
+        match &mut s.kind {
+            Kind::Gosub { line, continuation } => {
+                (*line, *continuation) = (new_line(*line), continuation.map(to));
+            }
+            Kind::OnGosub { lines, continuation } => {
+                lines.iter_mut().for_each(|line| *line = new_line(*line));
+                *continuation = continuation.map(to);
+            }
+            _ => {}
+        }
+        s.line = line_of(place[i]);
+        statements[place[i]] = s;
+    }
+    let mut lines: Vec<(u16, u16)> =
+        flow.lines.iter().map(|&(line, first)| (new_line(line), to(first))).collect();
+    lines.sort_unstable();
+    Flow { entry: to(flow.entry), statements, lines, ..flow }
+}
+
 // ----- At the limits ------------------------------------------------------
 
 fn limits(random: &mut Random) -> Flow {
@@ -461,9 +723,10 @@ fn full(random: &mut Random) -> Flow {
 // ----- Damage -------------------------------------------------------------
 
 fn damaged(random: &mut Random, names: &mut Random) -> Vec<u8> {
-    let flow = match random.below(4) {
+    let flow = match random.below(5) {
         0 => plain(random),
         1 => wide(random),
+        2 => setup(random),
         _ => layered(random),
     };
     let flow = on_walks(names, flow);

@@ -1,7 +1,7 @@
 //! The right answer to a file, from the original where it has something to say and from the
 //! reference answerer elsewhere; how a fault shows against it; and who agrees with it.
 
-use crate::answerer::{self, Answer, Areas, Certain, Fault};
+use crate::answerer::{self, Answer, Areas, Certain, Fault, States, SureParts};
 use crate::flow::{self, Flow, Refusal};
 use crate::sides::{self, Original, OriginalCertain};
 use crate::{generate, reader};
@@ -49,21 +49,34 @@ pub fn outcome(file: &[u8], lent: Lent, fault: Option<Fault>) -> Outcome {
     Outcome { answer, areas, certain, certain_work }
 }
 
+/// Whether every state of these masks is in the original's, where there may be fewer of them, or whether
+/// they are the original's.
+fn masks_agree(masks: &[u8], original: &[u8], fewer: bool) -> bool {
+    let within = |(mask, original): (&u8, &u8)| mask & !original == 0;
+    match fewer {
+        true => masks.len() >= original.len() && masks.iter().zip(original).all(within),
+        false => masks.starts_with(original),
+    }
+}
+
 impl Outcome {
-    /// Whether it is an acceptance with the original's masks and live sets.
-    fn agrees(&self, original: &Original) -> bool {
+    /// Whether it is an acceptance with the original's live sets and masks, or masks within them where
+    /// the flow has sure arrays.
+    fn agrees(&self, original: &Original, sure: bool) -> bool {
         let areas = &self.areas;
         self.answer.number == 0
-            && areas.masks.starts_with(&original.masks)
+            && masks_agree(&areas.masks, &original.masks, sure)
             && areas.live_in.starts_with(&original.live_in)
             && areas.live_out.starts_with(&original.live_out)
     }
 }
 
-/// The right outcome, with the flow of a fit file, and with what the original says where a call accepts.
+/// The right outcome, with the flow of a fit file and what it has of sure arrays, and with what the
+/// original says where a call accepts.
 pub struct Right {
     pub outcome: Outcome,
     pub flow: Option<Flow>,
+    pub sure: SureParts,
     pub original: Option<Original>,
     pub certain: Option<OriginalCertain>,
 }
@@ -71,16 +84,22 @@ pub struct Right {
 pub fn right(file: &[u8], lent: Lent) -> Right {
     let outcome = outcome(file, lent, None);
     let flow = flow::read(file).ok();
+    let sure = flow.as_ref().map(answerer::sure_parts).unwrap_or_default();
     let accepted = |number: u64| flow.as_ref().filter(|_| number == 0);
     let original = accepted(outcome.answer.number).and_then(sides::original);
     let certain = accepted(outcome.certain.number).and_then(sides::original_certain);
-    Right { outcome, flow, original, certain }
+    Right { outcome, flow, sure, original, certain }
 }
 
 impl Right {
-    /// Whether the masks and live sets are the original's, if it has any.
+    /// The flow, where the call accepts it.
+    fn accepted(&self) -> Option<&Flow> {
+        self.flow.as_ref().filter(|_| self.outcome.answer.number == 0)
+    }
+
+    /// Whether the masks and live sets agree with the original's, if it has any.
     fn states_agree(&self, outcome: &Outcome) -> bool {
-        self.original.as_ref().is_none_or(|original| outcome.agrees(original))
+        self.original.as_ref().is_none_or(|original| outcome.agrees(original, self.sure.some))
     }
 
     /// Whether the certain names are the original's, if they are to be compared.
@@ -91,6 +110,16 @@ impl Right {
 
     pub fn original_agrees(&self, outcome: &Outcome) -> bool {
         self.states_agree(outcome) && self.certain_agrees(outcome)
+    }
+
+    /// The answer to an accepted flow as it is without sure arrays.
+    pub fn without_sure(&self) -> Option<States> {
+        self.accepted().map(answerer::states_without_sure)
+    }
+
+    /// Whether the masks without sure arrays are the original's, if it has any.
+    pub fn masks_without_sure_agree(&self, without: &States) -> bool {
+        self.original.as_ref().is_none_or(|original| original.masks == without.masks)
     }
 }
 
@@ -173,12 +202,49 @@ impl Certainty {
     }
 }
 
+/// Of the accepted flows: how many have sure arrays, by way of a call on the walk alone, and on an edge that
+/// is also the edge to an entered statement; how many have a smaller mask for it; and in how many the
+/// visits without sure arrays were compared with the original's.
+#[derive(Default)]
+pub struct Sureness {
+    pub flows: usize,
+    pub some: usize,
+    pub nested: usize,
+    pub shared: usize,
+    pub smaller: usize,
+    pub visits: usize,
+}
+
+impl Sureness {
+    fn count(&mut self, SureParts { some, nested, shared }: SureParts, smaller: bool) {
+        self.flows += 1;
+        self.some += usize::from(some);
+        self.nested += usize::from(nested);
+        self.shared += usize::from(shared);
+        self.smaller += usize::from(smaller);
+    }
+
+    fn print(&self) {
+        let Sureness { flows, some, nested, shared, smaller, visits } = *self;
+        let share = |count: usize| format!("{count} ({:.1}%)", 100.0 * count as f64 / flows as f64);
+        print!("  sure arrays, {flows} flows: {} with some, ", share(some));
+        print!("{} by way of a call on the walk alone, ", share(nested));
+        print!("{} on an edge that is also one to an entered statement, ", share(shared));
+        println!("{} with a smaller mask", share(smaller));
+        if cfg!(original) {
+            print!("  masks beside the original: equal in {} flows, within in {some}", flows - some);
+            println!("{}", if visits > 0 { format!("; visits in {visits}") } else { String::new() });
+        }
+    }
+}
+
 #[derive(Default)]
 pub struct Comparison {
     pub accepted: usize,
     /// How many files were refused, by number.
     pub refused: [usize; 11],
     pub certainty: Certainty,
+    pub sureness: Sureness,
     pub differences: Vec<String>,
 }
 
@@ -201,6 +267,25 @@ impl Comparison {
         self.hold(index, &format!("certain names by the original and {side}"), right.certain_agrees(outcome));
     }
 
+    /// The answerer without sure arrays beside the original: masks on every flow, and visits where no
+    /// order of a hash map tells in them. And beside itself: the same answer where there are none, and no
+    /// other states where there are some.
+    fn hold_without_sure(&mut self, index: u64, right: &Right) {
+        let (Some(flow), Some(without)) = (right.accepted(), right.without_sure()) else { return };
+        let (masks, visits) = (&right.outcome.areas.masks, right.outcome.answer.visits);
+        let same = masks.starts_with(&without.masks);
+        self.sureness.count(right.sure, !same);
+        let fewer = masks_agree(masks, &without.masks, true);
+        let agree = if right.sure.some { fewer } else { same && visits == without.visits };
+        self.hold(index, "the answerer with and without sure arrays", agree);
+        let agree = right.masks_without_sure_agree(&without);
+        self.hold(index, "the original and the answerer without sure arrays", agree);
+        if let Some(counted) = sides::original_visits(flow) {
+            self.sureness.visits += 1;
+            self.hold(index, "visits by the original and without sure arrays", counted == without.visits);
+        }
+    }
+
     pub fn print(&self, count: u64, seed: u64) {
         println!("{count} files, seed {seed}: {} accepted", self.accepted);
         for (number, files) in self.refused.iter().enumerate().filter(|(_, files)| **files > 0) {
@@ -208,6 +293,9 @@ impl Comparison {
         }
         if self.certainty.flows > 0 {
             self.certainty.print();
+        }
+        if self.sureness.flows > 0 {
+            self.sureness.print();
         }
         self.differences.iter().for_each(|d| println!("  {d}"));
         println!("{} differences", self.differences.len());
@@ -234,6 +322,7 @@ pub fn compare(count: u64, seed: u64) -> Comparison {
         comparison.certainty.count(&right);
         comparison.hold(index, "the plain reader and the answerer", read == of_file(right.outcome.answer));
         comparison.hold_original(index, "the answerer", &right, &right.outcome);
+        comparison.hold_without_sure(index, &right);
     }
     comparison
 }
@@ -294,6 +383,7 @@ pub fn compare_proved(count: u64, seed: u64) -> Option<Comparison> {
         comparison.certainty.count(&right);
         comparison.hold(index, "the proved calls and the answerer", proved == right.outcome);
         comparison.hold_original(index, "the proved calls", &right, &proved);
+        comparison.hold_without_sure(index, &right);
     }
     Some(comparison)
 }

@@ -16,6 +16,7 @@ pub mod original;
 pub mod random;
 pub mod reader;
 pub mod reading;
+pub mod saved;
 pub mod sides;
 pub mod stack;
 #[cfg(original)]

@@ -8,11 +8,11 @@ use yarnuskel_host::flow::Flow;
 use yarnuskel_host::generate::{self, Family};
 use yarnuskel_host::judge::{self, Comparison, Lent};
 use yarnuskel_host::sides::{self, NO_LIBRARY, NO_ORIGINAL};
-use yarnuskel_host::{answerer, bench, cases, dot, flow, listing, reading, stack, store, text, worst};
+use yarnuskel_host::{answerer, bench, cases, dot, flow, listing, reading, saved, stack, store, text, worst};
 
 const USAGE: &str = "commands:
-  answer FILE|DIR              masks, live sets and certain names by the original, refusals by the answerer (of a DIR, its .flow files)
-  random KIND COUNT SEED DIR   write random files: plain, layered, limits, damaged
+  answer FILE|DIR              masks, live sets and certain names by the original, refusals and what sure arrays change by the answerer (of a DIR, its .flow files)
+  random KIND COUNT SEED DIR   write random files: plain, layered, limits, setup, damaged
   file SEED INDEX PATH         write one file of a comparison
   time FILE                    time the original
   compare COUNT SEED           the original beside the answerer
@@ -25,12 +25,14 @@ const USAGE: &str = "commands:
   definitions                  every definition that the promises rest on, with its file and its lines
   text FILE                    a flow file as text
   flow TEXT PATH               write the flow file that a text says
-  dot FILE                     a flow file with its masks and certain names as a picture, for Graphviz
+  dot FILE                     a flow file with its masks, sure arrays and certain names as a picture, for Graphviz
+  saved                        how many references need no test for sure arrays, in the flows of bench and the examples
+  saved FILE                   the masks of a flow file without sure arrays and with them
   bench-reader                 the proved reader beside a plain one
   bench                        the proved calls beside the original, and beside each other
   stack                        the stack that the deepest nest of subroutines takes, in each order of the file
   stack-try ORDER DEPTH BYTES  whether a thread with so much stack answers a nest (Down or Up); an overflow ends the program
-  worst SECONDS SEED           search for the file that takes the proved call longest, so long a family
+  worst SECONDS SEED [FAMILY]  search for the file that takes the proved call longest, so long a family
   worst-again                  time the worst files found so far (worst.txt)
   worst-file NUMBER PATH       write one of them, counted from 0";
 
@@ -71,11 +73,15 @@ fn answer_file(path: &Path) -> Outcome {
         return Ok(true);
     };
     let arrays = usize::from(flow.arrays);
+    let digits = |masks: &[u8], i: usize| -> String {
+        let row = &masks[i * arrays..(i + 1) * arrays];
+        if arrays == 0 { "-".into() } else { row.iter().map(|m| char::from(b'0' + m)).collect() }
+    };
+    let sure = answerer::states(&flow, None).masks;
     for i in 0..flow.statements.len() {
-        let masks = &answer.masks[i * arrays..(i + 1) * arrays];
-        let digits: String = masks.iter().map(|m| char::from(b'0' + m)).collect();
-        let digits = if arrays == 0 { "-" } else { &digits };
-        println!("{i} {digits} {:016x} {:016x}", answer.live_in[i], answer.live_out[i]);
+        let (original, masks) = (digits(&answer.masks, i), digits(&sure, i));
+        let was = if original == masks { String::new() } else { format!(" (the original: {original})") };
+        println!("{i} {masks} {:016x} {:016x}{was}", answer.live_in[i], answer.live_out[i]);
     }
     println!("{}", certain_line(&flow));
     Ok(true)
@@ -94,10 +100,11 @@ fn certain_line(flow: &Flow) -> String {
     }
 }
 
-fn files(folder: &Path) -> Result<Vec<PathBuf>, String> {
+/// The files of a folder whose name ends so.
+fn files(folder: &Path, extension: &str) -> Result<Vec<PathBuf>, String> {
     let entries = fs::read_dir(folder).map_err(|e| format!("{}: {e}", folder.display()))?;
     let mut files: Vec<PathBuf> = entries.flatten().map(|entry| entry.path()).collect();
-    files.retain(|path| path.is_file());
+    files.retain(|path| path.is_file() && path.extension().is_some_and(|e| e == extension));
     files.sort();
     Ok(files)
 }
@@ -106,8 +113,8 @@ fn answer(path: &Path) -> Outcome {
     if !path.is_dir() {
         return answer_file(path);
     }
-    for file in files(path)?.iter().filter(|path| path.extension().is_some_and(|e| e == "flow")) {
-        answer_file(file)?;
+    for file in files(path, "flow")? {
+        answer_file(&file)?;
     }
     Ok(true)
 }
@@ -135,6 +142,19 @@ fn picture(path: &Path) -> Outcome {
     let masks = masks.map_err(|r| format!("refused {} at {}", r.number, r.place))?;
     print!("{}", dot::print(&flow, &masks));
     Ok(true)
+}
+
+/// The flows of the benchmarks and those under examples/.
+fn known_flows() -> Result<Vec<(String, Flow)>, String> {
+    let mut flows: Vec<(String, Flow)> =
+        bench::flows().into_iter().map(|(name, flow)| (name.into(), flow)).collect();
+    for path in files(&root().join("examples"), "flow")? {
+        // One of them is an example of a refusal.
+        if let Ok(flow) = flow::read(&load(&path)?) {
+            flows.push((path.file_stem().unwrap().to_string_lossy().into(), flow));
+        }
+    }
+    Ok(flows)
 }
 
 fn write_flow(from: &Path, to: &Path) -> Outcome {
@@ -184,8 +204,8 @@ fn write_store() -> Outcome {
     save(&root().join(store::PRINTED), store::printed(cases.len()).as_bytes())?;
     let examples = root().join("examples");
     save(&examples.join("refused.flow"), &cases::refused())?;
-    for path in files(&examples)?.iter().filter(|path| path.extension().is_some_and(|e| e == "txt")) {
-        write_flow(path, &path.with_extension("flow"))?;
+    for path in files(&examples, "txt")? {
+        write_flow(&path, &path.with_extension("flow"))?;
     }
     println!("{} cases, {} bytes", cases.len(), bytes.len());
     Ok(true)
@@ -234,6 +254,14 @@ fn run(words: &[&str]) -> Outcome {
             Ok(true)
         }
         ["dot", path] => picture(Path::new(path)),
+        ["saved"] => {
+            print!("{}", saved::table(&known_flows()?));
+            Ok(true)
+        }
+        ["saved", path] => {
+            print!("{}", saved::masks(&fit(Path::new(path))?));
+            Ok(true)
+        }
         ["definitions"] => {
             print!("{}", reading::Library::load(&root()).believed(&root()));
             Ok(true)
@@ -243,7 +271,8 @@ fn run(words: &[&str]) -> Outcome {
         ["bench"] => Ok(bench::whole_call() & bench::certain_call()),
         ["stack"] => stack::measure(),
         ["stack-try", order, depth, bytes] => stack::tried(order, number(depth)?, number(bytes)?),
-        ["worst", seconds, seed] => worst::search(number(seconds)?, number(seed)?),
+        ["worst", seconds, seed] => worst::search(number(seconds)?, number(seed)?, None),
+        ["worst", seconds, seed, family] => worst::search(number(seconds)?, number(seed)?, Some(family)),
         ["worst-again"] => worst::again(),
         ["worst-file", which, path] => {
             let file = worst::stored_file(number(which)? as usize).ok_or("there is no such recipe")?;

@@ -28,6 +28,24 @@ pub fn original(_: &Flow) -> Option<Original> {
     None
 }
 
+/// The visits of the original's solve for masks, where their number is one: it orders the edges of a RETURN
+/// by a hash map, so there is none where a RETURN goes to two statements.
+#[cfg(original)]
+pub fn original_visits(flow: &Flow) -> Option<u64> {
+    use crate::flow::Kind;
+    let (edges, visits) = crate::original::Original::new(flow).doubled();
+    let ordered = |i: usize| match flow.statements[i].kind {
+        Kind::Return => edges[i].windows(2).all(|two| two[0] == two[1]),
+        _ => true,
+    };
+    (0..flow.statements.len()).all(ordered).then(|| visits.iter().sum())
+}
+
+#[cfg(not(original))]
+pub fn original_visits(_: &Flow) -> Option<u64> {
+    None
+}
+
 /// The names that the original finds always written before they are read, and the most visits of one
 /// statement in its solve.
 #[derive(Clone, Copy, Debug, PartialEq, Eq)]

@@ -17,10 +17,11 @@ const LONGEST: usize = 700;
 /// How many flows show a fault before no more are taken for its sake.
 const ENOUGH: usize = 8;
 
-/// Whether a fault shows against the original; visits are the answerer's alone.
+/// Whether a fault shows against the original; visits, and masks where there are sure arrays, are the
+/// answerer's alone.
 fn shows(fault: Fault, file: &[u8], lent: Lent, right: &Right) -> bool {
     let (at_all, against_original) = judge::shows(fault, file, lent, right);
-    if fault == Fault::VisitsFitTheBound { at_all } else { against_original }
+    if fault == Fault::VisitsFitTheBound || right.sure.some { at_all } else { against_original }
 }
 
 /// Random flows: those that show a fault not yet shown often, and half of the others.
@@ -32,7 +33,7 @@ fn random_cases() -> Vec<Case> {
         if cases.len() >= FLOWS && !wanting {
             return cases;
         }
-        let family = Family::ALL[(index % 4) as usize];
+        let family = Family::of(index);
         let file = generate::file_of(family, SEED, index);
         if file.len() > LONGEST {
             continue;
@@ -60,13 +61,14 @@ pub fn cases() -> Vec<Case> {
     let differences = cases::differences().into_iter().map(|(name, flow)| (name, flow.bytes()));
     let differences = differences.chain([("refused", cases::refused())]);
     let differences = differences.map(|(name, file)| Case::new(name, file, 1)).collect();
-    [worked, cases::refusals(), cases::certain(), random_cases(), differences].concat()
+    [worked, cases::refusals(), cases::certain(), cases::sure(), random_cases(), differences].concat()
 }
 
-/// The right answer to a case; an error where original and answerer part.
+/// The right answer to a case; an error where original and answerer part, also without sure arrays.
 pub fn answer(case: &Case) -> Result<Right, String> {
     let right = judge::right(&case.file(), case.lent);
-    match right.original_agrees(&right.outcome) {
+    let without_sure = right.without_sure().is_none_or(|without| right.masks_without_sure_agree(&without));
+    match right.original_agrees(&right.outcome) && without_sure {
         true => Ok(right),
         false => Err(format!("{}: the original and the answerer part", case.name)),
     }

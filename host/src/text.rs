@@ -42,7 +42,7 @@ pub fn list(numbers: impl IntoIterator<Item = impl fmt::Display>) -> String {
     numbers.into_iter().map(|number| format!(" {number}")).collect()
 }
 
-/// The names of a word, by number.
+/// The names or arrays of a word, by number.
 pub fn members(set: u64) -> impl Iterator<Item = u32> {
     (0..64).filter(move |i| set >> i & 1 == 1)
 }

@@ -7,6 +7,7 @@ use std::path::PathBuf;
 use std::time::{Duration, Instant};
 
 use crate::flow::{Flow, Kind, MAX_ARRAYS, MAX_FILE, MAX_STATEMENTS, Statement};
+use crate::generate;
 use crate::judge::Lent;
 use crate::random::Random;
 use crate::sides;
@@ -31,10 +32,19 @@ enum Family {
     Dense,
     /// Many bodies that all walk through the same calls, which have long lists of lines.
     Shared,
+    /// Many plain GOSUBs in one dense graph, and arrays that walks to a RETURN miss one at a time.
+    Sure,
 }
 
-const FAMILIES: [Family; 6] =
-    [Family::Returns, Family::Bodies, Family::Calls, Family::Transparent, Family::Dense, Family::Shared];
+const FAMILIES: [Family; 7] = [
+    Family::Returns,
+    Family::Bodies,
+    Family::Calls,
+    Family::Transparent,
+    Family::Dense,
+    Family::Shared,
+    Family::Sure,
+];
 
 // ----- Recipes ------------------------------------------------------------
 
@@ -90,6 +100,7 @@ impl Recipe {
             Family::Transparent => transparent(self.knobs, random),
             Family::Dense => dense(self.knobs, random),
             Family::Shared => shared(self.knobs, random),
+            Family::Sure => sure(self.knobs, random),
         }
         .bytes()
     }
@@ -310,6 +321,49 @@ fn shared([share, fill, walked, again]: Knobs, random: &mut Random) -> Flow {
     flow
 }
 
+/// Knobs: the share of plain GOSUBs in the dense graph, the successors of its other statements, how many
+/// arrays are missed one at a time, and where edges and calls lead; in the upper half of the last the file is
+/// turned around. The graph leads on to a chain that passes one gate after the other, and past a gate every
+/// array but one is referred to before the RETURN: so each array is missed one statement later than the
+/// one before, all over the graph.
+fn sure([share, fill, gates, direction]: Knobs, random: &mut Random) -> Flow {
+    let gates = part(ARRAYS, gates);
+    let (first, last) = (CHANGES + 16, N - 1);
+    let (chain, gate) = (last - 2 * gates, last - gates);
+    let (turned, direction) = (direction > TURNS / 2, direction % (TURNS / 2 + 1) * 2);
+    let gosub = |i: usize, e: usize| {
+        let kind = Kind::Gosub { line: line(e), continuation: Some(i as u16 + 1) };
+        Statement::new(line(i), kind, &[e as u16], &[])
+    };
+    let statement = |i: usize| match i {
+        _ if i < first => gosub(i, first + (i - CHANGES) * (chain - first) / (first - CHANGES)),
+        // The last would have no statement after it to enter, and all calls would be on a cycle.
+        _ if i + 1 < chain && random.below(TURNS) < share => {
+            gosub(i, target(random, first, chain, i, direction).into())
+        }
+        _ if i < chain => ordinary(i),
+        _ if i < gate => {
+            let next = if i + 1 < gate { i + 1 } else { i };
+            Statement::new(line(i), Kind::Other, &[(i + gates) as u16, next as u16], &[])
+        }
+        _ if i < last => {
+            let references: Vec<u8> = (0..MAX_ARRAYS).filter(|&a| usize::from(a) != i - gate).collect();
+            Statement::new(line(i), Kind::Other, &[last as u16], &references)
+        }
+        _ => Statement::new(line(i), Kind::Return, &[], &[]),
+    };
+    let statements = changes(CHANGES).into_iter().chain((CHANGES..N).map(statement)).collect();
+    let mut flow = flow(statements, (first..chain).map(|i| (line(i), i as u16)).collect());
+    let others: Vec<usize> = (first..chain).filter(|&i| flow.statements[i].kind == Kind::Other).collect();
+    let each = room(&flow, others.len().max(1), 2, fill);
+    for i in others {
+        let more = (1..each).map(|_| target(random, first, chain + 1, i, direction));
+        flow.statements[i].successors.extend(more);
+    }
+    let place: Vec<usize> = (0..N).map(|i| if turned { N - 1 - i } else { i }).collect();
+    generate::moved(flow, &place, line)
+}
+
 // ----- The search ---------------------------------------------------------
 
 /// How long this thread was on a processor, where the system says so, as Linux does.
@@ -389,18 +443,28 @@ pub fn again() -> Result<bool, String> {
     Ok(longest < LIMIT)
 }
 
+/// Files of as many statements as there may be, with sure arrays of many calls, in both orders of the file.
+pub fn sure_files() -> [Vec<u8>; 2] {
+    [8, TURNS / 2 + 8]
+        .map(|direction| Recipe { family: Family::Sure, knobs: [20, 8, 40, direction], seed: 1 }.file())
+}
+
 /// The file of stored recipe `number`, from 0.
 pub fn stored_file(number: usize) -> Option<Vec<u8>> {
     stored().get(number).map(|recipe| recipe.file())
 }
 
-/// Goes on from the stored recipe of each family, and stores the worst found.
-pub fn search(seconds: u64, seed: u64) -> Result<bool, String> {
+/// Goes on from the stored recipe of each family, or of the one named, and stores the worst found.
+pub fn search(seconds: u64, seed: u64, named: Option<&str>) -> Result<bool, String> {
     println!("seed {seed}, {seconds} s a family");
     let stored = stored();
     let mut text = String::new();
     for family in FAMILIES {
         let from = stored.iter().copied().find(|recipe| recipe.family == family);
+        if named.is_some_and(|name| format!("{family:?}") != name) {
+            text.extend(from.map(|recipe| format!("{recipe}\n")));
+            continue;
+        }
         let Some((recipe, _)) = climb(family, from, seconds, &mut Random::new(seed, family as u64)) else {
             println!("{}", sides::NO_LIBRARY);
             return Ok(true);
@@ -424,6 +488,16 @@ mod tests {
                 let recipe = Recipe::any(family, &mut random);
                 assert!(crate::flow::read(&recipe.file()).is_ok(), "{recipe}");
             }
+        }
+    }
+
+    /// Were all bodies opaque, no array would be sure.
+    #[test]
+    fn sure_files_have_sure_arrays() {
+        for file in sure_files() {
+            let flow = crate::flow::read(&file).unwrap();
+            let sure = crate::answerer::sure_arrays(&flow, None);
+            assert!(sure.iter().filter(|&&set| set != 0).count() > 500);
         }
     }
 

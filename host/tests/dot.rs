@@ -30,11 +30,25 @@ fn p5() {
         ["start -> 0;", "0 -> 2;", &format!("0 -> 2{enters}"), &format!("0 -> 1{goes_on}"), "2 -> 3;"];
     assert_eq!(edges, expected);
     for label in [
-        r#"0 [label="0: line 10\lGOSUB 30 then 1\lmasks 1\l"];"#,
-        r#"1 [label="1: line 20\lother\lrefs 0\lmasks 3\l"];"#,
+        r#"0 [label="0: line 10\lGOSUB 30 then 1\lsure 0\lmasks 1\l"];"#,
+        r#"1 [label="1: line 20\lother\lrefs 0\lmasks 2\l"];"#,
         r#"3 [label="3: line 40\lRETURN\lmasks 2\l"];"#,
     ] {
         assert!(picture.contains(label), "{label} in\n{picture}");
+    }
+}
+
+/// Each call shows its sure arrays, and no other statement shows any.
+#[test]
+fn sure_arrays() {
+    for (name, _, flow) in cases::sure_flows() {
+        let picture = picture(&flow);
+        for (i, sure) in answerer::sure_arrays(&flow, None).into_iter().enumerate() {
+            let node = picture.lines().find(|line| line.starts_with(&format!("  {i} [label"))).unwrap();
+            let shown = node.split_once("\\lsure").map(|(_, rest)| rest.split("\\l").next().unwrap());
+            let arrays = text::list(text::members(sure));
+            assert_eq!(shown.unwrap_or(""), arrays, "{name}, statement {i}: {node}");
+        }
     }
 }
 

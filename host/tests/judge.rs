@@ -25,9 +25,24 @@ fn worked_flows() {
         if let Some(visits) = worked.visits {
             assert_eq!(states.visits, visits, "{} visits", worked.name);
         }
+        // The original knows no sure arrays.
+        let without = answerer::states_without_sure(&worked.flow);
         match sides::original(&worked.flow) {
-            Some(original) => assert_eq!(original.masks, worked.masks, "{} by the original", worked.name),
+            Some(original) => assert_eq!(original.masks, without.masks, "{} by the original", worked.name),
             None => println!("{NO_ORIGINAL}"),
+        }
+    }
+}
+
+/// P5 is the one of the paper's flows that request E2 changes.
+#[test]
+fn p5_without_sure_arrays() {
+    for worked in cases::steps().into_iter().chain(cases::worked()) {
+        let without = answerer::states_without_sure(&worked.flow);
+        if worked.name == "p5" {
+            assert_eq!((without.masks, without.visits), (vec![1, 3, 1, 2], 4));
+        } else {
+            assert_eq!(without.masks, worked.masks, "{}", worked.name);
         }
     }
 }
@@ -52,6 +67,21 @@ fn certain_flows_show_their_faults() {
     }
 }
 
+/// Each flow for a rule of sure arrays tells it from the fault there.
+#[test]
+fn sure_flows_show_their_faults() {
+    for (name, fault, flow) in cases::sure_flows() {
+        let (states, without) = (answerer::states(&flow, None), answerer::states_without_sure(&flow));
+        assert_ne!(answerer::states(&flow, Some(fault)), states, "{name}");
+        match sides::original(&flow) {
+            Some(original) => assert_eq!(original.masks, without.masks, "{name} by the original"),
+            None => println!("{NO_ORIGINAL}"),
+        }
+        let within = |(with, without): (&u8, &u8)| with & !without == 0;
+        assert!(states.masks.iter().zip(&without.masks).all(within), "{name}");
+    }
+}
+
 #[test]
 fn original_and_answerer_agree() {
     let count = 8_000;
@@ -61,6 +91,12 @@ fn original_and_answerer_agree() {
     let certainty = &comparison.certainty;
     assert!(4 * certainty.both > certainty.flows, "too few flows with some names certain and others not");
     assert!(cfg!(not(original)) || certainty.left_out > 0, "no flow past 32 visits of a statement");
+    let sureness = &comparison.sureness;
+    assert!(3 * sureness.some > sureness.flows, "too few flows with sure arrays");
+    assert!(4 * sureness.smaller > sureness.flows, "too few flows with a smaller mask");
+    assert!(12 * sureness.nested > sureness.flows, "too few flows with arrays sure by way of another call");
+    assert!(30 * sureness.shared > sureness.flows, "too few flows with the old step for sure arrays");
+    assert!(cfg!(not(original)) || 2 * sureness.visits > sureness.flows, "too few visits compared");
 }
 
 #[test]

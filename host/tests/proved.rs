@@ -7,7 +7,7 @@ use std::process::{Command, Stdio};
 use yarnuskel_host::answerer;
 use yarnuskel_host::judge::{self, Comparison, Lent};
 use yarnuskel_host::sides::NO_LIBRARY;
-use yarnuskel_host::{bench, cases, flow, listing, stack, store, text};
+use yarnuskel_host::{bench, cases, flow, listing, stack, store, text, worst};
 
 const SEED: u64 = 2;
 
@@ -55,11 +55,12 @@ fn random_files_by_the_proved_call() {
     no_differences(20_000, judge::compare_proved(20_000, SEED), NO_LIBRARY);
 }
 
-/// The flows of the benchmarks are at the limits of size.
+/// The flows of the benchmarks are at the limits of size, and so are those with many sure arrays.
 #[test]
 fn large_flows_by_the_proved_call() {
-    for (name, flow) in bench::flows().into_iter().chain([("names", bench::one_name_at_a_time())]) {
-        let file = flow.bytes();
+    let flows = bench::flows().into_iter().chain([("names", bench::one_name_at_a_time())]);
+    let sure = worst::sure_files().map(|file| ("sure arrays", file));
+    for (name, file) in flows.map(|(name, flow)| (name, flow.bytes())).chain(sure) {
         let lent = Lent::for_file(&file, 1);
         match judge::proved_outcome(&file, lent) {
             Some(outcome) => assert!(outcome == judge::outcome(&file, lent, None), "{name}"),

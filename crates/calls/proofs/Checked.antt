@@ -2,18 +2,14 @@
 -- By what a fit file gives its readers, and what is asked of the work area before statements are read by number.
 use Prim.Native.Nat.{ℕ, zero, suc, _+_, _/_, _≤_, _<_}
 use mathlib.Core.List.{List}
-use mathlib.Core.Option.{Option, none, some}
 use mathlib.Core.Path.{_≡_, refl, ap, subst, _∙_}
 use native.Mathlib.Omega.{arith}
 use lib.ListN.{length, getD}
 use Rattle.flow.specs.Limits.{maxFile}
 use Rattle.flow.specs.Flow.{size}
 use Rattle.flow.specs.declared.Header.{Header}
-use Rattle.flow.specs.declared.StmtId.{StmtId}
-use Rattle.flow.specs.declared.Continuation as C
-use Rattle.flow.specs.declared.LineEntry as E
 use Rattle.flow.specs.contracts.Answers.{FitFile, FitRecord}
-use Rattle.records.specs.contracts.Fields.{LineParts, callLineCount, callLineAt, continuationTo, lineEntryOf}
+use Rattle.records.specs.contracts.Fields.{LineParts, callLineCount, callLineAt}
 use Rattle.flow.specs.Format.{flowOf, statementsOf, lineCount, recordPlace, successorCount, successorAt}
 use Rattle.records.proofs.Files.{limited, record-fit}
 use Rattle.records.proofs.KindData.{call-line-fits}
@@ -30,6 +26,7 @@ use Rattle.statements.specs.contracts.Ready.{Ready, Indexed, Keeps}
 use Rattle.statements.proofs.Keeps.{ready-formed, ready-below, ready-room, ready-keeps, parts-keep}
 use Rattle.calls.specs.contracts.Summing.{Located}
 use Rattle.statements.proofs.WellFormed.{well-formed}
+pub use Rattle.statements.proofs.Told.{continues-to, continues-nowhere, enters-at, enters-nothing}
 use Rattle.statements.proofs.WorkArea.{member-word, row-fits}
 
 module _ {s ws : List ℕ} {n : ℕ} (r : Ready s ws n) where
@@ -72,24 +69,6 @@ module _ {s ws : List ℕ} {n : ℕ} (r : Ready s ws n) where
     pub members-room : layout.enteredRowAt n + (n + 63) / 64 ≤ length ws
     members-room = omega (arith, ready-room r (omega arith))
 
--- What a continuation and an entered statement are told as
-
-pub continues-to : (o : Option ℕ) (k : StmtId) → continuationTo o ≡ C.the-variants.To k → o ≡ some (k .0)
-continues-to none k e = let z : _≡_ {A = ℕ} 0 1 = cc in absurd (omega arith)
-continues-to (some t) k e = let q : record { 0 = t } ≡ k = cc in ap (λ (x : StmtId). some (x .0)) q
-
-pub continues-nowhere : (o : Option ℕ) → continuationTo o ≡ C.the-variants.None → o ≡ none
-continues-nowhere none e = refl
-continues-nowhere (some t) e = let z : _≡_ {A = ℕ} 0 1 = cc in absurd (omega arith)
-
-pub enters-at : (o : Option ℕ) (k : StmtId) → lineEntryOf o ≡ E.the-variants.At k → o ≡ some (k .0)
-enters-at none k e = let z : _≡_ {A = ℕ} 0 1 = cc in absurd (omega arith)
-enters-at (some t) k e = let q : record { 0 = t } ≡ k = cc in ap (λ (x : StmtId). some (x .0)) q
-
-pub enters-nothing : (o : Option ℕ) → lineEntryOf o ≡ E.the-variants.Nothing → o ≡ none
-enters-nothing none e = refl
-enters-nothing (some t) e = let z : _≡_ {A = ℕ} 0 1 = cc in absurd (omega arith)
-
 pub successor-below : {s : List ℕ} → FitFile s → (i k : ℕ) → k < length (successors (flowOf s) i) → getD (successors (flowOf s) i) k 0 < size (flowOf s)
 successor-below {s} h i k l = well-formed h .successor i (getD (successors (flowOf s) i) k 0) (getD-In (successors (flowOf s) i) k 0 l)
 
@@ -101,7 +80,7 @@ located {s} {ws} x =
     record { ready = subst (Ready s ws) e (x .ready); parts = subst (λ (n : ℕ). LineParts s ws (linesAt n) n (lineCount s)) e (x .lines); lines = ap (λ (h : Header). h .«lines_at») (x .header) }
 
 pub located-keeps : {s ws vs : List ℕ} {place lo hi : ℕ} → Located s ws place → Keeps lo hi ws vs → callsAt (statementsOf s) ≤ lo → Located s vs place
-located-keeps l k h = record { ready = ready-keeps (l .ready) k (omega arith); parts = parts-keep (l .parts) k h; lines = l .lines }
+located-keeps l k h = record { ready = ready-keeps (l .ready) k (omega arith); parts = parts-keep (l .parts) k (omega arith); lines = l .lines }
 
 -- where the number of statements was read again
 pub ready-again : {s ws : List ℕ} {n : ℕ} → n ≡ statementsOf s → Ready s ws (statementsOf s) → Ready s ws n

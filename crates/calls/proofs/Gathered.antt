@@ -24,11 +24,12 @@ use Rattle.flow.specs.Flow.{Flow, size}
 use Rattle.theory.specs.Lists.{any, elem, concatMap, upTo}
 use Rattle.theory.specs.Reach.{Reach}
 use Rattle.theory.specs.Body.{kind, continuationOf, isReturn, entered, callees, walked, opaqueCall, callTouches}
+use Rattle.theory.specs.Sure.{sure}
 use Rattle.theory.specs.contracts.WellFormed.{WellFormed}
 use Rattle.theory.specs.Doubled.{returnsTo, isSome}
 use Rattle.theory.proofs.Lists.{clash, same-test, not-so, eqb-sym, says-one, any-append, In-elem, elem-In, elem-not, elem-append, concatMap-append}
 use Rattle.theory.proofs.Body.{entered-below, walked-sound, walked-complete}
-use Rattle.statements.specs.contracts.Layout.{callsAt, callTouchedAt, bodiesAt, matrixAt, rowAt, rowWords, queueAt, solverAt, returnsRowAt}
+use Rattle.statements.specs.contracts.Layout.{sureAt, callsAt, callTouchedAt, bodiesAt, matrixAt, rowAt, rowWords, queueAt, solverAt, returnsRowAt}
 use Rattle.statements.specs.contracts.Ready.{Keeps, MembersWord}
 use Rattle.statements.proofs.WorkArea.{member-word, row-from, row-fits}
 use Rattle.statements.proofs.Keeps.{keeps-has}
@@ -266,6 +267,7 @@ summaries-kept {f} {ws} {vs} {n} m k s = record {
   ordinary = λ c l e. same c l ∙ s .ordinary c l e;
   call = λ c j l e. same c l ∙ s .call c j l e;
   touched = λ c l e. subst (λ (w : ℕ). MembersWord w (callTouches f c)) (sym (k .below (callTouchedAt n + c) (omega arith))) (s .touched c l (sym (same c l) ∙ e));
+  sure = λ c l e. subst (λ (w : ℕ). MembersWord w (sure f c)) (sym (k .below (sureAt n + c) (omega arith))) (s .sure c l (sym (same c l) ∙ e));
 }
   where
     same : (c : ℕ) → c < n → getD vs (callsAt n + c) 0 ≡ getD ws (callsAt n + c) 0

@@ -16,7 +16,7 @@ use Rattle.flow.specs.Flow.{Flow, enters}
 use Rattle.theory.specs.Lists.{concatMap, optionList}
 use Rattle.theory.specs.Body.{kind, callLines, entered}
 use Rattle.theory.proofs.Lists.{clash, and-both, and-true}
-use Rattle.statements.specs.contracts.Layout.{rowWords, touchedAt, listsAt, queueAt, enteredRowAt, solverAt}
+use Rattle.statements.specs.contracts.Layout.{rowWords, touchedAt, matrixAt, listsAt, queueAt, enteredRowAt, solverAt}
 use Rattle.statements.specs.contracts.Ready.{Keeps}
 use Rattle.statements.proofs.WorkArea.{row-from, row-words-le}
 use Rattle.calls.specs.contracts.Orders.{order, several, fits, listEnd, listAfter, listsEnd, ListOf, OrderAt, OrderOf, Listing, OrderNoted, OrdersNoted}
@@ -161,7 +161,7 @@ module _ {f : Flow} {ws₀ ws vs : List ℕ} {n c p r : ℕ} (s : OrdersNoted f 
   begins : listsAt n ≤ p
   begins = omega (arith, at, lists-from f n c)
 
-  above : n + n + n + n + n + n ≤ p
+  above : matrixAt n ≤ p
   above = omega (arith, begins, row-from n n)
 
   pub next-end : r ≡ listsEnd f n (c + 1)

@@ -16,11 +16,13 @@ use Rattle.words.proofs.Bit.{bit-lt, bit-of-zero}
 use Rattle.flow.specs.Flow.{Flow, size}
 use Rattle.theory.specs.Lists.{In, sumBelow}
 use Rattle.theory.specs.Body.{kind, continuationOf, entered, ifSome, isReturn, callees, touches, opaqueCall, callTouches}
+use Rattle.theory.specs.Sure.{sure}
 use Rattle.theory.specs.contracts.WellFormed.{WellFormed}
 use Rattle.theory.proofs.Lists.{clash, sumBelow-le, sumBelow-lt}
-use Rattle.statements.specs.contracts.Layout.{callsAt, callTouchedAt, bodiesAt, touchedAt, matrixAt}
+use Rattle.statements.specs.contracts.Layout.{sureAt, callsAt, callTouchedAt, bodiesAt, touchedAt, matrixAt}
 use Rattle.statements.specs.contracts.Ready.{MembersWord}
 use Rattle.calls.specs.contracts.Held.{unentered, opened, transparent, opaque, WalkRow, NoSummaries, Summarized}
+use Rattle.sure.specs.contracts.SureArrays.{SureWords}
 use Rattle.calls.specs.contracts.Summing.{body, call, callTouchedBy, Within, Holds, BodyState, CallState, Summing, OnwardBut, Onward, CallSummed}
 use Rattle.calls.proofs.Summing.{onward-refl, onward-trans, callee-low}
 
@@ -113,10 +115,10 @@ summary-state-is d (CallState.is-none e) = absurd (d e)
 summary-state-is d (CallState.is-transparent e r o t) = e ∙ ap (λ b. cond b opaque transparent) (sym o)
 summary-state-is d (CallState.is-opaque e r o) = e ∙ ap (λ b. cond b opaque transparent) (sym o)
 
-transparent-touches : {f : Flow} {ws : List ℕ} {n c : ℕ} → call ws n c ≡ transparent → CallState f ws n c → Holds (callTouchedBy ws n c) (callTouches f c)
-transparent-touches h (CallState.is-none e) = absurd (omega (arith, h, e))
-transparent-touches h (CallState.is-transparent e r o t) = t
-transparent-touches h (CallState.is-opaque e r o) = absurd (omega (arith, h, e))
+transparent-says : {f : Flow} {ws : List ℕ} {n c : ℕ} → call ws n c ≡ transparent → CallState f ws n c → (opaqueCall f c ≡ false) × Holds (callTouchedBy ws n c) (callTouches f c)
+transparent-says h (CallState.is-none e) = absurd (omega (arith, h, e))
+transparent-says h (CallState.is-transparent e r o t) = (o, t)
+transparent-says h (CallState.is-opaque e r o) = absurd (omega (arith, h, e))
 
 callee-entered : {f : Flow} {ws : List ℕ} {n c b : ℕ} → call ws n c ≢ unentered → In b (callees f c) → CallState f ws n c → body ws n b ≢ unentered
 callee-entered d m (CallState.is-none e) = absurd (d e)
@@ -150,12 +152,13 @@ callee-continues f c {b} m = go (continuationOf (kind f c)) refl m
     go none q m = absurd (List·Memᴰ·not-nil m)
     go (some k) q m = (k, q)
 
-pub summarized : {f : Flow} {ws₀ ws : List ℕ} {n c : ℕ} → WellFormed f → size f ≡ n → Words ws → SummedBelow f ws₀ ws n c → n ≤ c → Summarized f ws n
-summarized {f} {ws₀} {ws} {n} {c} w sz words p end = record {
+pub summarized : {f : Flow} {ws₀ ws : List ℕ} {n c : ℕ} → WellFormed f → size f ≡ n → Words ws → SureWords f ws₀ n → SummedBelow f ws₀ ws n c → n ≤ c → Summarized f ws n
+summarized {f} {ws₀} {ws} {n} {c} w sz words sured p end = record {
   calls = record {
     ordinary = λ d l h. ordinary h (p .summing .calls d l);
     call = λ d k l h. summary-state-is (p .done d k (omega arith) h) (p .summing .calls d l);
-    touched = λ d l h. members (words (callTouchedAt n + d)) (p .summing .callTouched d l) (transparent-touches h (p .summing .calls d l));
+    touched = λ d l h. members (words (callTouchedAt n + d)) (p .summing .callTouched d l) (transparent-says h (p .summing .calls d l) .1);
+    sure = λ d l h. subst (λ z. MembersWord z (sure f d)) (sym (p .onward .keeps .below (sureAt n + d) (omega arith))) (sured d l (transparent-says h (p .summing .calls d l) .0));
   };
   walks = λ d b l m h. let k = callee-continues f d m in entered-row (callee-entered (p .done d (k .0) (omega arith) (k .1)) m (p .summing .calls d l)) h (p .summing .bodies b (callee-low w sz d b m));
 }

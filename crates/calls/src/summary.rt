@@ -2,7 +2,7 @@
 // calls, and a call's summary needs its subroutines, so the two functions call each other; the number of unentered entries falls.
 // What the two keep across a call of each other stands on the machine's stack once a level of a nest of subroutines. So they keep little, and
 // all else is done in functions of their own, which read again what they need: what is made from a number that is kept is kept with it.
-ghost use Prim.Native.Nat.{ℕ, _<_, _≤_};
+ghost use Prim.Native.Nat.{ℕ, _+_, _<_, _≤_};
 ghost use mathlib.Core.Path.{_≡_};
 ghost use lib.ListN.{length, getD};
 ghost use Rattle.words.specs.contracts.Row.{nextMember};
@@ -11,10 +11,11 @@ ghost use Rattle.flow.specs.Limits.{maxStatements};
 ghost use Rattle.flow.specs.Format.{flowOf, statementsOf};
 ghost use Rattle.flow.specs.contracts.Answers.{FitFile};
 ghost use Rattle.records.specs.contracts.Fields.{lineEntryOf};
-ghost use Rattle.statements.specs.contracts.Layout.{callsAt, rowAt, enteredRowAt};
+ghost use Rattle.statements.specs.contracts.Layout.{sureAt, callsAt, rowAt, enteredRowAt};
 ghost use Rattle.statements.specs.contracts.Ready.{Ready, Indexed, Keeps};
 ghost use Rattle.theory.specs.Lists.{In};
 ghost use Rattle.theory.specs.Body.{kind, callLines, callees};
+ghost use Rattle.sure.specs.contracts.SureArrays.{SureWords};
 ghost use Rattle.calls.specs.contracts.Held.{NoSummaries, Summarized};
 ghost use Rattle.calls.specs.contracts.Summing as state;
 ghost use Rattle.calls.specs.contracts.Summing.{Summing, Leads, Located, WalkPassed, BodyJoined, Entered, Awaits, BodySummed, CallSummed};
@@ -172,9 +173,9 @@ fn call_summary(file: &[u8], work: &mut [u64], lines_at: usize, c: StmtId)
     work[layout::calls(statement_count(file)) + c.0] = summary_state(opaque);
 }
 
-// The summary of every call with a continuation.
-pub fn summarize_calls(file: &[u8], h: flow::Header, work: &mut [u64])
-    requires { ⌜ Indexed (now file) h (now work) × NoSummaries (now work) (h .statements) ⌝ }
+// The summary of every call with a continuation, beside the arrays that are sure for it, which are noted.
+fn summarize_each(file: &[u8], h: flow::Header, work: &mut [u64])
+    requires { ⌜ Indexed (now file) h (now work) × NoSummaries (now work) (h .statements) × SureWords (flowOf (now file)) (now work) (h .statements) ⌝ }
     ensures { λ _. ⌜ Summarized (flowOf (now (file .entry))) (now (work .exit)) (h .statements) ⌝ }
     ensures { λ _. ⌜ Keeps (callsAt (h .statements)) (enteredRowAt (h .statements)) (now (work .entry)) (now (work .exit)) ⌝ }
 {
@@ -184,4 +185,14 @@ pub fn summarize_calls(file: &[u8], h: flow::Header, work: &mut [u64])
         call_summary(file, work, h.lines_at, StmtId(c));
         c += 1;
     }
+}
+
+// The summary of every call: the arrays that are sure for it, those that it touches, and whether it is opaque.
+pub fn summarize_calls(file: &[u8], h: flow::Header, work: &mut [u64])
+    requires { ⌜ Indexed (now file) h (now work) × NoSummaries (now work) (h .statements) × ((c : ℕ) → c < h .statements → getD (now work) (sureAt (h .statements) + c) 0 ≡ 0) ⌝ }
+    ensures { λ _. ⌜ Summarized (flowOf (now (file .entry))) (now (work .exit)) (h .statements) ⌝ }
+    ensures { λ _. ⌜ Keeps (sureAt (h .statements)) (enteredRowAt (h .statements)) (now (work .entry)) (now (work .exit)) ⌝ }
+{
+    sure::sure_arrays(file, h, work);
+    summarize_each(file, h, work);
 }

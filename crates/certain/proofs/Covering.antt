@@ -12,6 +12,7 @@ use lib.ListN.{getD}
 use Rattle.words.specs.contracts.Row.{Words, bit}
 use Rattle.words.specs.contracts.Change.{without}
 use Rattle.words.proofs.Bit.{bit-lt, bit-or, bit-and, bit-of-zero, bit-without}
+use Rattle.words.proofs.Pair.{set-low, set-high}
 use Rattle.flow.specs.Flow.{Flow, size, statement}
 use Rattle.flow.specs.Format.{flowOf, namesOf}
 use Rattle.theory.specs.Live.{member, reads, writes}
@@ -26,7 +27,6 @@ use Rattle.statements.proofs.Names.{member-bit, bit-member, or-first, or-second
 use Rattle.certain.specs.contracts.Layout.{setAt}
 use Rattle.certain.specs.contracts.Unwritten.{Solved}
 use Rattle.certain.specs.contracts.CertainNames.{Used, Covered, Early}
-use Rattle.certain.proofs.Visiting.{set-low, set-high}
 
 -- What the statements write and read
 

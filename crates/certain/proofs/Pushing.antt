@@ -1,140 +1,81 @@
 -- Two words joined to a statement's set: its members, those of the other sets, and the statements that wait. A set that grew has a bit more, so the statement that joins those that wait
 -- is paid for. Assumes nothing.
-use Prim.Native.Nat.{ℕ, _+_, _*_, _-_, _/_, _%_, _^_, _<_, _≤_, max}
-use mathlib.Core.Bool.{Bool, true, false, _||_, true≢false}
+use Prim.Native.Nat.{ℕ, _+_, _*_, _-_, _/_, _^_, _<_, _≤_, max}
+use mathlib.Core.Bool.{Bool, true, false}
 use mathlib.Core.List.{List, [], _∷_, _++_, List·Memᴰ·append-cases, List·Memᴰ·eq-of-singleton, List·Memᴰ·head, Memᴰ·append-left, Memᴰ·append-right}
 use mathlib.Core.Logic.{_⊎_, inl, inr, ⊎-elim, _≢_}
-use mathlib.Core.Path.{_≡_, refl, sym, _∙_, ap, subst}
+use mathlib.Core.Path.{_≡_, sym, _∙_, ap, subst}
 use native.Mathlib.Decide.{ℕ-discrete}
 use native.Mathlib.Nat.{le-refl}
 use native.Mathlib.Numerals.{add-one}
 use native.Mathlib.Omega.{arith}
 use lib.ListN.{length, getD, take}
 use lib.Seq.{take-suc, take-all}
-use Rattle.words.specs.contracts.Row.{Words, bit, has, members}
-use Rattle.words.specs.contracts.Change.{Joined, Inserted, inserted}
+use Rattle.words.specs.contracts.Row.{Words, has, members}
+use Rattle.words.specs.contracts.Change.{PairJoined, Inserted, inserted}
 use Rattle.words.proofs.Row.{has-lt, members-cong, members-le}
-use Rattle.words.proofs.Inserted.{length-joined, joined-other, words-joined, inserted-other, insert-same, insert-other, insert-else, insert-again, insert-members}
-use Rattle.words.proofs.Joined.{join-has, join-else, not-grown, grew-members}
+use Rattle.words.proofs.Inserted.{inserted-other, insert-same, insert-other, insert-else, insert-again, insert-members}
+use Rattle.words.proofs.Pair.{pair-length, pair-other, pair-else, pair-here, pair-same, pair-grew}
 use Rattle.theory.specs.Lists.{In}
 use Rattle.statements.specs.contracts.Layout.{rowWords}
 use Rattle.statements.specs.contracts.Ready.{Keeps}
 use Rattle.statements.proofs.WorkArea.{member-word, row-holds}
-use Rattle.statements.proofs.Keeps.{keeps-refl, keeps-trans, keeps-joined, keeps-inserted}
+use Rattle.statements.proofs.Keeps.{keeps-refl, keeps-trans, keeps-pair, keeps-inserted}
 use Rattle.solve.specs.contracts.Sets.{Joins, Follows}
 use Rattle.solve.proofs.Sets.{joins-none, joins-one, joins-then, follows-refl, follows-trans}
 use Rattle.certain.specs.contracts.Layout.{setAt, waitingAt, waitingEnd, elements}
 use Rattle.certain.specs.contracts.Unwritten.{sets, Waits, left, Spread, Pushed}
 
--- a row of two words
+module _ {ws us : List ℕ} {n j at names reached : ℕ} {grew : Bool} (l : j < n) (room : waitingEnd n ≤ length ws) (place : at ≡ setAt n j) (join : PairJoined ws us at names reached grew) where
+  pair : PairJoined ws us (setAt n j) names reached grew
+  pair = subst (λ z. PairJoined ws us z names reached grew) place join
 
-pub row-low : (a b x : ℕ) → x / 64 ≡ 0 → has (a ∷ b ∷ []) 0 x ≡ bit a (x % 64)
-unfolding has
-row-low a b x e = rw e refl
-
-pub row-high : (a b x : ℕ) → x / 64 ≡ 1 → has (a ∷ b ∷ []) 0 x ≡ bit b (x % 64)
-unfolding has
-row-high a b x e = rw e refl
-
-module _ {ws vs us : List ℕ} {n j at names reached : ℕ} {first second : Bool} (l : j < n) (room : waitingEnd n ≤ length ws) (words : Words ws) (fits : names < 2 ^ 64) (fits′ : reached < 2 ^ 64)
-    (place : at ≡ setAt n j) (low : Joined ws vs at names first) (high : Joined vs us (at + 1) reached second) where
-  a : Joined ws vs (setAt n j) names first
-  a = subst (λ z. Joined ws vs z names first) place low
-
-  b : Joined vs us (setAt n j + 1) reached second
-  b = subst (λ z. Joined vs us (z + 1) reached second) place high
-
-  size-vs : length vs ≡ length ws
-  size-vs = ap length (a .slice) ∙ length-joined ws (setAt n j) names
-
-  size-us : length us ≡ length ws
-  size-us = ap length (b .slice) ∙ length-joined vs (setAt n j + 1) reached ∙ size-vs
-
-  words-vs : Words vs
-  words-vs = subst Words (sym (a .slice)) (words-joined ws (setAt n j) names words fits)
+  fits : setAt n j + 2 ≤ length ws
+  fits = omega arith
 
   -- the set of j, and every other set
 
-  once : (i x : ℕ) → setAt n i + x / 64 ≢ setAt n j → has vs (setAt n i) x ≡ has ws (setAt n i) x
-  once i x d = ap (λ z. has z (setAt n i) x) (a .slice) ∙ join-else ws (setAt n j) names (setAt n i) x d
-
-  twice : (i x : ℕ) → setAt n i + x / 64 ≢ setAt n j + 1 → has us (setAt n i) x ≡ has vs (setAt n i) x
-  twice i x d = ap (λ z. has z (setAt n i) x) (b .slice) ∙ join-else vs (setAt n j + 1) reached (setAt n i) x d
-
   here : (x : ℕ) → x < elements → has us (setAt n j) x ≡ max (has ws (setAt n j) x) (has (names ∷ reached ∷ []) 0 x)
-  here x m = go (ℕ-discrete (x / 64) 0)
-    where
-      go : Dec (x / 64 ≡ 0) → has us (setAt n j) x ≡ max (has ws (setAt n j) x) (has (names ∷ reached ∷ []) 0 x)
-      go (yes e) =
-          twice j x (λ d. omega arith)
-          ∙ ap (λ z. has z (setAt n j) x) (a .slice)
-          ∙ join-has ws (setAt n j) names (setAt n j) x (omega arith) (omega arith)
-          ∙ ap (max (has ws (setAt n j) x)) (sym (row-low names reached x e))
-      go (no d) =
-          let one : x / 64 ≡ 1 = omega (arith, d) in
-          ap (λ z. has z (setAt n j) x) (b .slice)
-          ∙ join-has vs (setAt n j + 1) reached (setAt n j) x (omega (arith, size-vs)) (omega arith)
-          ∙ ap (λ z. max z (bit reached (x % 64))) (once j x (λ e. omega arith))
-          ∙ ap (max (has ws (setAt n j) x)) (sym (row-high names reached x one))
+  here = pair-here pair fits
 
   other : (i x : ℕ) → i ≢ j → x < elements → has us (setAt n i) x ≡ has ws (setAt n i) x
-  other i x d m = twice i x (λ e. omega (arith, d)) ∙ once i x (λ e. omega (arith, d))
+  other i x d m = pair-else pair fits (setAt n i) x (λ e. omega (arith, d)) (λ e. omega (arith, d))
 
   joins-us : Joins n elements (λ i. i ≡ j) (λ x. has (names ∷ reached ∷ []) 0 x ≡ 1) (sets ws n) (sets us n)
   joins-us = joins-one (λ i. has-lt ws (setAt n i)) (has-lt (names ∷ reached ∷ []) 0) here other
 
   kept-us : Keeps n (waitingEnd n) ws us
-  kept-us =
-      keeps-trans (subst (λ z. Keeps n (waitingEnd n) ws z) (sym (a .slice)) (keeps-joined ws (setAt n j) names (omega arith) (omega arith)))
-      (subst (λ z. Keeps n (waitingEnd n) vs z) (sym (b .slice)) (keeps-joined vs (setAt n j + 1) reached (omega arith) (omega arith)))
+  kept-us = keeps-pair pair (omega arith) (omega arith)
 
   -- neither word grew
-  pub pushed-same : (first || second) ≡ false → Pushed ws us n j (names ∷ reached ∷ [])
-  pushed-same e = go first second refl refl e
-    where
-      go : (x y : Bool) → first ≡ x → second ≡ y → (x || y) ≡ false → Pushed ws us n j (names ∷ reached ∷ [])
-      go true y p q e = absurd (true≢false e)
-      go false true p q e = absurd (true≢false e)
-      go false false p q e =
-          let same : us ≡ ws = not-grown b q ∙ not-grown a p in
-          record {
-            joins = joins-us;
-            follows = subst (λ z. Follows n elements (sets ws n) (sets z n) (Waits ws n) (Waits z n)) (sym same) follows-refl;
-            falls = subst (λ z. left z n ≤ left ws n) (sym same) (le-refl _);
-            kept = kept-us;
-          }
+  pub pushed-same : grew ≡ false → Pushed ws us n j (names ∷ reached ∷ [])
+  pushed-same e =
+      let same : us ≡ ws = pair-same pair fits e in
+      record {
+        joins = joins-us;
+        follows = subst (λ z. Follows n elements (sets ws n) (sets z n) (Waits ws n) (Waits z n)) (sym same) follows-refl;
+        falls = subst (λ z. left z n ≤ left ws n) (sym same) (le-refl _);
+        kept = kept-us;
+      }
 
   -- one of them grew, and j waits
 
   waiting-us : members us (waitingAt n) (rowWords n) ≡ members ws (waitingAt n) (rowWords n)
-  waiting-us =
-      members-cong us ws (waitingAt n) (rowWords n)
-      (λ k m. ap (λ z. getD z (waitingAt n + k) 0) (b .slice) ∙ joined-other vs (setAt n j + 1) reached (waitingAt n + k) (λ e. omega arith)
-      ∙ ap (λ z. getD z (waitingAt n + k) 0) (a .slice) ∙ joined-other ws (setAt n j) names (waitingAt n + k) (λ e. omega arith))
+  waiting-us = members-cong us ws (waitingAt n) (rowWords n) (λ k m. pair-other pair fits (waitingAt n + k) (λ e. omega arith) (λ e. omega arith))
 
   waits-us : (k : ℕ) → has us (waitingAt n) k ≡ has ws (waitingAt n) k
-  waits-us k =
-      ap (λ z. has z (waitingAt n) k) (b .slice) ∙ join-else vs (setAt n j + 1) reached (waitingAt n) k (λ e. omega arith)
-      ∙ ap (λ z. has z (waitingAt n) k) (a .slice) ∙ join-else ws (setAt n j) names (waitingAt n) k (λ e. omega arith)
+  waits-us k = pair-else pair fits (waitingAt n) k (λ e. omega arith) (λ e. omega arith)
 
-  more-us : (first || second) ≡ true → members ws n (2 * n) < members us n (2 * n)
-  more-us e = go first second refl refl e
-    where
-      one : first ≡ true → members ws n (2 * n) < members vs n (2 * n)
-      one = grew-members a words fits n (2 * n) (omega arith) (omega arith) (omega arith)
-
-      two : second ≡ true → members vs n (2 * n) < members us n (2 * n)
-      two = grew-members b words-vs fits′ n (2 * n) (omega arith) (omega arith) (omega (arith, size-vs))
-
-      go : (x y : Bool) → first ≡ x → second ≡ y → (x || y) ≡ true → members ws n (2 * n) < members us n (2 * n)
-      go true true p q e = omega (arith, one p, two q)
-      go true false p q e = subst (λ z. members ws n (2 * n) < members z n (2 * n)) (sym (not-grown b q)) (one p)
-      go false true p q e = subst (λ z. members z n (2 * n) < members us n (2 * n)) (not-grown a p) (two q)
-      go false false p q e = absurd (true≢false (sym e))
-
-  module _ {ts : List ℕ} {row : ℕ} {fresh : Bool} (grew : (first || second) ≡ true) (row-is : row ≡ waitingAt n) (new : Inserted us ts row j fresh) where
+  module _ {ts : List ℕ} {row : ℕ} {fresh : Bool} (words : Words ws) (small : names < 2 ^ 64) (small′ : reached < 2 ^ 64) (more : grew ≡ true) (row-is : row ≡ waitingAt n)
+      (new : Inserted us ts row j fresh) where
     c : Inserted us ts (waitingAt n) j fresh
     c = subst (λ z. Inserted us ts z j fresh) row-is new
+
+    size-us : length us ≡ length ws
+    size-us = pair-length pair fits
+
+    more-us : members ws n (2 * n) < members us n (2 * n)
+    more-us = pair-grew pair fits words small small′ n (2 * n) (omega arith) (omega arith) (omega arith) more
 
     in-room : waitingAt n + j / 64 < length us
     in-room = omega (arith, size-us, member-word l)
@@ -171,7 +112,7 @@ module _ {ws vs us : List ℕ} {n j at names reached : ℕ} {first second : Bool
         from = λ i x k m e. joins-us .from i x k m (sym (sets-ts i x k m) ∙ e);
       };
       follows = record { stays = λ k m w. waits-ts k (ℕ-discrete k j) w; grows = λ k m. grown k m (ℕ-discrete k j) };
-      falls = omega (arith, waiting-ts, waiting-us, members-ts, more-us grew, members-le us n (2 * n));
+      falls = omega (arith, waiting-ts, waiting-us, members-ts, more-us, members-le us n (2 * n));
       kept = keeps-trans kept-us (subst (λ z. Keeps n (waitingEnd n) us z) (sym (c .slice)) (keeps-inserted us (waitingAt n) j (omega arith) (omega (arith, member-word l))));
     }
 

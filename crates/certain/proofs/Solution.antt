@@ -1,15 +1,15 @@
 -- From the entry's set to the sets of all statements: at the start only the entry has elements, a visit keeps the law's invariant, and where nothing waits the sets are those of the walks.
 -- Assumes nothing.
-use Prim.Native.Nat.{ℕ, _+_, _*_, _-_, _/_, _%_, _<_, _≤_}
+use Prim.Native.Nat.{ℕ, _+_, _*_, _-_, _/_, _<_, _≤_}
 use mathlib.Core.List.{List, [], _∷_, List·Memᴰ·not-nil}
 use mathlib.Core.Logic.{_⊎_, inl, inr, ⊎-elim}
 use mathlib.Core.Path.{_≡_, refl, sym, _∙_, ap, subst}
 use native.Mathlib.Decide.{decLt, ℕ-discrete}
 use native.Mathlib.Omega.{arith}
 use lib.ListN.{length, getD, List·getD-eq-default}
-use Rattle.words.specs.contracts.Row.{bit, has}
+use Rattle.words.specs.contracts.Row.{SomeMember}
 use Rattle.words.specs.contracts.Change.{zeroed}
-use Rattle.words.proofs.Bit.{bit-of-zero, bit-not}
+use Rattle.words.proofs.Pair.{full-row}
 use Rattle.words.proofs.Zeroed.{zeroed-word}
 use Rattle.flow.specs.Flow.{Flow, Statement, size, noStatement}
 use Rattle.theory.specs.Lists.{In}
@@ -20,21 +20,20 @@ use Rattle.statements.specs.contracts.Ready.{Keeps}
 use Rattle.statements.proofs.Keeps.{keeps-refl, keeps-trans, keeps-zeroed}
 use Rattle.statements.proofs.Members.{zero-has}
 use Rattle.solve.specs.contracts.Sets.{Comes, Leaves}
-use Rattle.solve.proofs.Sets.{complete}
-use Rattle.certain.specs.contracts.Layout.{setAt, waitingEnd, elements}
-use Rattle.certain.specs.contracts.Unwritten.{forward, sets, Waits, Held, Pushed, Visited, NextWaiting, Begun, Solved}
-use Rattle.certain.proofs.Pushing.{row-low, row-high}
+use Rattle.solve.proofs.Sets.{takes-all, complete}
+use Rattle.certain.specs.contracts.Layout.{setAt, waitingAt, waitingEnd, elements}
+use Rattle.certain.specs.contracts.Unwritten.{forward, sets, Waits, Held, Pushed, Visited, Begun, Solved}
 
 -- Walks of the law and of the definition
 
 comes-unwritten : {f : Flow} {x i : ℕ} → Comes (forward f) x i → Unwritten f x i
 comes-unwritten {f} {x} (Comes.start e) = subst (λ z. Unwritten f x z) (sym e) Unwritten.entry
-comes-unwritten (Comes.given e g) = absurd g
-comes-unwritten (Comes.through e p c) = Unwritten.on (comes-unwritten c) p e
+comes-unwritten (Comes.given e t q g) = absurd g
+comes-unwritten (Comes.through e t q p c) = Unwritten.on (comes-unwritten c) p e
 
 unwritten-comes : {f : Flow} {x i : ℕ} → Unwritten f x i → Comes (forward f) x i
 unwritten-comes Unwritten.entry = Comes.start refl
-unwritten-comes (Unwritten.on u p e) = Comes.through e p (unwritten-comes u)
+unwritten-comes (Unwritten.on u p e) = Comes.through e tt (λ b q. absurd q) p (unwritten-comes u)
 
 -- only a statement has successors
 successor-of : (f : Flow) (i j : ℕ) → In i (successors f j) → j < size f
@@ -45,16 +44,6 @@ successor-of f i j m = go (decLt j (size f))
     go (no l) = absurd (List·Memᴰ·not-nil (subst (λ (z : Statement). In i (z .successors)) (List·getD-eq-default (f .statements) noStatement (omega (arith, l))) m))
 
 -- The start
-
-all-ones : (k : ℕ) → k < 64 → bit 18446744073709551615 k ≡ 1
-all-ones k l = bit-not 64 0 k (omega arith) l ∙ omega (arith, bit-of-zero k)
-
-full-row : (x : ℕ) → x < elements → has (18446744073709551615 ∷ 18446744073709551615 ∷ []) 0 x ≡ 1
-full-row x m = go (ℕ-discrete (x / 64) 0)
-  where
-    go : Dec (x / 64 ≡ 0) → has (18446744073709551615 ∷ 18446744073709551615 ∷ []) 0 x ≡ 1
-    go (yes e) = row-low 18446744073709551615 18446744073709551615 x e ∙ all-ones (x % 64) (omega arith)
-    go (no d) = row-high 18446744073709551615 18446744073709551615 x (omega (arith, d)) ∙ all-ones (x % 64) (omega arith)
 
 module _ (ws : List ℕ) (n : ℕ) {vs us : List ℕ} {entry width : ℕ} (l : entry < n) (room : waitingEnd n ≤ length ws) (width-is : width ≡ 2 * n + rowWords n) (clear : vs ≡ zeroed ws n width)
     (push : Pushed vs us n entry (18446744073709551615 ∷ 18446744073709551615 ∷ [])) where
@@ -90,23 +79,23 @@ begun-held f {ws} {vs} {n} {entry} e b = record {
 
 pub record Solving (f : Flow) (ws₀ ws : List ℕ) (n i : ℕ) : Type 0 where
   pub held : Held f ws n
-  pub next : NextWaiting ws n i
+  pub next : SomeMember ws (waitingAt n) n i
   pub kept : Keeps n (waitingEnd n) ws₀ ws
 
 pub solving-first : (f : Flow) {ws vs : List ℕ} {n entry : ℕ} → entry < n → entry ≡ f .entry → Begun ws vs n entry → Solving f vs vs n entry
 solving-first f l e b = record {
   held = begun-held f e b;
-  next = record { high = omega arith; waits = λ m. b .waits; none = λ m. absurd (omega arith) };
+  next = record { high = omega arith; member = λ m. b .waits; none = λ m. absurd (omega arith) };
   kept = keeps-refl;
 }
 
-pub solving-more : {f : Flow} {ws₀ ws vs : List ℕ} {n i r : ℕ} → Solving f ws₀ ws n i → Visited f ws vs n i → NextWaiting vs n r → Solving f ws₀ vs n r
-solving-more h v r = record { held = v .held (h .held); next = r; kept = keeps-trans (h .kept) (v .kept) }
+pub solving-more : {f : Flow} {ws₀ ws vs : List ℕ} {n i row r : ℕ} → Solving f ws₀ ws n i → Visited f ws vs n i → row ≡ waitingAt n → SomeMember vs row n r → Solving f ws₀ vs n r
+solving-more {vs = vs} {n} {r = r} h v e next = record { held = v .held (h .held); next = subst (λ z. SomeMember vs z n r) e next; kept = keeps-trans (h .kept) (v .kept) }
 
 pub solved : {f : Flow} {ws₀ ws vs : List ℕ} {n i : ℕ} → size f ≡ n → Keeps n (waitingEnd n) ws₀ ws → Solving f ws vs n i → n ≤ i → Solved f ws₀ vs n
 solved {f} {n = n} size k h l = record {
   sound = λ a x b m e. comes-unwritten (h .held .sound a x b m e);
-  complete = λ a x b m u. complete (h .held) (h .next .none l) (λ c j e. subst (λ z. j < z) size (successor-of f c j e)) b m (unwritten-comes u);
+  complete = λ a x b m u. complete takes-all (h .held) (λ k m w. absurd (omega (arith, h .next .none l k m))) (λ c j e. subst (λ z. j < z) size (successor-of f c j e)) b m (unwritten-comes u);
   kept = keeps-trans k (h .kept);
 }
 

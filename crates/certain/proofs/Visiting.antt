@@ -1,17 +1,16 @@
 -- One statement taken and handled keeps the law's invariant: what leaves it is what it does not write of its set, and taking it out is the one step by which there is less to do.
 -- Assumes nothing.
-use Prim.Native.Nat.{ℕ, _+_, _*_, _/_, _%_, _<_, _≤_}
+use Prim.Native.Nat.{ℕ, _+_, _*_, _/_, _<_, _≤_}
 use mathlib.Core.List.{List, [], _∷_}
 use mathlib.Core.Logic.{_⊎_, inl, inr, ⊎-elim, _≢_}
 use mathlib.Core.Path.{_≡_, sym, _∙_, ap, subst}
-use native.Mathlib.Decide.{ℕ-discrete}
 use native.Mathlib.Nat.{le-refl}
 use native.Mathlib.Omega.{arith}
 use lib.ListN.{length, getD}
-use Rattle.words.specs.contracts.Row.{Words, bit, has, members, nextMember, First}
+use Rattle.words.specs.contracts.Row.{Words, bit, has, members}
 use Rattle.words.specs.contracts.Change.{removed, without}
-use Rattle.words.proofs.Row.{has-word, members-cong}
-use Rattle.words.proofs.NextMember.{first}
+use Rattle.words.proofs.Row.{members-cong}
+use Rattle.words.proofs.Pair.{pair-cases, set-low, set-high, row-low, row-high}
 use Rattle.words.proofs.Removed.{removed-other, remove-else, remove-other, remove-members}
 use Rattle.flow.specs.Flow.{statement}
 use Rattle.flow.specs.Format.{flowOf}
@@ -23,10 +22,9 @@ use Rattle.statements.proofs.WorkArea.{member-word, row-holds, row-words-le}
 use Rattle.statements.proofs.Keeps.{keeps-trans, keeps-removed, ready-keeps}
 use Rattle.statements.proofs.Names.{kept-cases, kept-bit, written-word, no-name}
 use Rattle.solve.specs.contracts.Sets.{Leaves, Joins, Follows}
-use Rattle.solve.proofs.Sets.{handled}
+use Rattle.solve.proofs.Sets.{takes-all, handled}
 use Rattle.certain.specs.contracts.Layout.{setAt, waitingAt, waitingEnd, elements}
-use Rattle.certain.specs.contracts.Unwritten.{forward, sets, Waits, left, PushedAll, Visited, NextWaiting}
-use Rattle.certain.proofs.Pushing.{row-low, row-high}
+use Rattle.certain.specs.contracts.Unwritten.{forward, sets, Waits, left, PushedAll, Visited}
 
 -- the words of this call fit, and a row of statements for those who read its words
 
@@ -36,36 +34,6 @@ area-room {n = n} r l = omega (arith, r .room, row-words-le n)
 pub waiting-room : (n : ℕ) {row size : ℕ} → row ≡ waitingAt n → waitingEnd n ≤ size → row + (n + 63) / 64 ≤ size
 unfolding rowWords
 waiting-room n e l = omega arith
-
--- the two words of a set, element by element
-
-pub set-low : (ws : List ℕ) (at x : ℕ) → x < 64 → has ws at x ≡ bit (getD ws at 0) x
-set-low ws at x l = ap (has ws at) (sym (zero-add-x x)) ∙ has-word ws at 0 x l ∙ ap (λ z. bit (getD ws z 0) x) (add-zero-at at)
-  where
-    zero-add-x : (x : ℕ) → 64 * 0 + x ≡ x
-    zero-add-x x = omega arith
-
-    add-zero-at : (at : ℕ) → at + 0 ≡ at
-    add-zero-at at = omega arith
-
-pub set-high : (ws : List ℕ) (at x : ℕ) → x < 64 → has ws at (64 + x) ≡ bit (getD ws (at + 1) 0) x
-set-high ws at x l = has-word ws at 1 x l
-
--- The next statement that waits
-
-pub next-found : {ws : List ℕ} {n row i r : ℕ} → row ≡ waitingAt n → i ≤ n → r ≡ nextMember ws row i n → r < n → NextWaiting ws n r
-next-found {ws} {n} {row} {i} {r} e l d m =
-    let f : First ws row i n r = subst (λ z. First ws row i n z) (sym d) (first ws row i n l) in
-    record { high = f .high; waits = λ b. subst (λ z. has ws z r ≡ 1) e (f .member b); none = λ b. absurd (omega arith) }
-
-pub next-from-first : {ws : List ℕ} {n row r : ℕ} → row ≡ waitingAt n → r ≡ nextMember ws row 0 n → NextWaiting ws n r
-next-from-first {ws} {n} {row} {r} e d =
-    let f : First ws row 0 n r = subst (λ z. First ws row 0 n z) (sym d) (first ws row 0 n (omega arith)) in
-    record {
-      high = f .high;
-      waits = λ b. subst (λ z. has ws z r ≡ 1) e (f .member b);
-      none = λ b k m w. let out : has ws (waitingAt n) k ≡ 0 = subst (λ z. has ws z k ≡ 0) e (f .none k (omega arith) (omega arith)) in omega arith;
-    }
 
 -- taking a statement out changes no noted place
 pub taken-ready : {s ws vs : List ℕ} {n i row : ℕ} → Ready s ws n → i < n → row ≡ waitingAt n → vs ≡ removed ws row i → Ready s vs n
@@ -101,37 +69,29 @@ module _ {s ws vs us : List ℕ} {n i at row names reached : ℕ} (r : Ready s w
   -- what leaves the statement
 
   row-leaves : (x : ℕ) → x < elements → has (names ∷ reached ∷ []) 0 x ≡ 1 → Leaves (forward (flowOf s)) (sets ws n) i x
-  row-leaves x m e = go (ℕ-discrete (x / 64) 0)
+  row-leaves = pair-cases (λ x. has (names ∷ reached ∷ []) 0 x ≡ 1 → Leaves (forward (flowOf s)) (sets ws n) i x) low high
     where
-      go : Dec (x / 64 ≡ 0) → Leaves (forward (flowOf s)) (sets ws n) i x
-      go (yes d) =
-          let both = kept-cases (flowOf s) i (getD ws (setAt n i) 0) x (words (setAt n i)) (written-word r i) (subst (λ z. bit z x ≡ 1) low-word (subst (λ z. bit names z ≡ 1) (low-place d) (sym (row-low names reached x d) ∙ e))) in
-          inr (both .0, set-low ws (setAt n i) x (omega arith) ∙ both .1)
-        where
-          low-place : x / 64 ≡ 0 → x % 64 ≡ x
-          low-place d = omega arith
-      go (no d) =
-          inr (no-name r i x (omega (arith, d)), subst (λ z. has ws (setAt n i) z ≡ 1) (high-place d) (set-high ws (setAt n i) (x % 64) (omega arith) ∙ subst (λ z. bit z (x % 64) ≡ 1) high-word (sym (row-high names reached x (omega (arith, d))) ∙ e)))
-        where
-          high-place : (x / 64 ≡ 0 → ⊥) → 64 + x % 64 ≡ x
-          high-place d = omega (arith, d)
+      low : (x : ℕ) → x < 64 → has (names ∷ reached ∷ []) 0 x ≡ 1 → Leaves (forward (flowOf s)) (sets ws n) i x
+      low x m e =
+          let both = kept-cases (flowOf s) i (getD ws (setAt n i) 0) x (words (setAt n i)) (written-word r i) (subst (λ z. bit z x ≡ 1) low-word (sym (row-low names reached x m) ∙ e)) in
+          inr (both .0, set-low ws (setAt n i) x m ∙ both .1)
+
+      high : (x : ℕ) → x < 64 → has (names ∷ reached ∷ []) 0 (64 + x) ≡ 1 → Leaves (forward (flowOf s)) (sets ws n) i (64 + x)
+      high x m e = inr (no-name r i (64 + x) (omega arith), set-high ws (setAt n i) x m ∙ subst (λ z. bit z x ≡ 1) high-word (sym (row-high names reached x m) ∙ e))
 
   leaves-row : (x : ℕ) → x < elements → Leaves (forward (flowOf s)) (sets ws n) i x → has (names ∷ reached ∷ []) 0 x ≡ 1
-  leaves-row x m (inl g) = absurd g
-  leaves-row x m (inr t) = go (ℕ-discrete (x / 64) 0)
+  leaves-row = pair-cases (λ x. Leaves (forward (flowOf s)) (sets ws n) i x → has (names ∷ reached ∷ []) 0 x ≡ 1) low high
     where
-      go : Dec (x / 64 ≡ 0) → has (names ∷ reached ∷ []) 0 x ≡ 1
-      go (yes d) =
-          let place : x ≡ x % 64 = omega arith in
-          row-low names reached x d
-          ∙ subst (λ z. bit names z ≡ 1) place
-          (subst (λ z. bit z x ≡ 1) (sym low-word)
-          (kept-bit (flowOf s) i (getD ws (setAt n i) 0) x (words (setAt n i)) (written-word r i) (t .0) (sym (set-low ws (setAt n i) x (omega arith)) ∙ t .1)))
-      go (no d) =
-          let place : x ≡ 64 + x % 64 = omega (arith, d) in
-          row-high names reached x (omega (arith, d))
-          ∙ subst (λ z. bit z (x % 64) ≡ 1) (sym high-word)
-          (sym (set-high ws (setAt n i) (x % 64) (omega arith)) ∙ subst (λ z. has ws (setAt n i) z ≡ 1) place (t .1))
+      low : (x : ℕ) → x < 64 → Leaves (forward (flowOf s)) (sets ws n) i x → has (names ∷ reached ∷ []) 0 x ≡ 1
+      low x m (inl g) = absurd g
+      low x m (inr t) =
+          row-low names reached x m
+          ∙ subst (λ z. bit z x ≡ 1) (sym low-word)
+          (kept-bit (flowOf s) i (getD ws (setAt n i) 0) x (words (setAt n i)) (written-word r i) (t .0) (sym (set-low ws (setAt n i) x m) ∙ t .1))
+
+      high : (x : ℕ) → x < 64 → Leaves (forward (flowOf s)) (sets ws n) i (64 + x) → has (names ∷ reached ∷ []) 0 (64 + x) ≡ 1
+      high x m (inl g) = absurd g
+      high x m (inr t) = row-high names reached x m ∙ subst (λ z. bit z x ≡ 1) (sym high-word) (sym (set-high ws (setAt n i) x m) ∙ t .1)
 
   joins : Joins n elements (λ k. In k (successors (flowOf s) i)) (Leaves (forward (flowOf s)) (sets ws n) i) (sets ws n) (sets us n)
   joins = record {
@@ -156,7 +116,7 @@ module _ {s ws vs us : List ℕ} {n i at row names reached : ℕ} (r : Ready s w
 
   pub visited : Visited (flowOf s) ws us n i
   visited = record {
-    held = λ h. handled h l joins follows;
+    held = λ h. handled takes-all h l joins follows;
     falls = λ w. omega (arith, push .falls, less w);
     kept = keeps-trans (subst (λ z. Keeps n (waitingEnd n) ws z) (sym taken) (keeps-removed ws (waitingAt n) i (omega arith) (omega (arith, member-word l)))) (push .kept);
   }

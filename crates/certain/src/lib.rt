@@ -9,7 +9,7 @@ ghost use Rattle.flow.specs.Format.{flowOf};
 ghost use Rattle.theory.specs.Certain.{certainWord};
 ghost use Rattle.statements.specs.contracts.Ready.{Ready};
 ghost use Rattle.certain.specs.contracts.Layout as at;
-ghost use Rattle.certain.specs.contracts.Unwritten.{Pushed, PushedAll, Visited, NextWaiting, Begun, Solved};
+ghost use Rattle.certain.specs.contracts.Unwritten.{Pushed, PushedAll, Visited, Begun, Solved};
 ghost use Rattle.certain.specs.contracts.CertainNames.{CertainStart, Used, Early};
 use flow::StmtId;
 use statements::fields;
@@ -40,10 +40,7 @@ fn push(work: &mut [u64], n: usize, j: StmtId, names: u64, reached: u64)
     requires { ⌜ (n ≤ maxStatements) × (at.waitingEnd n ≤ length (now work)) × (j .0 < n) ⌝ }
     ensures { λ _. ⌜ Pushed (now (work .entry)) (now (work .exit)) n (j .0) (names ∷ reached ∷ []) ⌝ }
 {
-    let at = set(n, j);
-    let more = words::union_word(work, at, names);
-    let came = words::union_word(work, at + 1, reached);
-    if more | came {
+    if words::union_pair(work, set(n, j), names, reached) {
         words::insert(work, waiting(n), j.0);
     }
 }
@@ -76,19 +73,6 @@ fn visit(file: &[u8], work: &mut [u64], n: usize, i: StmtId)
     push_listed(file, work, n, i, names, reached);
 }
 
-// The next statement that waits, in file order from i on and then from the first; n if none does.
-fn next_waiting(work: &[u64], n: usize, i: usize) -> usize
-    requires { ⌜ (n ≤ maxStatements) × (at.waitingEnd n ≤ length (now work)) × (i ≤ n) ⌝ }
-    ensures { λ r. ⌜ NextWaiting (now (work .entry)) n r ⌝ }
-{
-    let row = waiting(n);
-    let later = words::next(work, row, i, n);
-    if later < n {
-        return later;
-    }
-    words::next(work, row, 0, n)
-}
-
 // The entry waits, with every name unwritten.
 fn begin(work: &mut [u64], n: usize, entry: StmtId)
     requires { ⌜ (n ≤ maxStatements) × (at.waitingEnd n ≤ length (now work)) × (entry .0 < n) ⌝ }
@@ -98,7 +82,7 @@ fn begin(work: &mut [u64], n: usize, entry: StmtId)
     push(work, n, entry, ALL, ALL);
 }
 
-// The sets of all statements.
+// The sets of all statements. The next to be visited is one that waits, in file order from the last one on and then from the first.
 fn solve(file: &[u8], work: &mut [u64], n: usize, entry: StmtId)
     requires { ⌜ CertainStart (now file) (now work) n (entry .0) ⌝ }
     ensures { λ _. ⌜ Solved (flowOf (now (file .entry))) (now (work .entry)) (now (work .exit)) n ⌝ }
@@ -107,7 +91,7 @@ fn solve(file: &[u8], work: &mut [u64], n: usize, entry: StmtId)
     let mut i = entry.0;
     while i < n {
         visit(file, work, n, StmtId(i));
-        i = next_waiting(work, n, i);
+        i = words::next_around(work, waiting(n), i, n);
     }
 }
 

@@ -1,7 +1,7 @@
--- The rows of a number's edges: that of the statement's act, and for the edge to the continuation of a call that is not opaque the one with the touched
+-- The rows of a number's edges: that of the statement's act, and for the edge to the continuation of a call that is not opaque the one with the call's own
 -- step. What the edges carry of these rows is what the doubled graph's edges bring of the number's masks.
 use Prim.Native.Nat.{ℕ, _+_, _*_, _/_, _%_, _<_}
-use mathlib.Core.Bool.{Bool, true, false, cond, _&&_}
+use mathlib.Core.Bool.{Bool, true, false, cond, not, _&&_}
 use mathlib.Core.List.{List, [], _∷_, _++_, map, List·Memᴰ·head, List·Memᴰ·tail}
 use mathlib.Core.Path.{_≡_, refl, sym, ap, ap₂, _∙_}
 use native.Mathlib.Omega.{arith}
@@ -9,13 +9,15 @@ use lib.Bits.{bitOr}
 use lib.Dec.{eqb, ltb}
 use lib.ListN.{getD}
 use Rattle.words.specs.contracts.Row as bits
-use Rattle.masks.specs.declared.Effect.the-variants.{Touched}
+use Rattle.masks.specs.declared.Effect.the-variants.{Reference, Touched}
 use Rattle.masks.specs.Step.{stepOf}
+use Rattle.masks.proofs.Laws.{touched-reference}
 use Rattle.flow.specs.Flow.{Flow}
 use Rattle.flow.specs.Limits.{maxArrays}
 use Rattle.theory.specs.Lists.{In}
 use Rattle.theory.specs.Body.{callTouches}
-use Rattle.theory.specs.Doubled.{Edge, number, statementEffects, edgeEffects}
+use Rattle.theory.specs.Sure.{sure}
+use Rattle.theory.specs.Doubled.{Edge, number, statementEffects, entering, continuationEffects, edgeEffects}
 use Rattle.theory.specs.Queue.{stepAll, brings}
 use Rattle.theory.proofs.Lists.{says-one}
 use Rattle.statements.specs.contracts.Ready.{MembersWord}
@@ -24,7 +26,7 @@ use Rattle.solve.specs.contracts.Rows.{maskAt, stepWhere, member}
 use Rattle.dataflow.specs.contracts.Transfer.{acted}
 use Rattle.dataflow.specs.contracts.Sent.{carried, masksBelow}
 use Rattle.dataflow.proofs.Unions.{cond-zero}
-use Rattle.dataflow.proofs.Acted.{stepAll-append, stepAll-if}
+use Rattle.dataflow.proofs.Acted.{stepAll-append}
 
 -- a set of one word
 word-has : (ws : List ℕ) (set a : ℕ) → a < maxArrays → bits.has ws set a ≡ bits.bit (getD ws set 0) a
@@ -34,6 +36,11 @@ word-has ws set a l =
     let place : a % 64 ≡ a = omega arith in
     ap₂ (λ (x y : ℕ). bits.bit (getD ws x 0) y) word place
 
+-- a set of one word, as its members say
+pub word-member : (ws : List ℕ) (set : ℕ) (p : ℕ → Bool) (a : ℕ) → a < maxArrays → MembersWord (getD ws set 0) p → member ws set a ≡ p a
+unfolding member
+word-member ws set p a l w = ap (λ (y : ℕ). eqb y 1) (word-has ws set a l ∙ w .member a l) ∙ says-one (p a)
+
 -- the act of the statement, on an edge that carries nothing more
 pub act-row : (f : Flow) (i count : ℕ) (m row : ℕ → ℕ) (x : Edge) (a : ℕ) → row a ≡ masksBelow count m a → x .continues ≡ false
     → acted count (statementEffects f i) row a ≡ masksBelow count (λ b. stepAll (edgeEffects f i x b) (m b)) a
@@ -42,35 +49,47 @@ act-row f i count m row x a is e = at (ltb a count) is
   where
     at : (b : Bool) → row a ≡ cond b (m a) 0
         → cond b (stepAll (statementEffects f i a) (row a)) (row a)
-        ≡ cond b (stepAll (statementEffects f i a ++ cond ((x .continues) && callTouches f i a) (Touched ∷ []) []) (m a)) 0
+        ≡ cond b (stepAll (statementEffects f i a ++ cond (x .continues) (continuationEffects f i x a) []) (m a)) 0
     at true q =
         ap (stepAll (statementEffects f i a)) q
-        ∙ sym (stepAll-append (statementEffects f i a) (cond ((x .continues) && callTouches f i a) (Touched ∷ []) []) (m a)
-        ∙ ap (λ (c : Bool). stepAll (cond (c && callTouches f i a) (Touched ∷ []) []) (stepAll (statementEffects f i a) (m a))) e)
+        ∙ sym (stepAll-append (statementEffects f i a) (cond (x .continues) (continuationEffects f i x a) []) (m a)
+        ∙ ap (λ (c : Bool). stepAll (cond c (continuationEffects f i x a) []) (stepAll (statementEffects f i a) (m a))) e)
     at false q = q
 
--- and with the touched step
-pub back-row : (f : Flow) (ws : List ℕ) (i count set : ℕ) (m row : ℕ → ℕ) (x : Edge) (a : ℕ) → a < maxArrays → row a ≡ masksBelow count m a → x .continues ≡ true
-    → MembersWord (getD ws set 0) (callTouches f i)
-    → stepWhere (member ws set) Touched (acted count (statementEffects f i) row) a ≡ masksBelow count (λ b. stepAll (edgeEffects f i x b) (m b)) a
-unfolding acted masksBelow edgeEffects stepAll stepWhere member
-back-row f ws i count set m row x a l is e touched = at (ltb a count) is
+-- the steps one after the other, as the call's own
+own-step : (s t : Bool) (m : ℕ) → cond s (stepOf Reference (cond t (stepOf Touched m) m)) (cond t (stepOf Touched m) m) ≡ stepAll (cond s (Reference ∷ []) (cond t (Touched ∷ []) [])) m
+unfolding stepAll
+own-step true true m = touched-reference m
+own-step true false m = refl
+own-step false true m = refl
+own-step false false m = refl
+
+-- and with the call's own step
+pub back-row : (f : Flow) (i count : ℕ) (m row : ℕ → ℕ) (touched sured : ℕ → Bool) (x : Edge) (a : ℕ) → row a ≡ masksBelow count m a → x .continues ≡ true
+    → touched a ≡ callTouches f i a → sured a ≡ (sure f i a && not (entering f i x))
+    → stepWhere sured Reference (stepWhere touched Touched (acted count (statementEffects f i) row)) a ≡ masksBelow count (λ b. stepAll (edgeEffects f i x b) (m b)) a
+unfolding acted masksBelow edgeEffects continuationEffects stepAll stepWhere
+back-row f i count m row touched sured x a is e t s = at (ltb a count) is
   where
-    touches : eqb (bits.has ws set a) 1 ≡ callTouches f i a
-    touches = ap (λ (y : ℕ). eqb y 1) (low ∙ touched .member a l) ∙ says-one (callTouches f i a)
-      where
-        low : bits.has ws set a ≡ bits.bit (getD ws set 0) a
-        low = word-has ws set a l
+    own : ℕ → ℕ
+    own v = cond (sured a) (stepOf Reference (cond (touched a) (stepOf Touched v) v)) (cond (touched a) (stepOf Touched v) v)
+
+    nothing : (p q : Bool) → cond p (stepOf Reference (cond q (stepOf Touched 0) 0)) (cond q (stepOf Touched 0) 0) ≡ 0
+    nothing true true = refl
+    nothing true false = refl
+    nothing false true = refl
+    nothing false false = refl
 
     at : (b : Bool) → row a ≡ cond b (m a) 0
-        → cond (eqb (bits.has ws set a) 1) (stepOf Touched (cond b (stepAll (statementEffects f i a) (row a)) (row a))) (cond b (stepAll (statementEffects f i a) (row a)) (row a))
-        ≡ cond b (stepAll (statementEffects f i a ++ cond ((x .continues) && callTouches f i a) (Touched ∷ []) []) (m a)) 0
+        → own (cond b (stepAll (statementEffects f i a) (row a)) (row a))
+        ≡ cond b (stepAll (statementEffects f i a ++ cond (x .continues) (cond (sure f i a && not (entering f i x)) (Reference ∷ []) (cond (callTouches f i a) (Touched ∷ []) [])) []) (m a)) 0
     at true q =
-        ap₂ (λ (c : Bool) (v : ℕ). cond c (stepOf Touched (stepAll (statementEffects f i a) v)) (stepAll (statementEffects f i a) v)) touches q
-        ∙ sym (stepAll-append (statementEffects f i a) (cond ((x .continues) && callTouches f i a) (Touched ∷ []) []) (m a)
-        ∙ ap (λ (c : Bool). stepAll (cond (c && callTouches f i a) (Touched ∷ []) []) (stepAll (statementEffects f i a) (m a))) e
-        ∙ stepAll-if (callTouches f i a) Touched (stepAll (statementEffects f i a) (m a)))
-    at false q = ap (λ (v : ℕ). cond (eqb (bits.has ws set a) 1) (stepOf Touched v) v) q ∙ sym (cond-zero (eqb (bits.has ws set a) 1))
+        ap (λ (v : ℕ). own (stepAll (statementEffects f i a) v)) q
+        ∙ own-step (sured a) (touched a) (stepAll (statementEffects f i a) (m a))
+        ∙ ap₂ (λ (p r : Bool). stepAll (cond p (Reference ∷ []) (cond r (Touched ∷ []) [])) (stepAll (statementEffects f i a) (m a))) s t
+        ∙ sym (stepAll-append (statementEffects f i a) (cond (x .continues) (cond (sure f i a && not (entering f i x)) (Reference ∷ []) (cond (callTouches f i a) (Touched ∷ []) [])) []) (m a)
+        ∙ ap (λ (c : Bool). stepAll (cond c (cond (sure f i a && not (entering f i x)) (Reference ∷ []) (cond (callTouches f i a) (Touched ∷ []) [])) []) (stepAll (statementEffects f i a) (m a))) e)
+    at false q = ap own q ∙ nothing (sured a) (touched a)
 
 module _ (f : Flow) (ws : List ℕ) (w : ℕ) (from : Bool → ℕ) (i : ℕ) (m : ℕ → ℕ) (t : ℕ) where
   -- what the edges carry is what they bring of the masks

@@ -8,7 +8,7 @@ use lib.ListN.{length, getD}
 use Rattle.words.specs.contracts.Row.{has}
 use Rattle.flow.specs.declared.Header.{Header}
 use Rattle.flow.specs.Flow.{Flow, size}
-use Rattle.statements.specs.contracts.Layout.{callsAt, bodiesAt, touchedAt, rowAt, queueAt}
+use Rattle.statements.specs.contracts.Layout.{matrixAt, callsAt, bodiesAt, touchedAt, rowAt, queueAt}
 use Rattle.statements.specs.contracts.Ready.{Ready, Indexed, Keeps}
 use Rattle.statements.proofs.WorkArea.{row-from, row-fits, member-word}
 use Rattle.statements.proofs.Keeps.{keeps-has, ready-keeps, indexed-keeps}
@@ -20,7 +20,7 @@ use Rattle.calls.proofs.Gathered.{summaries-kept}
 use Rattle.calls.proofs.Ordering.{list-to, list-kept, order-kept}
 
 -- the words from the queue on are the solver's
-pub queue-above : (n : ℕ) → n + n + n + n + n ≤ queueAt n
+pub queue-above : (n : ℕ) → matrixAt n ≤ queueAt n
 queue-above n = let h = row-from n n in omega arith
 
 pub indexed-stays : {s ws vs : List ℕ} {h : Header} {hi : ℕ} → Keeps (queueAt (h .statements)) hi ws vs → Indexed s h ws → Indexed s h vs

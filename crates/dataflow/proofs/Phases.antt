@@ -22,7 +22,7 @@ use Rattle.records.proofs.Noting.{length-noted, noted-other}
 use Rattle.records.proofs.Statements.{size-is}
 use Rattle.theory.specs.Masks.{maskLeft}
 use Rattle.theory.specs.Live.{liveInWord, liveOutWord}
-use Rattle.statements.specs.contracts.Layout.{rowWords, linesAt, callsAt, bodiesAt, matrixAt, queueAt, enteredRowAt, returnsRowAt, setWords}
+use Rattle.statements.specs.contracts.Layout.{sureAt, rowWords, linesAt, bodiesAt, matrixAt, queueAt, enteredRowAt, returnsRowAt, setWords}
 use Rattle.statements.specs.contracts.Ready.{Ready, Indexed, Keeps}
 use Rattle.statements.proofs.Noted.{ready-noted}
 use Rattle.statements.proofs.Keeps.{keeps-zeroed, ready-keeps, ready-room, indexed-keeps}
@@ -103,7 +103,10 @@ module _ {s : List ℕ} {h : Header} where
         pub no-summaries : held.NoSummaries us n
         no-summaries = record { words = λ x l m. p .above x (omega arith) ∙ past x (omega arith) ∙ low x (omega arith) m }
 
-        pub summed : {ts : List ℕ} → Summarized (flowOf s) ts n → Keeps (callsAt n) (enteredRowAt n) us ts → SummariesMade s h ts
+        pub no-sure : (k : ℕ) → k < n → getD us (sureAt n + k) 0 ≡ 0
+        no-sure k l = p .above (sureAt n + k) (omega arith) ∙ past (sureAt n + k) (omega arith) ∙ low (sureAt n + k) (omega arith) (omega arith)
+
+        pub summed : {ts : List ℕ} → Summarized (flowOf s) ts n → Keeps (sureAt n) (enteredRowAt n) us ts → SummariesMade s h ts
         summed m k = record {
           indexed = indexed-keeps noted-indexed k (omega arith);
           summarized = m;

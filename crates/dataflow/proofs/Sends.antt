@@ -1,24 +1,34 @@
 -- One number sends its masks on: its edges' rows are made and pushed along the edges. The rows stand beside the solver's state, so what was pushed is what the
 -- doubled graph's edges bring.
-use Prim.Native.Nat.{ℕ, _+_, _*_, _/_, _%_, _≤_, _<_}
-use mathlib.Core.Bool.{Bool, true, false, cond}
-use mathlib.Core.List.{List}
+use Prim.Native.Nat.{ℕ, _+_, _-_, _*_, _/_, _%_, _≤_, _<_}
+use mathlib.Core.Bool.{Bool, true, false, cond, not, _&&_, _||_, and-true}
+use mathlib.Core.List.{List, [], _∷_}
+use mathlib.Core.Option.{some}
 use mathlib.Core.Path.{_≡_, refl, sym, ap, ap₂, subst, _∙_}
-use native.Mathlib.Nat.{mul-zero}
+use native.Mathlib.Nat.{mul-zero, le-refl}
 use native.Mathlib.Omega.{arith}
 use lib.Bits.{bitOr, or-self}
-use lib.Dec.{ltb}
+use lib.Dec.{eqb, ltb}
 use lib.ListN.{getD}
-use Rattle.masks.specs.declared.Effect.the-variants.{Touched}
-use Rattle.flow.specs.Flow.{Flow}
-use Rattle.theory.specs.Lists.{In, differ}
-use Rattle.theory.specs.Body.{callTouches}
-use Rattle.theory.specs.Doubled.{Node, Edge, node, edges, statementEffects, edgeEffects, doubled}
+use Rattle.words.specs.contracts.Row.{has}
+use Rattle.masks.specs.declared.Effect.the-variants.{Reference, Touched}
+use Rattle.masks.specs.Step.{stepOf}
+use Rattle.flow.specs.declared.Base.{Base}
+use Rattle.flow.specs.declared.Base.the-variants.{Zero, N}
+use Rattle.flow.specs.Flow.{Flow, size}
+use Rattle.theory.specs.Lists.{In, any, elem, differ}
+use Rattle.theory.specs.Body.{kind, continuationOf, entered, opaqueCall, callTouches}
+use Rattle.theory.specs.Sure.{sure}
+use Rattle.theory.specs.Doubled.{Node, Edge, at, sameBase, sameNode, node, edges, statementEffects, entering, edgeEffects, doubled}
 use Rattle.theory.specs.Queue.{stepAll, brings, enqueue}
-use Rattle.statements.specs.contracts.Layout.{callTouchedAt, maxWidth, queueAt}
+use Rattle.theory.proofs.Lists.{says-one}
+use Rattle.theory.proofs.Edges.{same-node, continues-at}
+use Rattle.statements.specs.contracts.Layout.{sureAt, callsAt, callTouchedAt, maxWidth}
 use Rattle.statements.specs.contracts.Ready.{Keeps, MembersWord}
-use Rattle.statements.proofs.Keeps.{keeps-trans, keeps-widen}
-use Rattle.calls.specs.contracts.Class.{transparentCall}
+use Rattle.statements.proofs.Keeps.{keeps-trans, keeps-widen, keeps-has}
+use Rattle.statements.proofs.WorkArea as area
+use Rattle.calls.specs.declared.edges.Call.{Call}
+use Rattle.calls.specs.contracts.Class.{transparentCall, CallOf}
 use Rattle.calls.specs.contracts.Held.{Linked, opaque, transparent}
 use Rattle.calls.proofs.Classes.{Plain, call-says}
 use Rattle.calls.specs.contracts.Slots.{slots, present}
@@ -33,9 +43,9 @@ use Rattle.solve.proofs.Room.{row-first, row-from}
 use Rattle.solve.proofs.Masks.{mask-cong, differ-as}
 use Rattle.solve.proofs.Waiting.{waits-kept}
 use Rattle.solve.proofs.Growing.{masks-kept}
-use Rattle.dataflow.specs.contracts.Transfer.{acted, Acted}
+use Rattle.dataflow.specs.contracts.Transfer.{acted, isEntered, entersAgain, Acted}
 use Rattle.dataflow.specs.contracts.Sent.{edgeRow, masksBelow, Prepared, Shared, Goes, Sends}
-use Rattle.dataflow.proofs.EdgeRows.{act-row, back-row, carried-brings}
+use Rattle.dataflow.proofs.EdgeRows.{word-member, act-row, back-row, carried-brings}
 use Rattle.dataflow.proofs.Sharing.{shared-stays}
 
 -- the rows of d's edges, by the act of its statement
@@ -53,37 +63,100 @@ module _ (f : Flow) (ws us : List ℕ) (n w d i : ℕ) (stmt : i ≡ node f d .s
         acts a l ∙ act-row f (node f d .stmt) (f .arrays) m (masksAt ws n w d) x a (h a l) none;
   }
 
--- a call that is not opaque
-module _ (f : Flow) (ws us : List ℕ) (n w d i : ℕ) (stmt : i ≡ node f d .stmt) (act : Acted f ws us n w d i (outRow n w)) (vs : List ℕ) (narrow : w ≤ maxWidth) (touched : MembersWord (getD us (callTouchedAt n + i) 0) (callTouches f i))
-    (back : RowIs us vs w (backRow n w) (stepWhere (member us (callTouchedAt n + i)) Touched (maskAt us w (outRow n w)))) where
-  out : (a : ℕ) → a < 64 * w → maskAt vs w (outRow n w) a ≡ acted (f .arrays) (statementEffects f (node f d .stmt)) (masksAt ws n w d) a
-  out a l = mask-cong us vs w (outRow n w) a l (λ y lo hi. back .keeps .below y (omega arith)) ∙ acts f ws us n w d i stmt (outRow n w) act a l
+-- the arrays that such a call touches, and those that are sure for it, are noted
 
-  in-back : (a : ℕ) → a < 64 * w
-      → maskAt vs w (backRow n w) a
-      ≡ stepWhere (member us (callTouchedAt n + i)) Touched (acted (f .arrays) (statementEffects f (node f d .stmt)) (masksAt ws n w d)) a
+module _ {f : Flow} {ws : List ℕ} {n i : ℕ} (e : transparentCall f i ≡ true) (l : Linked f ws n) (below : i < n) where
+  state : getD ws (callsAt n + i) 0 ≡ transparent
+  state = let says = call-says f i e in l .calls .call i (says .0) below (says .1) ∙ ap (λ (b : Bool). cond b opaque transparent) (says .2)
+
+  pub call-touches : MembersWord (getD ws (callTouchedAt n + i) 0) (callTouches f i)
+  call-touches = l .calls .touched i below state
+
+  pub call-sure : MembersWord (getD ws (sureAt n + i) 0) (sure f i)
+  call-sure = l .calls .sure i below state
+
+and-no : (b : Bool) → (b && false) ≡ false
+and-no true = refl
+and-no false = refl
+
+-- the edge to the continuation of a call that is not opaque is also one to an entered statement in base n alone
+continuing : (f : Flow) (v : Node) {k : ℕ} {x : Edge} → continuationOf (kind f (v .stmt)) ≡ some k → opaqueCall f (v .stmt) ≡ false → In x (edges f v) → x .continues ≡ true → x .to ≡ at (v .base) k
+continuing f v {k} {x} c o m e = same-node (x .to) (at (v .base) k) (sym (continues-at f (v .base) (v .stmt) c o m) ∙ e)
+
+any-entered : (b : Base) (k : ℕ) (l : List ℕ) → any (λ j. sameNode (at b k) (at N j)) l ≡ (sameBase b N && elem k l)
+unfolding any elem
+any-entered Zero k [] = refl
+any-entered N k [] = refl
+any-entered Zero k (j ∷ l) = any-entered Zero k l
+any-entered N k (j ∷ l) = ap (λ t. eqb k j || t) (any-entered N k l)
+
+entering-is : (f : Flow) (v : Node) {k : ℕ} {x : Edge} → continuationOf (kind f (v .stmt)) ≡ some k → opaqueCall f (v .stmt) ≡ false → In x (edges f v) → x .continues ≡ true
+    → entering f (v .stmt) x ≡ entersAgain f (v .base) (v .stmt)
+unfolding entering
+entering-is f v {k} c o m e =
+    ap (λ w. any (λ j. sameNode w (at N j)) (entered f (v .stmt))) (continuing f v c o m e)
+    ∙ any-entered (v .base) k (entered f (v .stmt))
+    ∙ ap (λ t. sameBase (v .base) N && isEntered f (v .stmt) t) (sym c)
+
+-- the row of a call says whether it enters its continuation
+pub again-is : {f : Flow} {ws : List ℕ} {i : ℕ} {call : Call} (b : Base) → CallOf f ws i call → call .continuation .0 < size f
+    → (sameBase b N && eqb (has ws (call .row) (call .continuation .0)) 1) ≡ entersAgain f b i
+again-is {f} {i = i} b c l =
+    ap (λ t. sameBase b N && t) (ap (λ (y : ℕ). eqb y 1) (c .entered _ l) ∙ says-one (elem _ (entered f i)))
+    ∙ ap (λ t. sameBase b N && isEntered f i t) (sym (c .continues))
+
+-- a call that is not opaque: its sets say which arrays take which step
+module _ (f : Flow) (ws us : List ℕ) (n w d i : ℕ) (stmt : i ≡ node f d .stmt) (is-call : transparentCall f i ≡ true) (act : Acted f ws us n w d i (outRow n w)) (narrow : w ≤ maxWidth)
+    (touched-word : MembersWord (getD us (callTouchedAt n + i) 0) (callTouches f i)) (sure-word : MembersWord (getD us (sureAt n + i) 0) (sure f i)) (small : i < n) where
+  -- what the row of the edge to the continuation has, from the row of the act
+  module _ (vs : List ℕ) (sured : ℕ → Bool) (keeps : Keeps (backRow n w) (maskRowAt n w 0) us vs)
+      (back : (a : ℕ) → a < 64 * w → maskAt vs w (backRow n w) a ≡ stepWhere sured Reference (stepWhere (member us (callTouchedAt n + i)) Touched (maskAt us w (outRow n w))) a)
+      (says : (a : ℕ) → a < 64 * w → sured a ≡ (sure f i a && not (entersAgain f (node f d .base) i))) where
+    out : (a : ℕ) → a < 64 * w → maskAt vs w (outRow n w) a ≡ acted (f .arrays) (statementEffects f (node f d .stmt)) (masksAt ws n w d) a
+    out a l = mask-cong us vs w (outRow n w) a l (λ y lo hi. keeps .below y (omega arith)) ∙ acts f ws us n w d i stmt (outRow n w) act a l
+
+    in-back : (a : ℕ) → a < 64 * w
+        → maskAt vs w (backRow n w) a
+        ≡ stepWhere sured Reference (stepWhere (member us (callTouchedAt n + i)) Touched (acted (f .arrays) (statementEffects f (node f d .stmt)) (masksAt ws n w d))) a
+    unfolding stepWhere
+    in-back a l =
+        back a l
+        ∙ ap (λ (v : ℕ). stepWhere sured Reference (stepWhere (member us (callTouchedAt n + i)) Touched (λ b. v)) a) (acts f ws us n w d i stmt (outRow n w) act a l)
+
+    pub prepared-back : Prepared f ws vs n w d (edgeRow n w)
+    prepared-back = record {
+      keeps = keeps-trans (act .keeps) (keeps-widen (omega arith) (omega arith) keeps);
+      rows = λ m h x e a l. row-at m h x e a l (x .continues) refl;
+    }
+      where
+        row-at : (m : ℕ → ℕ) → ((a : ℕ) → a < 64 * w → masksAt ws n w d a ≡ masksBelow (f .arrays) m a) → (x : Edge) → In x (edges f (node f d)) → (a : ℕ) → a < 64 * w → (c : Bool) → x .continues ≡ c
+            → maskAt vs w (edgeRow n w c) a ≡ masksBelow (f .arrays) (λ b. stepAll (edgeEffects f (node f d .stmt) x b) (m b)) a
+        row-at m h x k a l true e =
+            let call = call-says f (node f d .stmt) (subst (λ (j : ℕ). transparentCall f j ≡ true) stmt is-call) in
+            in-back a l
+            ∙ back-row f (node f d .stmt) (f .arrays) m (masksAt ws n w d) (member us (callTouchedAt n + i)) sured x a (h a l) e
+            (word-member us (callTouchedAt n + i) (callTouches f i) a (omega arith) touched-word ∙ ap (λ (j : ℕ). callTouches f j a) stmt)
+            (says a l ∙ ap (λ (j : ℕ). sure f j a && not (entersAgain f (node f d .base) j)) stmt ∙ ap (λ t. sure f (node f d .stmt) a && not t) (sym (entering-is f (node f d) (call .1) (call .2) k e)))
+        row-at m h x k a l false e = out a l ∙ act-row f (node f d .stmt) (f .arrays) m (masksAt ws n w d) x a (h a l) e
+
+  -- its arrays that are sure take the step of a reference, unless the edge enters a statement besides
+
+  pub prepared-again : (vs : List ℕ) → RowIs us vs w (backRow n w) (stepWhere (member us (callTouchedAt n + i)) Touched (maskAt us w (outRow n w))) → entersAgain f (node f d .base) i ≡ true
+      → Prepared f ws vs n w d (edgeRow n w)
   unfolding stepWhere
-  in-back a l = back .masks a l ∙ ap (λ (v : ℕ). stepWhere (member us (callTouchedAt n + i)) Touched (λ b. v) a) (acts f ws us n w d i stmt (outRow n w) act a l)
+  prepared-again vs touched e =
+      prepared-back vs (λ a. false) (keeps-widen (le-refl _) (row-first n w) (touched .keeps)) (touched .masks) (λ a l. sym (ap (λ t. sure f i a && not t) e ∙ and-no (sure f i a)))
 
-  pub prepared-back : Prepared f ws vs n w d (edgeRow n w)
-  prepared-back = record {
-    keeps = keeps-trans (act .keeps) (keeps-widen (omega arith) (row-first n w) (back .keeps));
-    rows = λ m h x e a l. at m h x a l (x .continues) refl;
-  }
+  pub prepared-sure : (vs qs : List ℕ) → RowIs us vs w (backRow n w) (stepWhere (member us (callTouchedAt n + i)) Touched (maskAt us w (outRow n w)))
+      → RowIs vs qs w (backRow n w) (stepWhere (member vs (sureAt n + i)) Reference (maskAt vs w (backRow n w))) → entersAgain f (node f d .base) i ≡ false → Prepared f ws qs n w d (edgeRow n w)
+  unfolding stepWhere member
+  prepared-sure vs qs touched stepped e =
+      prepared-back qs (member us (sureAt n + i)) (keeps-trans (keeps-widen (le-refl _) (row-first n w) (touched .keeps)) (keeps-widen (le-refl _) (row-first n w) (stepped .keeps)))
+      (λ a l. stepped .masks a l ∙ ap₂ (λ (t : Bool) (v : ℕ). cond t (stepOf Reference v) v) (same a l) (touched .masks a l))
+      (λ a l. word-member us (sureAt n + i) (sure f i) a (omega arith) sure-word ∙ sym (ap (λ t. sure f i a && not t) e ∙ and-true (sure f i a)))
     where
-      at : (m : ℕ → ℕ) → ((a : ℕ) → a < 64 * w → masksAt ws n w d a ≡ masksBelow (f .arrays) m a) → (x : Edge) (a : ℕ) → a < 64 * w → (c : Bool) → x .continues ≡ c
-          → maskAt vs w (edgeRow n w c) a ≡ masksBelow (f .arrays) (λ b. stepAll (edgeEffects f (node f d .stmt) x b) (m b)) a
-      at m h x a l true e =
-          in-back a l
-          ∙ back-row f us (node f d .stmt) (f .arrays) (callTouchedAt n + i) m (masksAt ws n w d) x a (omega arith) (h a l) e
-          (subst (λ (j : ℕ). MembersWord (getD us (callTouchedAt n + i) 0) (callTouches f j)) stmt touched)
-      at m h x a l false e = out a l ∙ act-row f (node f d .stmt) (f .arrays) m (masksAt ws n w d) x a (h a l) e
-
--- the arrays that such a call touches are noted
-pub call-touches : {f : Flow} {ws : List ℕ} {n i : ℕ} → transparentCall f i ≡ true → Linked f ws n → i < n → MembersWord (getD ws (callTouchedAt n + i) 0) (callTouches f i)
-call-touches {f} {ws} {n} {i} e l below =
-    let says = call-says f i e in
-    l .calls .touched i below (l .calls .call i (says .0) below (says .1) ∙ ap (λ (b : Bool). cond b opaque transparent) (says .2))
+      same : (a : ℕ) → a < 64 * w → member vs (sureAt n + i) a ≡ member us (sureAt n + i) a
+      same a l = ap (λ (y : ℕ). eqb y 1) (keeps-has (touched .keeps) (sureAt n + i) a (λ p q. let low = area.row-from n n in omega arith))
 
 -- where only the rows for edges are written, the solver's state is as it was
 module _ (ws us : List ℕ) (n w : ℕ) (k : Keeps (setRow n) (maskRowAt n w 0) ws us) where

@@ -348,8 +348,9 @@ fn send_call(
     requires { ⌜ (width ≡ setWords (h .arrays)) × Indexed (now file) h (now work) × Linked (flowOf (now file)) (now work) (h .statements) × (d .0 < 2 * h .statements) × RecordOf (now file) (i .0) place × (theory.at base (i .0) ≡ theory.node (flowOf (now file)) (d .0)) × (i .0 < h .statements) × (transparentCall (flowOf (now file)) (i .0) ≡ true) × Shared (flowOf (now file)) (now work) (h .statements) width × ((l : List ℕ) × Waits (now work) (h .statements) width first l) ⌝ }
     ensures { λ r. ⌜ Sends (flowOf (now (file .entry))) (now (work .entry)) (now (work .exit)) (h .statements) width first (d .0) r ⌝ }
 {
-    transfer::call_rows(file, h, work, width, d, i, place);
     let call = edges::call_of(file, work, h.statements, i, place);
+    let again = transfer::enters_again(work, base, call.row, call.continuation);
+    transfer::call_rows(file, h, work, width, d, i, place, again);
     push_call(file, h, work, width, first, base, i, place, call)
 }
 

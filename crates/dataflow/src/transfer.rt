@@ -2,11 +2,12 @@
 ghost use mathlib.Core.Path.{_≡_};
 ghost use mathlib.Core.Bool.{true, _&&_, cond};
 ghost use mathlib.Core.Logic.{_⊎_};
-ghost use Prim.Native.Nat.{ℕ, _+_, _*_, _<_, _≤_};
+ghost use Prim.Native.Nat.{ℕ, _+_, _*_, _/_, _<_, _≤_};
 ghost use lib.Dec.{eqb, ltb};
 ghost use lib.ListN.{length};
-ghost use Rattle.words.specs.contracts.Row.{bit};
+ghost use Rattle.words.specs.contracts.Row.{bit, has};
 ghost use Rattle.masks.specs.declared.Effect.the-variants.{Reference, Dim, Reset, Touched};
+ghost use Rattle.flow.specs.declared.Base.the-variants.{N};
 ghost use Rattle.flow.specs.Flow.{items};
 ghost use Rattle.flow.specs.Format.{flowOf};
 ghost use Rattle.flow.specs.Limits.{maxStatements, maxArrays};
@@ -15,14 +16,15 @@ ghost use Rattle.theory.specs.Lists as lists;
 ghost use Rattle.theory.specs.Body.{kind, references};
 ghost use Rattle.theory.specs.Doubled as doubled;
 ghost use Rattle.theory.specs.Doubled.{dims};
-ghost use Rattle.statements.specs.contracts.Layout.{callTouchedAt, setWords, maxWidth};
+ghost use Rattle.statements.specs.contracts.Layout.{solverAt, setWords, maxWidth};
 ghost use Rattle.statements.specs.contracts.Ready.{Indexed, RecordOf};
 ghost use Rattle.calls.specs.contracts.Held.{Linked};
 ghost use Rattle.calls.specs.contracts.Class.{transparentCall};
 ghost use Rattle.solve.specs.contracts.Layout.{outRow, backRow, maskRowAt, areaEnd};
 ghost use Rattle.solve.specs.contracts.Rows.{RowIs, maskAt, stepWhere, member};
-ghost use Rattle.dataflow.specs.contracts.Transfer.{SetIs, SetGains, RowSteps, RowsApart, Acted};
+ghost use Rattle.dataflow.specs.contracts.Transfer.{SetIs, SetGains, RowSteps, RowsApart, entersAgain, Acted};
 ghost use Rattle.dataflow.specs.contracts.Sent.{edgeRow, Prepared};
+use flow::Base;
 use flow::NodeId;
 use flow::StmtId;
 use masks::Effect;
@@ -193,23 +195,28 @@ pub fn plain_row(
     layout::mask_row(n, width, d)
 }
 
-// The masks on the edge to the continuation of the call i, which is not opaque: those of its other edges, with the touched step.
-fn transfer_back(work: &mut [u64], n: usize, width: usize, i: StmtId)
-    requires { ⌜ (n ≤ maxStatements) × (width ≤ maxWidth) × (areaEnd n width ≤ length (now work)) × (i .0 < n) ⌝ }
-    ensures { λ _. ⌜ RowIs (now (work .entry)) (now (work .exit)) width (backRow n width) (stepWhere (member (now (work .entry)) (callTouchedAt n + i .0)) Touched (maskAt (now (work .entry)) width (outRow n width))) ⌝ }
+// The row for the edge to the continuation of the call at hand, from the row at `from`, of which the arrays in the set at word `set` take the effect.
+fn step_back(work: &mut [u64], n: usize, width: usize, from: usize, set: usize, effect: Effect)
+    requires { ⌜ (n ≤ maxStatements) × (width ≤ maxWidth) × (areaEnd n width ≤ length (now work)) × (set + width ≤ solverAt n) × ((from ≡ outRow n width) ⊎ (from ≡ backRow n width)) ⌝ }
+    ensures { λ _. ⌜ RowIs (now (work .entry)) (now (work .exit)) width (backRow n width) (stepWhere (member (now (work .entry)) set) effect (maskAt (now (work .entry)) width from)) ⌝ }
 {
-    rows::step_members(
-        work,
-        width,
-        layout::back_row(n, width),
-        layout::out_row(n, width),
-        statements::layout::call_touched(n) + i.0,
-        Effect::Touched,
-    );
+    rows::step_members(work, width, layout::back_row(n, width), from, set, effect);
 }
 
-// The rows that go along the edges of d, whose statement i is a call that is not opaque. They are not the number's own, which the edge to the continuation
-// may change while others are still to be sent.
+// Whether the edge of a call to base + its continuation k is also one to a statement that it enters: so it is in base n where k is in the row of these.
+pub fn enters_again(work: &[u64], base: Base, row: usize, k: StmtId) -> bool
+    requires { ⌜ row + k .0 / 64 < length (now work) ⌝ }
+    ensures { λ r. ⌜ r ≡ (doubled.sameBase base N && eqb (has (now (work .entry)) row (k .0)) 1) ⌝ }
+{
+    match base {
+        Base::Zero => false,
+        Base::N => words::contains(work, row, k.0),
+    }
+}
+
+// The rows that go along the edges of d, whose statement i is a call that is not opaque: that of its act, and for the edge to the continuation
+// with the touched step and, unless that edge is also one to an entered statement, for sure arrays that of a reference. They are not the number's own, which the edge to the continuation may
+// change while others are still to be sent.
 pub fn call_rows(
     file: &[u8],
     h: flow::Header,
@@ -218,10 +225,20 @@ pub fn call_rows(
     d: NodeId,
     i: StmtId,
     p: usize,
+    again: bool,
 )
-    requires { ⌜ (width ≡ setWords (h .arrays)) × Indexed (now file) h (now work) × Linked (flowOf (now file)) (now work) (h .statements) × (d .0 < 2 * h .statements) × RecordOf (now file) (i .0) p × (i .0 ≡ doubled.node (flowOf (now file)) (d .0) .stmt) × (i .0 < h .statements) × (transparentCall (flowOf (now file)) (i .0) ≡ true) ⌝ }
+    requires { ⌜ (width ≡ setWords (h .arrays)) × Indexed (now file) h (now work) × Linked (flowOf (now file)) (now work) (h .statements) × (d .0 < 2 * h .statements) × RecordOf (now file) (i .0) p × (i .0 ≡ doubled.node (flowOf (now file)) (d .0) .stmt) × (i .0 < h .statements) × (transparentCall (flowOf (now file)) (i .0) ≡ true) × (again ≡ entersAgain (flowOf (now file)) (doubled.node (flowOf (now file)) (d .0) .base) (i .0)) ⌝ }
     ensures { λ _. ⌜ Prepared (flowOf (now (file .entry))) (now (work .entry)) (now (work .exit)) (h .statements) width (d .0) (edgeRow (h .statements) width) ⌝ }
 {
+    let n = h.statements;
     transfer(file, h, work, width, d, i, p);
-    transfer_back(work, h.statements, width, i);
+    let out = layout::out_row(n, width);
+    let touched = statements::layout::call_touched(n) + i.0;
+    step_back(work, n, width, out, touched, Effect::Touched);
+    if again {
+        return;
+    }
+    let back = layout::back_row(n, width);
+    let sure = statements::layout::sure(n) + i.0;
+    step_back(work, n, width, back, sure, Effect::Reference);
 }

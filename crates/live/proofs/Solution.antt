@@ -18,7 +18,7 @@ use Rattle.statements.proofs.WellFormed.{well-formed, names-is}
 use Rattle.statements.proofs.Keeps.{ready-size}
 use Rattle.statements.proofs.Names.{member-bit, bit-member, word-below, successor-in, written-word}
 use Rattle.solve.specs.contracts.Sets.{Comes}
-use Rattle.solve.proofs.Sets.{complete}
+use Rattle.solve.proofs.Sets.{takes-all, complete}
 use Rattle.live.specs.contracts.Solving.{backward, HandedOn, Solving}
 use Rattle.live.proofs.Bits.{transfer-has}
 use Rattle.live.proofs.Walks.{in-leaves, out-comes, in-name, out-name}
@@ -29,7 +29,7 @@ module _ {s ws ins outs : List ℕ} {n : ℕ} (r : Ready s ws n) (h : Solving (f
   done j l = ⊎-elim (λ m. absurd (List·Memᴰ·not-nil m)) (λ t. t) (h .handed-on j l)
 
   all : {x i : ℕ} → i < n → Comes (backward (flowOf s)) x i → bit (getD outs i 0) x ≡ 1
-  all {x} l c = complete (lawful r h (suc x)) (λ k b m. List·Memᴰ·not-nil m) (successor-in r) l (omega arith) c
+  all {x} l c = complete takes-all (lawful r h (suc x)) (λ k b m. List·Memᴰ·not-nil m) (successor-in r) l (omega arith) c
 
   in-complete : {x i : ℕ} → i < n → LiveIn (flowOf s) x i → bit (getD ins i 0) x ≡ 1
   in-complete {x} {i} l e =

@@ -23,7 +23,7 @@ use Rattle.statements.specs.contracts.Ready.{Ready}
 use Rattle.statements.proofs.Names.{written-word}
 use Rattle.solve.specs.declared.Queue.{Queue}
 use Rattle.solve.specs.contracts.Sets as law
-use Rattle.solve.proofs.Sets.{handled}
+use Rattle.solve.proofs.Sets.{takes-all, handled}
 use Rattle.live.specs.contracts.Predecessors.{Predecessors}
 use Rattle.live.specs.contracts.Spread.{sets, Follows, PushedLive}
 use Rattle.live.specs.contracts.Solving.{backward, transfer, Sound, HandedOn, Solving}
@@ -83,7 +83,7 @@ module _ {s ws vs us ins outs outs′ w v : List ℕ} {n j live : ℕ} {q p : Qu
   }
 
   after : (elements : ℕ) → law.Solving (backward (flowOf s)) n elements (sets outs′) (λ k. In k v)
-  after elements = handled (lawful r h elements) small (joins elements) (follows elements)
+  after elements = handled takes-all (lawful r h elements) small (joins elements) (follows elements)
 
   out-sound : (i x : ℕ) → i < n → bit (getD outs′ i 0) x ≡ 1 → LiveOut (flowOf s) x i
   out-sound i x l e = comes-out (after (suc x) .sound i x l (omega arith) e)

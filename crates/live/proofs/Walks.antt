@@ -15,12 +15,12 @@ use Rattle.theory.specs.Live.{reads, writes, LiveIn, LiveOut}
 use Rattle.statements.specs.contracts.Ready.{Ready}
 use Rattle.statements.proofs.Names.{word-below, read-name}
 use Rattle.solve.specs.contracts.Sets.{Comes}
-use Rattle.solve.proofs.Sets.{comes-on}
+use Rattle.solve.proofs.Sets.{takes-all, comes-on}
 use Rattle.live.specs.contracts.Solving.{backward}
 
 pub in-leaves : {f : Flow} {x j : ℕ} → LiveIn f x j → (reads f j x ≡ true) ⊎ ((writes f j x ≡ false) × Comes (backward f) x j)
 in-leaves (LiveIn.now e) = inl e
-in-leaves (LiveIn.later u m h) = inr (u, comes-on m (in-leaves h))
+in-leaves (LiveIn.later u m h) = inr (u, comes-on takes-all m (in-leaves h))
 
 pub leaves-in : {f : Flow} {x j : ℕ} → (reads f j x ≡ true) ⊎ ((writes f j x ≡ false) × Comes (backward f) x j) → LiveIn f x j
 leaves-in (inl e) = LiveIn.now e
@@ -28,16 +28,16 @@ leaves-in (inr t) = on (t .0) (t .1)
   where
     on : {f : Flow} {x j : ℕ} → writes f j x ≡ false → Comes (backward f) x j → LiveIn f x j
     on u (Comes.start e) = absurd e
-    on u (Comes.given m e) = LiveIn.later u m (LiveIn.now e)
-    on u (Comes.through m v c) = LiveIn.later u m (on v c)
+    on u (Comes.given m t q e) = LiveIn.later u m (LiveIn.now e)
+    on u (Comes.through m t q v c) = LiveIn.later u m (on v c)
 
 pub out-comes : {f : Flow} {x i : ℕ} → LiveOut f x i → Comes (backward f) x i
-out-comes (LiveOut.at-successor m h) = comes-on m (in-leaves h)
+out-comes (LiveOut.at-successor m h) = comes-on takes-all m (in-leaves h)
 
 pub comes-out : {f : Flow} {x i : ℕ} → Comes (backward f) x i → LiveOut f x i
 comes-out (Comes.start e) = absurd e
-comes-out (Comes.given m e) = LiveOut.at-successor m (leaves-in (inl e))
-comes-out (Comes.through m u c) = LiveOut.at-successor m (leaves-in (inr (u, c)))
+comes-out (Comes.given m t q e) = LiveOut.at-successor m (leaves-in (inl e))
+comes-out (Comes.through m t q u c) = LiveOut.at-successor m (leaves-in (inr (u, c)))
 
 -- of a checked file
 module _ {s ws : List ℕ} {n : ℕ} (r : Ready s ws n) where

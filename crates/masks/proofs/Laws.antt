@@ -1,5 +1,5 @@
--- The laws of `stepOf` on the masks 0 to 7: it keeps them, preserves union, is monotone and idempotent, and is the union of its steps on single states.
--- Each is a test that antt computes at every effect and every mask; that it is idempotent, and what a union holds, is shown of any number. Assumes nothing.
+-- The laws of `stepOf` on the masks 0 to 7: it keeps them, preserves union, is monotone and idempotent, makes the touched step needless before a reference, and is the union of its steps on single states.
+-- Each is a test that antt computes at every effect and every mask; that it is idempotent, the step before a reference, and what a union holds, is shown of any number. Assumes nothing.
 use mathlib.Core.Path.{_≡_, refl, sym, ap, subst, _∙_}
 use mathlib.Core.Logic.{_⊎_, inl, inr}
 use mathlib.Core.Bool.{Bool, true, false, _&&_, _||_, cond}
@@ -63,6 +63,22 @@ step-idem Touched m = at (eqb (m % 2) 1) refl
         let odd : eqb (bitOr m 2 % 2) 1 ≡ true = eq-eqb (bitOr m 2 % 2) 1 (omega (arith, or-auto m, eqb-true (m % 2) 1 e)) in
         ap (λ b. cond b (bitOr (bitOr m 2) 2) (bitOr m 2)) odd ∙ omega (arith, or-auto m, or-auto (bitOr m 2))
     at false e = ap (λ b. cond b (bitOr m 2) m) e
+
+-- a reference after the touched step is a reference, on any byte
+pub touched-reference : (m : ℕ) → stepOf Reference (stepOf Touched m) ≡ stepOf Reference m
+touched-reference m = at (eqb (m % 2) 1) refl
+  where
+    again : (q : ℕ) → bitOr (q * 4 + 2) 2 ≡ q * 4 + 2
+    again q = or-auto (q * 4 + 2) ∙ omega arith
+
+    at : (b : Bool) → eqb (m % 2) 1 ≡ b → stepOf Reference (cond b (bitOr m 2) m) ≡ cond b (bitOr (m - 1) 2) m
+    at true e =
+        let one : m % 2 ≡ 1 = eqb-true (m % 2) 1 e in
+        let odd : eqb (bitOr m 2 % 2) 1 ≡ true = eq-eqb (bitOr m 2 % 2) 1 (omega (arith, or-auto m)) in
+        let rest : bitOr m 2 - 1 ≡ m / 4 * 4 + 2 = omega (arith, or-auto m) in
+        let less : bitOr (m - 1) 2 ≡ m / 4 * 4 + 2 = or-auto (m - 1) ∙ omega arith in
+        ap (λ b. cond b (bitOr (bitOr m 2 - 1) 2) (bitOr m 2)) odd ∙ ap (λ x. bitOr x 2) rest ∙ again (m / 4) ∙ sym less
+    at false e = ap (λ b. cond b (bitOr (m - 1) 2) m) e
 
 -- a stepped mask that was not empty holds exactly what its states turn into
 pub step-holds : (e : Effect) (m : ℕ) (t : State) → m < 8 → 0 < m → holds (stepOf e m) t ≡ brought e m t

@@ -1,11 +1,12 @@
--- A row of masks steps word by word: the words of the three sets that are written, and after k words the masks of the arrays in them. The set and the row that
--- is stepped lie elsewhere, so they are read as they were at first.
+-- A row of masks steps word by word: the words of the three sets that are written, and after k words the masks of the arrays in them. The set lies elsewhere, and the row that is stepped
+-- lies elsewhere or is the same one: a word of it is read before it is written, so that each is read as it was at first.
 use Prim.Native.Nat.{ℕ, _+_, _*_, _/_, _%_, _≤_, _<_, zero-le}
 use mathlib.Core.Bool.{Bool, true, false, cond}
 use mathlib.Core.List.{List}
-use mathlib.Core.Logic.{_⊎_, ⊎-elim, _≢_}
+use mathlib.Core.Logic.{_⊎_, inl, inr, _≢_}
 use mathlib.Core.Path.{_≡_, refl, sym, ap, ap₂, subst, _∙_}
 use native.Mathlib.Decide.{decLt}
+use native.Mathlib.Nat.{add-zero, le-refl}
 use native.Mathlib.Omega.{arith}
 use lib.Dec.{eqb}
 use lib.ListN.{length, getD, set, length-set}
@@ -19,8 +20,8 @@ use Rattle.masks.proofs.Laws.{step-lt}
 use Rattle.words.specs.contracts.Change.{Chosen}
 use Rattle.words.proofs.Bit.{bit-lt}
 use Rattle.statements.specs.contracts.Ready.{Keeps}
-use Rattle.statements.proofs.Keeps.{keeps-refl, keeps-trans, keeps-word, keeps-set}
-use Rattle.solve.specs.contracts.Rows.{maskAt, RowIs, stepWhere, member, wordsSet, WordStepped}
+use Rattle.statements.proofs.Keeps.{keeps-refl, keeps-trans, keeps-set}
+use Rattle.solve.specs.contracts.Rows.{maskAt, RowIs, Beside, stepWhere, member, wordsSet, WordStepped}
 use Rattle.solve.proofs.Masks.{mask-words}
 
 module _ (ws : List ℕ) (w row k x y z : ℕ) (l : k < w) where
@@ -74,22 +75,55 @@ word-masks {e} {chosen} {none} {auto} {dimmed} {rn = rn} {ra = ra} {rd = rd} hn 
     at true = sets.mask-of-bits _ (step-lt e _ (sets.mask-lt _ _ _ (bit-lt none j) (bit-lt auto j) (bit-lt dimmed j)))
     at false = refl
 
+-- the place of one of the three sets in a row
+abbrev Third : ℕ → ℕ → Type 0
+Third w b = (b ≡ 0) ⊎ ((b ≡ w) ⊎ (b ≡ 2 * w))
+
+third-le : {w b : ℕ} → Third w b → b ≤ 2 * w
+third-le (inl e) = omega arith
+third-le (inr (inl e)) = omega arith
+third-le (inr (inr e)) = omega arith
+
+-- of one row, word q of a set is not word k of a set
+third-apart : {w k q b d : ℕ} → k < q → q < w → Third w b → Third w d → b + q ≢ d + k
+third-apart l m (inl p) (inl r) e = omega arith
+third-apart l m (inl p) (inr (inl r)) e = omega arith
+third-apart l m (inl p) (inr (inr r)) e = omega arith
+third-apart l m (inr (inl p)) (inl r) e = omega arith
+third-apart l m (inr (inl p)) (inr (inl r)) e = omega arith
+third-apart l m (inr (inl p)) (inr (inr r)) e = omega arith
+third-apart l m (inr (inr p)) (inl r) e = omega arith
+third-apart l m (inr (inr p)) (inr (inl r)) e = omega arith
+third-apart l m (inr (inr p)) (inr (inr r)) e = omega arith
+
+unwritten : {w to from k q b d : ℕ} → Beside w to from → k < q → q < w → Third w b → Third w d → from + b + q ≢ to + d + k
+unwritten (inl (inl s)) l m p r e = omega (arith, third-le p, third-le r)
+unwritten (inl (inr s)) l m p r e = omega (arith, third-le p, third-le r)
+unwritten (inr s) l m p r e = third-apart l m p r (omega arith)
+
 -- how far the row has stepped
 pub record Stepping (ws₀ : List ℕ) (w to from set : ℕ) (e : Effect) (ws : List ℕ) (k : ℕ) : Type 0 where
   pub some : k ≤ w
   pub keeps : Keeps to (to + 3 * w) ws₀ ws
   pub masks : (a : ℕ) → a < 64 * k → maskAt ws w to a ≡ stepWhere (member ws₀ set) e (maskAt ws₀ w from) a
+  pub unread : (b q : ℕ) → Third w b → k ≤ q → q < w → getD ws (from + b + q) 0 ≡ getD ws₀ (from + b + q) 0
 
 pub stepping-none : {ws : List ℕ} {w to from set : ℕ} {e : Effect} → Stepping ws w to from set e ws 0
-stepping-none = record { some = zero-le; keeps = keeps-refl; masks = λ a l. absurd (omega arith) }
+stepping-none = record { some = zero-le; keeps = keeps-refl; masks = λ a l. absurd (omega arith); unread = λ b q p l m. refl }
 
 pub stepping-more : {ws₀ ws vs : List ℕ} {w to from set k : ℕ} {e : Effect} → Stepping ws₀ w to from set e ws k → k < w → set + w ≤ to → to + 3 * w ≤ length ws₀
-    → (to + 3 * w ≤ from) ⊎ (from + 3 * w ≤ to) → WordStepped ws vs w to from k (getD ws (set + k) 0) e → Stepping ws₀ w to from set e vs (k + 1)
+    → Beside w to from → WordStepped ws vs w to from k (getD ws (set + k) 0) e → Stepping ws₀ w to from set e vs (k + 1)
 unfolding maskAt stepWhere member has
 stepping-more {ws₀} {ws} {vs} {w} {to} {from} {set} {k} {e} s l below fits apart x = record {
   some = omega arith;
   keeps = keeps-trans (s .keeps) (subst (Keeps to (to + 3 * w) ws) (sym (x .slice)) (words-keeps ws w to k (x .none) (x .auto) (x .dimmed) l));
   masks = λ a m. at a m (decLt a (64 * k));
+  unread = λ b q p m n.
+      written _ _ (words-else ws w to k (x .none) (x .auto) (x .dimmed) l (from + b + q)
+      (λ y. unwritten apart (omega arith) n p (inl refl) (y ∙ ap (λ z. z + k) (sym (add-zero to))))
+      (unwritten apart (omega arith) n p (inr (inl refl)))
+      (unwritten apart (omega arith) n p (inr (inr refl))))
+      ∙ s .unread b q p (omega arith) n;
 }
   where
     room : to + 3 * w ≤ length ws
@@ -97,10 +131,6 @@ stepping-more {ws₀} {ws} {vs} {w} {to} {from} {set} {k} {e} s l below fits apa
 
     written : (p v : ℕ) → getD (wordsSet ws w to k (x .none) (x .auto) (x .dimmed)) p 0 ≡ v → getD vs p 0 ≡ v
     written p v h = ap (λ (us : List ℕ). getD us p 0) (x .slice) ∙ h
-
-    -- word k of a set of the row that is read
-    read : (b : ℕ) → b + w ≤ 3 * w → getD ws (from + b + k) 0 ≡ getD ws₀ (from + b + k) 0
-    read b h = keeps-word (s .keeps) (from + b + k) (λ p q. ⊎-elim (λ d. omega arith) (λ d. omega arith) apart)
 
     chosen : getD ws (set + k) 0 ≡ getD ws₀ (set + k) 0
     chosen = s .keeps .below (set + k) (omega arith)
@@ -118,9 +148,9 @@ stepping-more {ws₀} {ws} {vs} {w} {to} {from} {set} {k} {e} s l below fits apa
         let second : getD vs (to + w + a / 64) 0 ≡ x .auto = ap (λ (q : ℕ). getD vs (to + w + q) 0) word ∙ written _ _ (words-second ws w to k (x .none) (x .auto) (x .dimmed) l room) in
         let third : getD vs (to + 2 * w + a / 64) 0 ≡ x .dimmed = ap (λ (q : ℕ). getD vs (to + 2 * w + q) 0) word ∙ written _ _ (words-third ws w to k (x .none) (x .auto) (x .dimmed) l room) in
         let none : getD ws (from + k) 0 ≡ getD ws₀ (from + a / 64) 0 =
-        keeps-word (s .keeps) (from + k) (λ p q. ⊎-elim (λ d. omega arith) (λ d. omega arith) apart) ∙ ap (λ (q : ℕ). getD ws₀ (from + q) 0) (sym word) in
-        let auto : getD ws (from + w + k) 0 ≡ getD ws₀ (from + w + a / 64) 0 = read w (omega arith) ∙ ap (λ (q : ℕ). getD ws₀ (from + w + q) 0) (sym word) in
-        let dimmed : getD ws (from + 2 * w + k) 0 ≡ getD ws₀ (from + 2 * w + a / 64) 0 = read (2 * w) (omega arith) ∙ ap (λ (q : ℕ). getD ws₀ (from + 2 * w + q) 0) (sym word) in
+        sym (ap (λ (q : ℕ). getD ws (q + k) 0) (add-zero from)) ∙ s .unread 0 k (inl refl) (le-refl k) l ∙ ap (λ (q : ℕ). getD ws₀ (q + k) 0) (add-zero from) ∙ ap (λ (q : ℕ). getD ws₀ (from + q) 0) (sym word) in
+        let auto : getD ws (from + w + k) 0 ≡ getD ws₀ (from + w + a / 64) 0 = s .unread w k (inr (inl refl)) (le-refl k) l ∙ ap (λ (q : ℕ). getD ws₀ (from + w + q) 0) (sym word) in
+        let dimmed : getD ws (from + 2 * w + k) 0 ≡ getD ws₀ (from + 2 * w + a / 64) 0 = s .unread (2 * w) k (inr (inr refl)) (le-refl k) l ∙ ap (λ (q : ℕ). getD ws₀ (from + 2 * w + q) 0) (sym word) in
         let which : getD ws (set + k) 0 ≡ getD ws₀ (set + a / 64) 0 = chosen ∙ ap (λ (q : ℕ). getD ws₀ (set + q) 0) (sym word) in
         let same : maskOf (bit (getD vs (to + a / 64) 0) j) (bit (getD vs (to + w + a / 64) 0) j) (bit (getD vs (to + 2 * w + a / 64) 0) j) ≡ maskOf (bit (x .none) j) (bit (x .auto) j) (bit (x .dimmed) j) =
         omega (arith, ap (λ (v : ℕ). bit v j) first, ap (λ (v : ℕ). bit v j) second, ap (λ (v : ℕ). bit v j) third) in

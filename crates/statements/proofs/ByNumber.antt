@@ -22,6 +22,7 @@ use Rattle.records.proofs.Values.{in-range}
 use Rattle.records.proofs.Statements.{Says, says}
 use Rattle.records.proofs.Tabulated.{length-tabulate, getD-tabulate}
 use Rattle.theory.specs.Body.{isReturn, counts, wipes}
+use Rattle.theory.specs.Sure.{isGosub}
 use Rattle.theory.specs.Doubled.{resets}
 use Rattle.statements.specs.contracts.Ready.{Ready, Elements, RecordOf, actsIn}
 
@@ -37,16 +38,17 @@ elements n f e = record {
 record Tests (k : ℕ) (x : Kind) : Type 0 where
   return : eqb k 1 ≡ isReturn x
   resets : (eqb k 2 || eqb k 3) ≡ resets x
+  gosub : eqb k 5 ≡ isGosub x
 
 module _ (is : List Item) (l : ℕ) (c : Option ℕ) (ls : List ℕ) (c′ : Option ℕ) where
   tests : (k : ℕ) → k ≤ maxKind → Tests k (byData k (Kind.dim is) (Kind.gosub l c) (Kind.onGosub ls c′) (plainKind k))
-  tests zero h = record { return = refl; resets = refl }
-  tests (suc zero) h = record { return = refl; resets = refl }
-  tests (suc (suc zero)) h = record { return = refl; resets = refl }
-  tests (suc (suc (suc zero))) h = record { return = refl; resets = refl }
-  tests (suc (suc (suc (suc zero)))) h = record { return = refl; resets = refl }
-  tests (suc (suc (suc (suc (suc zero))))) h = record { return = refl; resets = refl }
-  tests (suc (suc (suc (suc (suc (suc zero)))))) h = record { return = refl; resets = refl }
+  tests zero h = record { return = refl; resets = refl; gosub = refl }
+  tests (suc zero) h = record { return = refl; resets = refl; gosub = refl }
+  tests (suc (suc zero)) h = record { return = refl; resets = refl; gosub = refl }
+  tests (suc (suc (suc zero))) h = record { return = refl; resets = refl; gosub = refl }
+  tests (suc (suc (suc (suc zero)))) h = record { return = refl; resets = refl; gosub = refl }
+  tests (suc (suc (suc (suc (suc zero))))) h = record { return = refl; resets = refl; gosub = refl }
+  tests (suc (suc (suc (suc (suc (suc zero)))))) h = record { return = refl; resets = refl; gosub = refl }
   tests (suc (suc (suc (suc (suc (suc (suc k))))))) h = absurd (omega arith)
 
 kind-tests : (s : List ℕ) (p : ℕ) → kindAt s p ≤ maxKind → Tests (kindAt s p) (kindOf s p)
@@ -75,6 +77,7 @@ record-said {s} {i} {p} e h t =
       fit = h;
       return = number .return ∙ ap isReturn (sym (t .kind));
       resets = number .resets ∙ ap resets (sym (t .kind));
+      gosub = number .gosub ∙ ap isGosub (sym (t .kind));
       successors = elements (successorCount s p) (successorAt s p) (t .successors);
       references = elements (referenceCount s p) (referenceAt s p) (t .references);
       written = t .written;

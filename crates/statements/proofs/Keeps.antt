@@ -3,12 +3,13 @@
 use Prim.Native.Nat.{ℕ, _+_, _/_, _≤_, _<_}
 use native.Mathlib.Omega.{arith}
 use native.Mathlib.Decide.{decLt}
+use mathlib.Core.Bool.{Bool}
 use mathlib.Core.List.{List}
 use mathlib.Core.Path.{_≡_, refl, sym, _∙_, subst}
 use lib.ListN.{length, getD, set, length-set}
 use lib.Seq.{getD-set-other}
 use Rattle.words.specs.contracts.Row.{has}
-use Rattle.words.specs.contracts.Change.{joined, inserted, removed, rewritten, unioned, zeroed}
+use Rattle.words.specs.contracts.Change.{joined, PairJoined, inserted, removed, rewritten, unioned, zeroed}
 use Rattle.words.proofs.Row.{has-cong}
 use Rattle.words.proofs.Rewritten.{length-rewritten, rewritten-other}
 use Rattle.flow.specs.declared.Header.{Header}
@@ -19,7 +20,7 @@ use Rattle.records.specs.contracts.Fields.{LinePart, LineParts}
 use Rattle.records.proofs.Files.{limited}
 use Rattle.records.proofs.Statements.{size-is}
 use Rattle.theory.specs.contracts.WellFormed.{WellFormed}
-use Rattle.statements.specs.contracts.Layout.{linesAt, callsAt, solverAt}
+use Rattle.statements.specs.contracts.Layout.{linesAt, sureAt, solverAt}
 use Rattle.statements.specs.contracts.Ready.{Ready, Indexed, Keeps}
 use Rattle.statements.proofs.WorkArea.{area-fits}
 use Rattle.statements.proofs.WellFormed.{well-formed}
@@ -91,6 +92,10 @@ module _ (ws : List ℕ) {lo hi : ℕ} where
   unfolding zeroed
   keeps-zeroed base width l h = keeps-rewritten _ base width l h
 
+pub keeps-pair : {ws vs : List ℕ} {lo hi x a b : ℕ} {r : Bool} → PairJoined ws vs x a b r → lo ≤ x → x + 1 < hi → Keeps lo hi ws vs
+keeps-pair {ws} {vs} {lo} {hi} {x} {a} {b} p l h =
+    subst (Keeps lo hi ws) (sym (p .slice)) (keeps-trans (keeps-joined ws x a l (omega arith)) (keeps-joined (joined ws x a) (x + 1) b (omega arith) h))
+
 -- a phase that writes above the noted places keeps them
 pub ready-keeps : {s ws vs : List ℕ} {n lo hi : ℕ} → Ready s ws n → Keeps lo hi ws vs → n ≤ lo → Ready s vs n
 ready-keeps r k l = record {
@@ -100,10 +105,10 @@ ready-keeps r k l = record {
   offsets = λ i m. k .below _ (omega arith) ∙ r .offsets i m;
 }
 
-pub parts-keep : {s ws vs : List ℕ} {n r lo hi : ℕ} → LineParts s ws (linesAt n) n r → Keeps lo hi ws vs → callsAt n ≤ lo → LineParts s vs (linesAt n) n r
+pub parts-keep : {s ws vs : List ℕ} {n r lo hi : ℕ} → LineParts s ws (linesAt n) n r → Keeps lo hi ws vs → sureAt n ≤ lo → LineParts s vs (linesAt n) n r
 parts-keep {s} {n = n} {r} p k l i m = subst (λ (w : ℕ). LinePart s n r i w) (sym (k .below _ (omega arith))) (p i m)
 
-pub indexed-keeps : {s ws vs : List ℕ} {h : Header} {lo hi : ℕ} → Indexed s h ws → Keeps lo hi ws vs → callsAt (h .statements) ≤ lo → Indexed s h vs
+pub indexed-keeps : {s ws vs : List ℕ} {h : Header} {lo hi : ℕ} → Indexed s h ws → Keeps lo hi ws vs → sureAt (h .statements) ≤ lo → Indexed s h vs
 indexed-keeps r k l = record { ready = ready-keeps (r .ready) k (omega arith); lines = parts-keep (r .lines) k l; header = r .header }
 
 -- a fit file has few enough statements for the layout, and the parts below the solver's lie within the area, with a set of doubled numbers

@@ -7,3 +7,4 @@ pub mod Names
 pub mod Members
 pub mod Copies
 pub mod Noted
+pub mod Told

@@ -1,5 +1,5 @@
--- Sets of names as words: a member is a bit, a union has what either has, and a word whose bits end at k is below 2 ^ k. Of a fit file: its sets of names are words, and successors
--- are statements. By the laws of bits and the checks that the file passed.
+-- Sets of names as words: a member is a bit, a union has what either has, and a word whose bits end at k is below 2 ^ k. Of a fit file: its sets of names are words, successors
+-- are statements, and no statement writes or refers to a number from 64 on. By the laws of bits and the checks that the file passed.
 use Prim.Native.Nat.{ℕ, _-_, _/_, _%_, _^_, _<_, _≤_, min}
 use mathlib.Core.Bool.{true, false}
 use mathlib.Core.List.{List}
@@ -18,13 +18,13 @@ use Rattle.words.proofs.Bit.{bit-lt, bit-or, bit-without, bit-mod, bit-high, bi
 use Rattle.flow.specs.Flow.{Flow, statement}
 use Rattle.flow.specs.Format.{flowOf, namesOf}
 use Rattle.records.proofs.Files.{limited}
-use Rattle.theory.specs.Lists.{In}
-use Rattle.theory.specs.Body.{successors}
+use Rattle.theory.specs.Lists.{In, elem}
+use Rattle.theory.specs.Body.{successors, references}
 use Rattle.theory.specs.Live.{member, reads, writes}
-use Rattle.theory.proofs.Lists.{getD-In}
+use Rattle.theory.proofs.Lists.{not-so, elem-In, getD-In}
 use Rattle.statements.specs.contracts.Ready.{Ready}
 use Rattle.statements.proofs.Keeps.{ready-formed, ready-below}
-use Rattle.statements.proofs.WellFormed.{statement-in}
+use Rattle.statements.proofs.WellFormed.{arrays-is, statement-in}
 
 -- a member is a bit
 pub member-bit : (w x : ℕ) → member w x ≡ true → bit w x ≡ 1
@@ -118,3 +118,9 @@ module _ {s ws : List ℕ} {n : ℕ} (r : Ready s ws n) where
   -- a number from 64 on is no name
   pub no-name : (i x : ℕ) → 64 ≤ x → writes (flowOf s) i x ≡ false
   no-name i x l = no-member (statement (flowOf s) i .written) x (bit-high x (written-word i) l)
+
+  -- nor an array
+  pub no-array : (i x : ℕ) → 64 ≤ x → elem x (references (flowOf s) i) ≡ false
+  no-array i x l =
+      not-so (elem x (references (flowOf s) i))
+      (λ e. let small = ready-formed r .reference i x (elem-In x (references (flowOf s) i) e) in omega (arith, arrays-is s, limited (r .fit) .arrays))

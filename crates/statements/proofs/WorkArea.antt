@@ -48,12 +48,12 @@ rows-apart n {i} {j} l = omega (arith, mul-suc (rowWords n) i, mul-le-mul-left (
 pub row-fits : (n : ℕ) {i : ℕ} → i < n → rowAt n i + rowWords n ≤ listsAt n
 row-fits n l = rows-apart n l
 
-pub row-below : {n i : ℕ} → n ≤ maxStatements → i ≤ n → rowAt n i ≤ 38 * n
+pub row-below : {n i : ℕ} → n ≤ maxStatements → i ≤ n → rowAt n i ≤ 39 * n
 unfolding rowsEnd
 row-below {n} {i} h l =
     omega (arith, mul-le-mul-right i (row-words-most h), mul-le-mul-left 32 l)
 
-pub one-word : {n : ℕ} → n < 8 → rowAt n n ≤ 7 * n
+pub one-word : {n : ℕ} → n < 8 → rowAt n n ≤ 8 * n
 unfolding rowsEnd rowWords
 one-word {n} l = let one : (n + 63) / 64 ≤ 1 = omega arith in omega (arith, mul-le-mul-right n one)
 

@@ -9,9 +9,11 @@ ghost use Rattle.theory.specs.Body as body;
 ghost use Rattle.theory.specs.Body.{kind, successors, references, callLines, continuationOf, isReturn};
 ghost use Rattle.theory.specs.Doubled as doubled;
 ghost use Rattle.theory.specs.Lists as lists;
+ghost use Rattle.theory.specs.Sure.{isGosub};
 ghost use Rattle.statements.specs.contracts.Ready.{Ready, Indexed, RecordOf, MembersWord, actsIn, noItem};
 use crate::layout;
 use flow::KIND_CLR;
+use flow::KIND_GOSUB;
 use flow::KIND_RETURN;
 use flow::KIND_RUN;
 use flow::StmtId;
@@ -48,6 +50,14 @@ pub fn resets(file: &[u8], i: StmtId, p: usize) -> bool
 {
     let kind = records::kind(file, p);
     kind == KIND_CLR || kind == KIND_RUN
+}
+
+// A plain GOSUB. The record of statement i is at p.
+pub fn is_gosub(file: &[u8], i: StmtId, p: usize) -> bool
+    requires { ⌜ RecordOf (now file) (i .0) p ⌝ }
+    ensures { λ r. ⌜ r ≡ isGosub (kind (flowOf (now (file .entry))) (i .0)) ⌝ }
+{
+    records::kind(file, p) == KIND_GOSUB
 }
 
 // CLR, RUN and a DIM that counts.

@@ -16,12 +16,20 @@ pub fn lines(n: usize) -> usize
     n
 }
 
+// The arrays that are sure for each call.
+pub fn sure(n: usize) -> usize
+    requires { ⌜ n ≤ maxStatements ⌝ }
+    ensures { λ r. ⌜ r ≡ at.sureAt n ⌝ }
+{
+    2 * n
+}
+
 // The state of each call with a continuation: transparent or opaque.
 pub fn calls(n: usize) -> usize
     requires { ⌜ n ≤ maxStatements ⌝ }
     ensures { λ r. ⌜ r ≡ at.callsAt n ⌝ }
 {
-    2 * n
+    3 * n
 }
 
 // The arrays that each such call touches.
@@ -29,7 +37,7 @@ pub fn call_touched(n: usize) -> usize
     requires { ⌜ n ≤ maxStatements ⌝ }
     ensures { λ r. ⌜ r ≡ at.callTouchedAt n ⌝ }
 {
-    3 * n
+    4 * n
 }
 
 // The state of each body: unentered, open, transparent or opaque.
@@ -37,7 +45,7 @@ pub fn bodies(n: usize) -> usize
     requires { ⌜ n ≤ maxStatements ⌝ }
     ensures { λ r. ⌜ r ≡ at.bodiesAt n ⌝ }
 {
-    4 * n
+    5 * n
 }
 
 // The arrays that each body touches.
@@ -45,7 +53,7 @@ pub fn touched(n: usize) -> usize
     requires { ⌜ n ≤ maxStatements ⌝ }
     ensures { λ r. ⌜ r ≡ at.touchedAt n ⌝ }
 {
-    5 * n
+    6 * n
 }
 
 // Words of a row of statements.
@@ -61,7 +69,7 @@ pub fn matrix(n: usize) -> usize
     requires { ⌜ n ≤ maxStatements ⌝ }
     ensures { λ r. ⌜ r ≡ at.matrixAt n ⌝ }
 {
-    6 * n
+    7 * n
 }
 
 // Where the first k rows of the matrix end.

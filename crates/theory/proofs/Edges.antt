@@ -17,7 +17,7 @@ use Rattle.flow.specs.Flow.{Flow, Kind, size, statement, noStatement}
 use Rattle.theory.specs.Lists.{In, any, elem, select, upTo}
 use Rattle.theory.specs.Body.{kind, successors, continuationOf, entered, callees, isReturn, walked, opaqueCall}
 use Rattle.theory.specs.contracts.WellFormed.{WellFormed}
-use Rattle.theory.specs.Doubled.{Node, Edge, at, plain, sameBase, sameNode, returnsTo, returnEdges, once, callEdges, listedEdges, edgesOf, edges}
+use Rattle.theory.specs.Doubled.{Node, Edge, at, plain, sameBase, sameNode, returnsTo, returnEdges, once, callEdges, listedEdges, edgesOf, edges, entering}
 use Rattle.theory.proofs.Lists.{any-In, In-elem, select-In, In-select, upTo-In, In-upTo}
 use Rattle.theory.proofs.Body.{entered-below}
 
@@ -111,13 +111,18 @@ module _ (f : Flow) (b : Base) (i : ℕ) where
     unfolding callEdges
     continuation-edge = from-call (once-in (at b k) (Memᴰ·append-right (map (at N) (entered f i)) (List·Memᴰ·head refl)))
 
-    -- each edge to base + continuation carries the touched step, the one to an entered statement too, and no other does
+    -- each edge to base + continuation carries the call's step, the one to an entered statement too, and no other does
     pub continues-at : {x : Edge} → In x (edges f (at b i)) → x .continues ≡ sameNode (x .to) (at b k)
     unfolding edges edgesOf
     continues-at {x} m =
         let called : In x (callEdges f b i k) = rw o at (subst (λ (o : Option ℕ). In x (edgesOf f b i o)) c m) in
         let r = in-callEdges f b i k called in
         subst (λ (x : Edge). x .continues ≡ sameNode (x .to) (at b k)) (r .2) refl
+
+-- an edge to n + an entered statement is known as one
+pub entered-known : (f : Flow) (i : ℕ) (w : Node) {e : ℕ} → In e (entered f i) → entering f i (callEdge w (at N e)) ≡ true
+unfolding entering
+entered-known f i w {e} m = any-In (λ b. sameNode (at N e) (at N b)) m (node-same (at N e))
 
 -- a RETURN in base n goes nowhere
 pub return-nowhere : (f : Flow) (r : ℕ) → kind f r ≡ Kind.return → edges f (at N r) ≡ []

@@ -2,6 +2,8 @@ pub mod Lists
 pub mod Reach
 pub mod Body
 pub mod Transparent
+pub mod Rounds
+pub mod Sure
 pub mod Live
 pub mod Names
 pub mod Certain
@@ -20,5 +22,6 @@ pub mod Acts
 pub mod Runs
 pub mod Term3
 pub mod Terms
+pub mod Before
 pub mod RunCases
 pub mod Listing

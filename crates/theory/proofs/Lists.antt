@@ -282,3 +282,19 @@ sumBelow-lt (suc k) f g x l h e = go (eqb x k) refl (λ l′. sumBelow-lt k f g 
         let below : sumBelow k f < sumBelow k g = ih (omega arith) in
         let top : f k ≤ g k = h k (omega arith) in
         omega arith
+
+-- how many numbers below n the list has
+unfoldable pub members : ℕ → List ℕ → ℕ
+members n l = sumBelow n (λ i. cond (elem i l) 1 0)
+
+-- more in a list that holds all of the other's and x too
+pub members-lt : (n : ℕ) (l m : List ℕ) (x : ℕ) → x < n → ((i : ℕ) → In i l → In i m) → elem x l ≡ false → In x m → members n l < members n m
+unfolding members
+members-lt n l m x h within out there =
+    sumBelow-lt n (λ i. cond (elem i l) 1 0) (λ i. cond (elem i m) 1 0) x h
+    (λ i k. kept i (elem i l) refl)
+    (rw (out, In-elem there) (omega arith))
+  where
+    kept : (i : ℕ) (b : Bool) → elem i l ≡ b → cond b 1 0 ≤ cond (elem i m) 1 0
+    kept i true e = rw (In-elem (within i (elem-In i l e))) (omega arith)
+    kept i false e = omega arith

@@ -12,13 +12,16 @@ use Rattle.flow.specs.Flow.{Flow, Kind, size}
 use Rattle.theory.specs.Lists.{In}
 use Rattle.theory.specs.Reach.{Reach}
 use Rattle.theory.specs.Body.{kind, successors, continuationOf, entered, callees, isReturn, wipes, walkNext, Walks, Calls, Opaque, OpaqueCall, CallTouches, opaqueCall}
+use Rattle.theory.specs.Sure.{isGosub, returning, Missed, sure}
 use Rattle.theory.specs.contracts.WellFormed.{WellFormed}
-use Rattle.theory.specs.Doubled.{Node, Edge, at, sameNode, edges, statementEffects, edgeEffects}
+use Rattle.theory.specs.Doubled.{Node, Edge, at, plain, sameNode, edges, statementEffects, entering, edgeEffects}
 use Rattle.theory.specs.Walks.{Turns}
 use Rattle.theory.specs.Runs.{Frame, back, end, frameOf, Config, act, goesOn, empties, Move, Run, Listed}
-use Rattle.theory.proofs.Edges.{callEdge, node-same, listed-edge, opaque-edge, entered-edge, continuation-edge, return-edge, statement-of}
+use Rattle.theory.proofs.Lists.{clash}
+use Rattle.theory.proofs.Edges.{callEdge, node-same, listed-edge, opaque-edge, entered-edge, continuation-edge, entered-known, return-edge, statement-of}
 use Rattle.theory.proofs.Body.{callees-below, walked-complete, opaqueCall-sound, opaqueCall-complete, callTouches-complete}
-use Rattle.theory.proofs.Acts.{turns-becomeAll, edge-act, edge-kept, Kept, kept-then, kept-nested, act-kept}
+use Rattle.theory.proofs.Sure.{gosub-one, returning-body, no-gosub, no-continuation, sure-sound}
+use Rattle.theory.proofs.Acts.{turns-becomeAll, edge-act, edge-kept, Kept, kept-then, kept-nested, kept-none, act-kept, act-none}
 
 -- states of arrays at doubled numbers
 abbrev pub Table : Type 1
@@ -37,14 +40,14 @@ pub data Level (f : Flow) : ℕ → List Frame → Type 0 where
       → Level f i (back j ∷ k)
 
 -- outer: in base 0. last: in base n, in a body that is not opaque, over "end". inner: in base n, in a body that is not opaque, over the frame of the call that
--- entered it; the invariant holds of that call
+-- entered it; the invariant holds of that call, and where an array is NONE the body's start is missed if the statement here is
 pub data Invariant (f : Flow) (T : Table) : ℕ → (ℕ → State) → List Frame → Type 0 where
   outer : {i : ℕ} {s : ℕ → State} {k : List Frame} → ((a : ℕ) → T (at Zero i) a (s a)) → Level f i k → Invariant f T i s k
   last : {i e : ℕ} {s : ℕ → State} {k : List Frame} → ((a : ℕ) → T (at N i) a (s a)) → Walks f e i → (Opaque f e → ⊥)
       → Invariant f T i s (end ∷ k)
   inner : {i e c j : ℕ} {s t : ℕ → State} {k : List Frame} → ((a : ℕ) → T (at N i) a (s a)) → Walks f e i → (Opaque f e → ⊥)
       → continuationOf (kind f c) ≡ some j → opaqueCall f c ≡ false → In e (callees f c) → Invariant f T c t k
-      → ((a : ℕ) → Kept f e a (act f c t a) (s a)) → Invariant f T i s (back j ∷ k)
+      → ((a : ℕ) → Kept f e a (act f c t a) (s a)) → ((a : ℕ) → s a ≡ State.none → Missed f a i → Missed f a e) → Invariant f T i s (back j ∷ k)
 
 -- all arrays' states stand in the table at one copy
 abbrev pub Found : Table → ℕ → (ℕ → State) → Type 0
@@ -53,7 +56,7 @@ Found T i s = (b : Base) × ((a : ℕ) → T (at b i) a (s a))
 pub found : {f : Flow} {T : Table} {i : ℕ} {s : ℕ → State} {k : List Frame} → Invariant f T i s k → Found T i s
 found (Invariant.outer t l) = (Zero, t)
 found (Invariant.last t w o) = (N, t)
-found (Invariant.inner t w o c q m v r) = (N, t)
+found (Invariant.inner t w o c q m v r l) = (N, t)
 
 -- classes of kinds
 
@@ -107,10 +110,22 @@ entered-callee : (f : Flow) (c : ℕ) {e j : ℕ} → continuationOf (kind f c) 
 unfolding callees
 entered-callee f c h m = rw h m
 
+-- a statement at which a walk passes no body that counts for sure arrays: one without a continuation, or an ON GOSUB
+abbrev Passes : Flow → ℕ → Type 0
+Passes f i = (b : ℕ) → In b (returning f i) → ⊥
+
+-- the body that a plain GOSUB enters is the one that it calls
+called-missed : (f : Flow) (c : ℕ) {e a : ℕ} → In e (callees f c) → Missed f a e → (b : ℕ) → In b (returning f c) → Missed f a b
+called-missed f c m x b k = rw (gosub-one f c (returning-body f c k .0) m) x
+
 module _ (f : Flow) (T : Table) (wf : WellFormed f) (listed : Listed f) (closed : Closed f T) where
-  -- the statement's act is brought along any edge
-  along : (b : Base) (i : ℕ) {s : ℕ → State} (x : Edge) → ((a : ℕ) → T (at b i) a (s a)) → In x (edges f (at b i)) → (a : ℕ) → T (x .to) a (act f i s a)
-  along b i {s} x t m a = closed .edge (at b i) x a (s a) (act f i s a) (t a) m (edge-act f i x a s)
+  -- the statement's act is brought along an edge
+  along : (b : Base) (i : ℕ) {s : ℕ → State} (x : Edge) → ((a : ℕ) → x .continues ≡ true → sure f i a ≡ true → entering f i x ≡ true)
+      → ((a : ℕ) → T (at b i) a (s a)) → In x (edges f (at b i)) → (a : ℕ) → T (x .to) a (act f i s a)
+  along b i {s} x n t m a = closed .edge (at b i) x a (s a) (act f i s a) (t a) m (edge-act f i x a s (n a))
+
+  along-plain : {b : Base} {i : ℕ} {v : Node} {s : ℕ → State} → ((a : ℕ) → T (at b i) a (s a)) → In (plain v) (edges f (at b i)) → (a : ℕ) → T v a (act f i s a)
+  along-plain {b} {i} {v} = along b i (plain v) (λ a h. clash false h refl)
 
   not-wiping : {e i : ℕ} → Walks f e i → (Opaque f e → ⊥) → wipes (kind f i) ≡ false
   not-wiping {i = i} w o = go (wipes (kind f i)) refl
@@ -119,26 +134,40 @@ module _ (f : Flow) (T : Table) (wf : WellFormed f) (listed : Listed f) (closed 
       go true q = absurd (o (Opaque.own w q))
       go false q = q
 
+  -- where a move of a body leaves NONE, the statement before it is missed if that after it is
+  missed-before : {e i j a : ℕ} (s : ℕ → State) → Walks f e i → (Opaque f e → ⊥) → ((b : ℕ) → In b (returning f i) → Missed f a b) → In j (walkNext f i)
+      → (s a ≡ State.none → Missed f a i → Missed f a e) → act f i s a ≡ State.none → Missed f a j → Missed f a e
+  missed-before {i = i} {a = a} s v o b m link h x =
+      let n = act-none f i a s (not-wiping v o) h in
+      link (n .1) (Missed.on (n .0) b m x)
+
   -- an ordinary move, which stays on the body's walk: it has an edge in either base
-  goes : {i j : ℕ} {s : ℕ → State} {k : List Frame} → ((b : Base) → (c : Bool) × In (record { to = at b j; continues = c }) (edges f (at b i)))
+  goes : {i j : ℕ} {s : ℕ → State} {k : List Frame} → Passes f i → ((b : Base) → (c : Bool) × In (record { to = at b j; continues = c }) (edges f (at b i)))
       → In j (walkNext f i) → Invariant f T i s k → Invariant f T j (act f i s) k
-  goes {i} x w (Invariant.outer t l) = Invariant.outer (along Zero i _ t (x Zero .1)) (level-on l w)
-  goes {i} x w (Invariant.last t v o) = Invariant.last (along N i _ t (x N .1)) (Reach.on v w) o
-  goes {i} {s = s} x w (Invariant.inner t v o c q m call r) =
-      Invariant.inner (along N i _ t (x N .1)) (Reach.on v w) o c q m call
-      (λ a. kept-then (r a) (act-kept f i a s v (not-wiping v o)))
+  goes {i} {j} {s} p x w inv = go inv
+    where
+      brings : (b : Base) → ((a : ℕ) → T (at b i) a (s a)) → (a : ℕ) → T (at b j) a (act f i s a)
+      brings b t = along b i _ (λ a c h. let n = sure-sound wf i a h in absurd (p (n .body) (n .enters))) t (x b .1)
+
+      go : {k : List Frame} → Invariant f T i s k → Invariant f T j (act f i s) k
+      go (Invariant.outer t l) = Invariant.outer (brings Zero t) (level-on l w)
+      go (Invariant.last t v o) = Invariant.last (brings N t) (Reach.on v w) o
+      go (Invariant.inner t v o c q m call r link) =
+          Invariant.inner (brings N t) (Reach.on v w) o c q m call
+          (λ a. kept-then (r a) (act-kept f i a s v (not-wiping v o)))
+          (λ a. missed-before s v o (λ b n. absurd (p b n)) w (link a))
 
   -- a move to a listed successor of a statement that is neither RETURN nor a call with a continuation
   listed-move : {i j : ℕ} {s : ℕ → State} {k : List Frame} → BySuccessors (kind f i) → In j (successors f i) → Invariant f T i s k → Invariant f T j (act f i s) k
-  listed-move {i} g m = goes (λ b. (false, listed-edge f b i (g .alone) (g .moves) m)) (walk-listed f i (g .alone) (g .moves) m)
+  listed-move {i} g m = goes (λ b. no-continuation f i (g .alone)) (λ b. (false, listed-edge f b i (g .alone) (g .moves) m)) (walk-listed f i (g .alone) (g .moves) m)
 
   -- CLR and RUN empty the stack, and no body that is not opaque meets them
   reset-move : {i j : ℕ} {s : ℕ → State} {k : List Frame} → empties (kind f i) ≡ true → In j (successors f i) → Invariant f T i s k → Invariant f T j (act f i s) []
   reset-move {i} h m (Invariant.outer t l) =
       let g = by-successors (kind f i) (rw (h, or-true)) in
-      Invariant.outer (along Zero i _ t (listed-edge f Zero i (g .alone) (g .moves) m)) Level.bottom
+      Invariant.outer (along-plain t (listed-edge f Zero i (g .alone) (g .moves) m)) Level.bottom
   reset-move {i} h m (Invariant.last t w o) = absurd (o (Opaque.own w (empties-wipes (kind f i) h)))
-  reset-move {i} h m (Invariant.inner t w o c q b call r) = absurd (o (Opaque.own w (empties-wipes (kind f i) h)))
+  reset-move {i} h m (Invariant.inner t w o c q b call r l) = absurd (o (Opaque.own w (empties-wipes (kind f i) h)))
 
   -- a call without a continuation goes by a listed successor and pushes "end"
   enter-ending : {i e : ℕ} {s : ℕ → State} {k : List Frame} → BySuccessors (kind f i) → In e (entered f i) → Invariant f T i s k
@@ -148,7 +177,7 @@ module _ (f : Flow) (T : Table) (wf : WellFormed f) (listed : Listed f) (closed 
       go : {s : ℕ → State} {k : List Frame} → Invariant f T e s k → Invariant f T e s (end ∷ k)
       go (Invariant.outer t l) = Invariant.outer t Level.ended
       go (Invariant.last t w o) = Invariant.last t w o
-      go (Invariant.inner t w o c q b call r) = Invariant.last t w o
+      go (Invariant.inner t w o c q b call r l) = Invariant.last t w o
 
   -- no body that is not opaque meets an opaque call
   no-opaque-call : {e i : ℕ} → Walks f e i → (Opaque f e → ⊥) → OpaqueCall f i → ⊥
@@ -158,16 +187,17 @@ module _ (f : Flow) (T : Table) (wf : WellFormed f) (listed : Listed f) (closed 
   enter-opaque : {i e j : ℕ} {s : ℕ → State} {k : List Frame} → continuationOf (kind f i) ≡ some j → opaqueCall f i ≡ true → In e (entered f i)
       → Invariant f T i s k → Invariant f T e (act f i s) (back j ∷ k)
   enter-opaque {i} {e} c q m (Invariant.outer t l) =
-      Invariant.outer (along Zero i _ t (opaque-edge f Zero i c q (listed .enters i e m)))
+      Invariant.outer (along-plain t (opaque-edge f Zero i c q (listed .enters i e m)))
       (Level.called c q (entered-callee f i c m) Reach.here l)
   enter-opaque {i} c q m (Invariant.last t w o) = absurd (no-opaque-call w o (opaqueCall-sound f i q))
-  enter-opaque {i} c q m (Invariant.inner t w o d p b call r) = absurd (no-opaque-call w o (opaqueCall-sound f i q))
+  enter-opaque {i} c q m (Invariant.inner t w o d p b call r l) = absurd (no-opaque-call w o (opaqueCall-sound f i q))
 
   -- a call that is not opaque goes to base n
   enter-copy : {i e j : ℕ} {s : ℕ → State} {k : List Frame} → continuationOf (kind f i) ≡ some j → opaqueCall f i ≡ false → In e (entered f i)
       → Found T i s → Invariant f T i s k → Invariant f T e (act f i s) (back j ∷ k)
   enter-copy {i} {e} {j} c q m (b, t) inv =
-      Invariant.inner (along b i _ t (entered-edge f b i c q m)) Reach.here not-opaque c q (entered-callee f i c m) inv (λ a. Kept.kept)
+      Invariant.inner (along b i _ (λ a n h. entered-known f i (at b j) m) t (entered-edge f b i c q m)) Reach.here not-opaque c q (entered-callee f i c m) inv
+      (λ a. Kept.kept) (λ a h x. x)
     where
       not-opaque : Opaque f e → ⊥
       not-opaque o = true≢false (sym (opaqueCall-complete wf (OpaqueCall.enters-opaque (entered-callee f i c m) o)) ∙ q)
@@ -183,7 +213,7 @@ module _ (f : Flow) (T : Table) (wf : WellFormed f) (listed : Listed f) (closed 
 
   -- ON GOSUB goes to its continuation instead: listed, or the continuation edge, in either base
   skip-move : {i j : ℕ} {s : ℕ → State} {k : List Frame} {ls : List ℕ} → kind f i ≡ Kind.onGosub ls (some j) → Invariant f T i s k → Invariant f T j (act f i s) k
-  skip-move {i} {j} {ls = ls} h = goes (go (opaqueCall f i) refl) (walk-continuation f i c)
+  skip-move {i} {j} {ls = ls} h = goes (λ b. no-gosub f i (ap isGosub h)) (go (opaqueCall f i) refl) (walk-continuation f i c)
     where
       c : continuationOf (kind f i) ≡ some j
       c = ap continuationOf h
@@ -192,32 +222,36 @@ module _ (f : Flow) (T : Table) (wf : WellFormed f) (listed : Listed f) (closed 
       go true q b = (false, opaque-edge f b i c q (listed .after i j ls h))
       go false q b = (sameNode (at b j) (at b j), continuation-edge f b i c q)
 
-  -- RETURN from a body that is not opaque: the continuation edge of its call brings what the body made of the call's act
+  -- RETURN from a body that is not opaque: the continuation edge of its call brings what the body made of the call's act. An array that it leaves as NONE is missed, so it is not sure
   module _ {c e j : ℕ} {s t : ℕ → State} (h : continuationOf (kind f c) ≡ some j) (q : opaqueCall f c ≡ false) (m : In e (callees f c))
-      (r : (a : ℕ) → Kept f e a (act f c t a) (s a)) where
+      (r : (a : ℕ) → Kept f e a (act f c t a) (s a)) (missed : (a : ℕ) → s a ≡ State.none → Missed f a e) where
     brought : (b : Base) → ((a : ℕ) → T (at b c) a (t a)) → (a : ℕ) → T (at b j) a (s a)
     unfolding act
     brought b u a =
         closed .edge (at b c) (callEdge (at b j) (at b j)) a (t a) (s a) (u a) (continuation-edge f b c h q)
         (edge-kept f c (callEdge (at b j) (at b j)) a (node-same (at b j)) (λ p. callTouches-complete wf (CallTouches.enters-touching m p))
+        (λ p n. let k = sure-sound wf c a p in k .met (called-missed f c m (missed a n) (k .body) (k .enters)))
         (turns-becomeAll (statementEffects f c a) (t a)) (r a))
 
     resumed : {k : List Frame} → Invariant f T c t k → Invariant f T j s k
     resumed (Invariant.outer u l) = Invariant.outer (brought Zero u) (level-on l (walk-continuation f c h))
     resumed (Invariant.last u w o) = Invariant.last (brought N u) (Reach.on w (walk-continuation f c h)) o
-    resumed (Invariant.inner u w o d p b call v) =
+    resumed (Invariant.inner u w o d p b call v link) =
         Invariant.inner (brought N u) (Reach.on w (walk-continuation f c h)) o d p b call
         (λ a. kept-then (v a) (kept-then (act-kept f c a t w (not-wiping w o)) (kept-nested (Calls.calls w m) (r a))))
+        (λ a n. missed-before t w o (called-missed f c m (missed a n)) (walk-continuation f c h) (link a) (kept-none (r a) n))
 
   return-move : {i j : ℕ} {s : ℕ → State} {k : List Frame} → kind f i ≡ Kind.return → Invariant f T i s (back j ∷ k) → Invariant f T j (act f i s) k
   return-move {i} {j} h (Invariant.outer t (Level.called {c = c} {e = e} d q m w l)) =
       Invariant.outer
-      (along Zero i _ t
+      (along-plain t
       (return-edge f i (ap continuationOf h) (ap isReturn h) (statement-of f c d) (wf .continuation c j d) d q m
       (walked-complete wf (callees-below wf c e m) w)))
       (level-on l (walk-continuation f c d))
-  return-move {i} {s = s} h (Invariant.inner t w o d q m call r) =
-      resumed d q m (λ a. kept-then (r a) (act-kept f i a s w (not-wiping w o))) call
+  return-move {i} {s = s} h (Invariant.inner t w o d q m call r link) =
+      resumed d q m (λ a. kept-then (r a) (act-kept f i a s w (not-wiping w o)))
+      (λ a n. let k = act-none f i a s (not-wiping w o) n in link a (k .1) (Missed.at-return (k .0) (ap isReturn h)))
+      call
 
   moved : {x y : Config} → Move f x y → Invariant f T (x .stmt) (x .states) (x .stack) → Invariant f T (y .stmt) (y .states) (y .stack)
   moved (Move.next {i = i} h m) inv = listed-move (by-successors (kind f i) (rw h)) m inv

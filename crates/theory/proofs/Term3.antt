@@ -3,6 +3,7 @@
 use Prim.Native.Nat.{ℕ, _+_, _-_, _<_, _≤_}
 use mathlib.Core.Bool.{true}
 use mathlib.Core.List.{map, Memᴰ·map}
+use mathlib.Core.Logic.{⊎-elim}
 use mathlib.Core.Path.{_≡_, refl, sym, subst}
 use lib.Bits.{bitOr}
 use native.Mathlib.Nat.{zero-add}
@@ -18,7 +19,7 @@ use Rattle.theory.specs.Queue.{Arc, Graph}
 use Rattle.theory.specs.Walks.{Turns, Brings}
 use Rattle.theory.specs.Doubled.{Node, Edge, at, number, node, edges, edgeEffects, boundary, arcsOf, doubled}
 use Rattle.theory.specs.Runs.{Config, Run, Listed}
-use Rattle.theory.proofs.MaskLaws.{or-holds-left, or-holds-right}
+use Rattle.theory.proofs.MaskLaws.{or-held, or-holds-left, or-holds-right}
 use Rattle.theory.proofs.Edges.{edge-below}
 use Rattle.theory.proofs.Runs.{Table, Closed, run-found}
 
@@ -87,16 +88,20 @@ run-brings f wf listed r = run-follows f (λ d a s. Brings (doubled f) a d s) wf
 abbrev pub Held : ℕ → (ℕ → ℕ → ℕ) → ℕ → ℕ → State → Type 0
 Held arrays m d a s = a < arrays → holds (m d a) s ≡ true
 
+-- the union over a statement's two masks holds what one of them holds
+
+pub copy-held : (f : Flow) (m : ℕ → ℕ → ℕ) (b : Base) (i a : ℕ) (s : State) → holds (m (number f (at b i)) a) s ≡ true
+    → holds (bitOr (m (number f (at Zero i)) a) (m (number f (at N i)) a)) s ≡ true
+copy-held f m Zero i a s h = or-holds-left (m (number f (at Zero i)) a) (m (number f (at N i)) a) s h
+copy-held f m N i a s h = or-holds-right (m (number f (at Zero i)) a) (m (number f (at N i)) a) s h
+
+pub held-copy : (f : Flow) (m : ℕ → ℕ → ℕ) (i a : ℕ) (s : State) → holds (bitOr (m (number f (at Zero i)) a) (m (number f (at N i)) a)) s ≡ true
+    → (b : Base) × (holds (m (number f (at b i)) a) s ≡ true)
+held-copy f m i a s h = ⊎-elim (λ k. (Zero, k)) (λ k. (N, k)) (or-held (m (number f (at Zero i)) a) (m (number f (at N i)) a) s h)
+
 -- Term 3 over any closed table of masks: the union over both copies holds what a run finds
 pub run-masked : (f : Flow) (m : ℕ → ℕ → ℕ) {x : Config} → WellFormed f → Listed f → Follows (doubled f) (Held (f .arrays) m) → Run f x
     → (a : ℕ) → a < f .arrays → holds (bitOr (m (number f (at Zero (x .stmt))) a) (m (number f (at N (x .stmt))) a)) (x .states a) ≡ true
 run-masked f m {x} wf listed follows r a h =
     let q = run-follows f (Held (f .arrays) m) wf listed follows r in
-    either (q .1 .0) (q .1 .1 a h)
-  where
-    mask : Base → ℕ
-    mask b = m (number f (at b (x .stmt))) a
-
-    either : (b : Base) → holds (mask b) (x .states a) ≡ true → holds (bitOr (mask Zero) (mask N)) (x .states a) ≡ true
-    either Zero e = or-holds-left (mask Zero) (mask N) (x .states a) e
-    either N e = or-holds-right (mask Zero) (mask N) (x .states a) e
+    copy-held f m (q .1 .0) (x .stmt) a (x .states a) (q .1 .1 a h)

@@ -2,7 +2,6 @@
 -- it to one of the two copies, and what a run finds is in it. The doubled graph is well formed, and the theorems over any graph apply. Assumes nothing.
 use Prim.Native.Nat.{ℕ, _+_, _≤_, _<_}
 use mathlib.Core.Bool.{true}
-use mathlib.Core.Logic.{⊎-elim}
 use mathlib.Core.Path.{_≡_, sym, ap, ap₂, subst}
 use native.Mathlib.Omega.{arith}
 use lib.Bits.{bitOr, or-lt}
@@ -18,13 +17,12 @@ use Rattle.theory.specs.Masks.{maskLeft, BringsTo, copy}
 use Rattle.theory.specs.Computed.{Progress, solved, maskOf, visitsOf}
 use Rattle.theory.specs.Runs.{Config, Run, Listed}
 use Rattle.theory.proofs.Lists.{In-map}
-use Rattle.theory.proofs.MaskLaws.{or-held, or-holds-left, or-holds-right}
 use Rattle.theory.proofs.Invariant.{WellFormedGraph}
 use Rattle.theory.proofs.Ends.{over-bound, no-visits}
 use Rattle.theory.proofs.Computed.{solved-over, over-solved}
 use Rattle.theory.proofs.Exact.{over-below, over-unreached, over-brought, over-holds}
 use Rattle.theory.proofs.Edges.{edge-below}
-use Rattle.theory.proofs.Term3.{number-below, run-brings}
+use Rattle.theory.proofs.Term3.{number-below, copy-held, held-copy, run-brings}
 
 pub doubled-well-formed : (f : Flow) → WellFormed f → WellFormedGraph (doubled f)
 unfolding doubled arcsOf boundary
@@ -72,19 +70,17 @@ module _ (f : Flow) (wf : WellFormed f) {k : ℕ} {st : Solver} (over : Over (do
   -- every state of a statement's mask is brought by a walk
   pub term-2-sound : {a i : ℕ} {s : State} → holds (maskLeft f st i a) s ≡ true → BringsTo f a i s
   unfolding maskLeft
-  term-2-sound {a} {i} {s} h = ⊎-elim (of Zero) (of N) (or-held (st .masks (number f (at Zero i)) a) (st .masks (number f (at N i)) a) s h)
-    where
-      of : (b : Base) → holds (st .masks (number f (at b i)) a) s ≡ true → BringsTo f a i s
-      of b h = copy b (over-brought (doubled f) (doubled-well-formed f wf) over (number f (at b i)) a s h)
+  term-2-sound {a} {i} {s} h =
+      let c = held-copy f (st .masks) i a s h in
+      copy (c .0) (over-brought (doubled f) (doubled-well-formed f wf) over (number f (at (c .0) i)) a s (c .1))
 
   -- and every state that a walk brings is in it
   pub term-2-complete : {a i : ℕ} {s : State} → i < size f → a < f .arrays → BringsTo f a i s → holds (maskLeft f st i a) s ≡ true
   unfolding maskLeft doubled
-  term-2-complete {a} {i} {s} h l (copy b w) = join b (over-holds (doubled f) (doubled-well-formed f wf) over (nodes-exist h) l w)
+  term-2-complete {a} {i} {s} h l (copy b w) = join (over-holds (doubled f) (doubled-well-formed f wf) over (nodes-exist h) l w)
     where
-      join : (b : Base) → holds (st .masks (number f (at b i)) a) s ≡ true → holds (maskLeft f st i a) s ≡ true
-      join Zero h = or-holds-left (st .masks (number f (at Zero i)) a) (st .masks (number f (at N i)) a) s h
-      join N h = or-holds-right (st .masks (number f (at Zero i)) a) (st .masks (number f (at N i)) a) s h
+      join : holds (st .masks (number f (at b i)) a) s ≡ true → holds (maskLeft f st i a) s ≡ true
+      join = copy-held f (st .masks) b i a s
 
   -- a mask is a union of states, 0 to 7
   pub term-2-below : (i a : ℕ) → maskLeft f st i a < 8

@@ -1,15 +1,15 @@
 -- A body that is not opaque is transparent: nothing on its walk wipes, and every body that it calls is transparent. That this is well founded follows from the
 -- number of bodies that calls lead to, which falls with each call off a cycle. Transparent and opaque exclude each other. Assumes nothing.
-use Prim.Native.Nat.{ℕ, zero, suc, _<_, _≤_}
-use mathlib.Core.Bool.{Bool, true, false, cond}
-use mathlib.Core.Path.{_≡_, refl}
+use Prim.Native.Nat.{ℕ, zero, suc, _<_}
+use mathlib.Core.Bool.{false}
+use mathlib.Core.Path.{_≡_}
 use native.Mathlib.Omega.{arith}
 use Rattle.flow.specs.Flow.{Flow, size}
-use Rattle.theory.specs.Lists.{In, elem, sumBelow}
+use Rattle.theory.specs.Lists.{In, elem}
 use Rattle.theory.specs.Reach.{Reach}
 use Rattle.theory.specs.Body.{kind, callees, Walks, Calls, wipes, Calls⁺, Opaque, OpaqueCall, bodies, opaque, opaqueCall}
 use Rattle.theory.specs.contracts.WellFormed.{WellFormed}
-use Rattle.theory.proofs.Lists.{clash, not-so, In-elem, elem-In, sumBelow-lt}
+use Rattle.theory.proofs.Lists.{clash, not-so, elem-In, members, members-lt}
 use Rattle.theory.proofs.Reach.{reach-first}
 use Rattle.theory.proofs.Body.{bodies-sound, bodies-complete, called-complete, calls-then, calls-below, callees-below, opaque-sound, opaque-complete, opaqueCall-sound, opaqueCall-complete}
 
@@ -38,22 +38,17 @@ pub transparent-opaque : {f : Flow} {e : ℕ} → Transparent f e → opaque f e
 transparent-opaque {f} {e} c = not-so (opaque f e) (λ h. transparent-not-opaque c (opaque-sound f e h))
 
 -- how many bodies calls from e lead to, e included
-unfoldable rank : Flow → ℕ → ℕ
-rank f e = sumBelow (size f) (λ i. cond (elem i (bodies f e)) 1 0)
+abbrev rank : Flow → ℕ → ℕ
+rank f e = members (size f) (bodies f e)
 
 module _ {f : Flow} (w : WellFormed f) where
   module _ {e : ℕ} (l : e < size f) where
     rank-falls : {b : ℕ} → Calls f e b → (Calls⁺ f e e → ⊥) → rank f b < rank f e
-    unfolding rank
     rank-falls {b} k h =
-        sumBelow-lt (size f) (λ i. cond (elem i (bodies f b)) 1 0) (λ i. cond (elem i (bodies f e)) 1 0) e l
-        (λ i j. kept i (elem i (bodies f b)) refl)
-        (rw (not-so (elem e (bodies f b)) (λ q. h (calls-then k (bodies-sound f b (elem-In e (bodies f b) q)))), In-elem (bodies-complete w l Reach.here)) (omega arith))
-      where
-        kept : (i : ℕ) (q : Bool) → elem i (bodies f b) ≡ q → cond q 1 0 ≤ cond (elem i (bodies f e)) 1 0
-        kept i true q =
-            rw (In-elem (bodies-complete w l (reach-first (called-complete w l k) (bodies-sound f b (elem-In i (bodies f b) q))))) (omega arith)
-        kept i false q = omega arith
+        members-lt (size f) (bodies f b) (bodies f e) e l
+        (λ i m. bodies-complete w l (reach-first (called-complete w l k) (bodies-sound f b m)))
+        (not-so (elem e (bodies f b)) (λ q. h (calls-then k (bodies-sound f b (elem-In e (bodies f b) q)))))
+        (bodies-complete w l Reach.here)
 
     -- what is not opaque
     pub not-opaque : opaque f e ≡ false → Opaque f e → ⊥

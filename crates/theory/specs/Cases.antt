@@ -1,7 +1,7 @@
 -- Document 01, "Flows worked through", as one table: P1 to P10 and the line "Also", then a file for each point of "Where a port goes astray" and for each rule, those of
--- request E1 too, that a wrong definition would fail. A case is a step, or a file as bytes with the verdict on it and what is known of it: masks, visits, term 1's bound,
--- live sets, listing, certain names.
-use Prim.Native.Nat.{ℕ, _/_, _^_}
+-- requests E1 and E2 too, that a wrong definition would fail. A case is a step, or a file as bytes with the verdict on it and what is known of it: masks, visits, term 1's bound,
+-- live sets, listing, certain names, sure arrays.
+use Prim.Native.Nat.{ℕ, _*_, _/_, _^_}
 use Prim.Native.Char.{code}
 use Prim.Native.String.{String, [] as []ˢ, _∷_ as _∷ˢ_}
 use mathlib.Core.Bool.{Bool, true, false, _&&_}
@@ -16,11 +16,12 @@ use Rattle.flow.specs.Limits.{noContinuation, workWords}
 use Rattle.flow.specs.Format.{Verdict, verdict, fileChecks, areaCheck, areaChecks, flowOf}
 use Rattle.flow.specs.Format.{verdictNumber, verdictPlace}
 use Rattle.flow.specs.Cases.{u16s, FH, FN, FL, FE}
-use Rattle.theory.specs.Lists.{concatMap, upTo}
+use Rattle.theory.specs.Lists.{concatMap, upTo, sumBelow}
+use Rattle.theory.specs.Sure.{sure}
 use Rattle.theory.specs.Queue.{visitBound}
 use Rattle.theory.specs.Doubled.{doubled}
 use Rattle.theory.specs.Computed.{maskOf, visitsOf}
-use Rattle.theory.specs.Live.{liveInWord, liveOutWord}
+use Rattle.theory.specs.Live.{bitOf, liveInWord, liveOutWord}
 use Rattle.theory.specs.Certain.{certainWord}
 use Rattle.theory.specs.Listing.{listing, longText}
 
@@ -28,6 +29,8 @@ use Rattle.theory.specs.Listing.{listing, longText}
 pub data Fact : Type 0 where
   -- statement by statement
   masks live-in live-out : List ℕ → Fact
+  -- statement by statement, the arrays that are sure for it: bit a is array a
+  sure-arrays : List ℕ → Fact
   visits bound : ℕ → Fact
   -- the lines that the listing program prints
   prints : List String → Fact
@@ -92,6 +95,10 @@ p5With body = p5From 0 (gosub 10 30 1 (2 ∷ []) []) body
 abbrev pub p5 : List ℕ
 p5 = p5With (other 30 (3 ∷ []) (0 ∷ []))
 
+-- 0 is an ON GOSUB that lists the body alone: it touches what the body refers to, and nothing is sure for it
+abbrev pub p5Touching : List ℕ → List ℕ
+p5Touching body = p5From 0 (onGosub 10 (30 ∷ []) 1 (2 ∷ []) []) body
+
 -- P5 with 2 a DIM of array 0, flag 1, no reference
 abbrev pub p6 : List ℕ
 p6 = p5With (dim 30 (0 ∷ 1 ∷ []) (3 ∷ []) [])
@@ -125,7 +132,7 @@ withEntry i = p5From i (gosub 10 30 1 (2 ∷ []) []) (other 30 (3 ∷ []) (0 ∷
 
 -- a DIM without dimensions makes its body opaque: statement 1 keeps no NONE
 abbrev pub dimFlag0 : List ℕ
-dimFlag0 = p5With (dim 30 (0 ∷ 0 ∷ []) (3 ∷ []) (0 ∷ []))
+dimFlag0 = p5Touching (dim 30 (0 ∷ 0 ∷ []) (3 ∷ []) (0 ∷ []))
 
 -- statements 4 and 5 end an opaque body and are one that is not: only in base 0 does their RETURN go back to statement 1
 abbrev pub sharedReturn : List ℕ
@@ -140,7 +147,7 @@ sharedReturn =
     ++ FL 40 3 ++ FL 50 4
     ++ FE
 
--- in base n statement 1 enters its own continuation: that one edge carries the touched step
+-- in base n statement 1 enters its own continuation: that one edge carries the touched step, though the array is sure
 abbrev pub enteredContinuation : List ℕ
 enteredContinuation =
     FH 5 1 0 0
@@ -186,13 +193,13 @@ steps =
 
 -- a DIM without items leaves its body as it is
 abbrev pub noItems : List ℕ
-noItems = p5With (dim 30 [] (3 ∷ []) (0 ∷ []))
+noItems = p5Touching (dim 30 [] (3 ∷ []) (0 ∷ []))
 
 -- statement 2 has no continuation: it calls no body, and the CLR at its line is not met
 abbrev pub ordinaryCall : List ℕ
 ordinaryCall =
     FH 5 1 0 0
-    ++ gosub 10 30 1 (2 ∷ []) []
+    ++ onGosub 10 (30 ∷ []) 1 (2 ∷ []) []
     ++ other 20 [] []
     ++ gosub 30 50 noContinuation (3 ∷ []) (0 ∷ [])
     ++ returns 40 []
@@ -214,13 +221,14 @@ nestedOpaque =
     ++ FL 30 2 ++ FL 50 4
     ++ FE
 
--- the body at 2 touches array 0 by a call, and array 1 not; its walk stops at the RETURN before the CLR; 2 goes to 4 before its continuation
+-- the body at 2 touches array 0 by a call, and array 1 not; its walk stops at the RETURN before the CLR; 2 goes to 4 before its continuation. An ON GOSUB on the way to the RETURN
+-- does not make array 0 sure
 abbrev pub nestedTouched : List ℕ
 nestedTouched =
     FH 7 2 0 0
     ++ gosub 10 30 1 (2 ∷ []) []
     ++ other 20 [] []
-    ++ gosub 30 50 3 (4 ∷ []) []
+    ++ onGosub 30 (50 ∷ []) 3 (4 ∷ []) []
     ++ returns 40 (6 ∷ [])
     ++ other 50 (5 ∷ 3 ∷ []) (0 ∷ [])
     ++ returns 60 []
@@ -310,6 +318,95 @@ callWrites ss =
     ++ FL 30 2
     ++ FE
 
+-- Request E2
+
+-- 0 is GOSUB 30, continuation 1, successor 2, where the body begins
+abbrev pub setUp : ℕ → ℕ → List ℕ → List ℕ → List ℕ
+setUp n arrays body lines =
+    FH n arrays 0 0
+    ++ gosub 10 30 1 (2 ∷ []) []
+    ++ other 20 [] []
+    ++ body
+    ++ FL 30 2 ++ lines
+    ++ FE
+
+-- the body calls one that calls one that refers to the array
+abbrev pub sureNested : List ℕ
+sureNested =
+    setUp 8 1
+    (gosub 30 50 3 (4 ∷ []) []
+    ++ returns 40 []
+    ++ gosub 50 70 5 (6 ∷ []) []
+    ++ returns 60 []
+    ++ other 70 (7 ∷ []) (0 ∷ [])
+    ++ returns 80 [])
+    (FL 50 4 ++ FL 70 6)
+
+-- the body goes round before its RETURN
+abbrev pub sureLoop : List ℕ
+sureLoop = setUp 5 1 (other 30 (2 ∷ 3 ∷ []) [] ++ other 40 (2 ∷ 4 ∷ []) (0 ∷ []) ++ returns 50 []) []
+
+-- both RETURNs come after a reference to array 1, one of them after a reference to array 0
+abbrev pub twoReturns : List ℕ
+twoReturns =
+    setUp 6 2
+    (other 30 (3 ∷ 4 ∷ []) (1 ∷ [])
+    ++ other 40 (5 ∷ []) (0 ∷ [])
+    ++ returns 50 []
+    ++ returns 60 [])
+    []
+
+-- the body has no RETURN
+abbrev pub neverReturns : List ℕ
+neverReturns = setUp 3 1 (other 30 (2 ∷ []) (0 ∷ [])) []
+
+-- P5 with a line that enters nothing
+abbrev pub entersNothing : List ℕ
+entersNothing = p5From 0 (gosub 10 99 1 (2 ∷ []) []) (other 30 (3 ∷ []) (0 ∷ []))
+
+-- a walk ends at statement 4, with no reference and no RETURN
+abbrev pub endsElsewhere : List ℕ
+endsElsewhere =
+    setUp 6 1
+    (other 30 (3 ∷ 4 ∷ []) []
+    ++ other 40 (5 ∷ []) (0 ∷ [])
+    ++ other 50 [] []
+    ++ returns 60 [])
+    []
+
+-- the body calls one that refers to array 0 and has no RETURN: the walk passes it by, to a reference to array 1
+abbrev pub passedBy : List ℕ
+passedBy =
+    setUp 6 2
+    (gosub 30 60 3 (5 ∷ []) []
+    ++ other 40 (4 ∷ []) (1 ∷ [])
+    ++ returns 50 []
+    ++ other 60 (5 ∷ []) (0 ∷ []))
+    (FL 60 5)
+
+-- the body's GOSUB has no continuation: the walk goes on to its successors, of which one refers to array 0 and both to array 1
+abbrev pub ordinaryInside : List ℕ
+ordinaryInside =
+    setUp 6 2
+    (gosub 30 50 noContinuation (3 ∷ 4 ∷ []) []
+    ++ other 40 (5 ∷ []) (1 ∷ [])
+    ++ other 50 (5 ∷ []) (0 ∷ 1 ∷ [])
+    ++ returns 60 [])
+    (FL 50 4)
+
+-- statement 1 enters its own continuation in base 0, where that edge is no edge to an entered statement: NONE comes to statement 3 by 5 only, after AUTO, and 4 is visited once more
+abbrev pub continuationEntered : List ℕ
+continuationEntered =
+    FH 6 1 0 0
+    ++ other 10 (1 ∷ 2 ∷ []) []
+    ++ gosub 20 40 3 (3 ∷ []) []
+    ++ other 30 (5 ∷ []) []
+    ++ other 40 (4 ∷ []) (0 ∷ [])
+    ++ returns 50 []
+    ++ other 60 (3 ∷ []) []
+    ++ FL 40 3
+    ++ FE
+
 abbrev pub cases : List Case
 cases =
     -- P1 to P4
@@ -319,7 +416,7 @@ cases =
     ∷ step Touched 5 7
     -- P5 to P10
     ∷ accepted p5
-    (masks (1 ∷ 3 ∷ 1 ∷ 2 ∷ [])
+    (masks (1 ∷ 2 ∷ 1 ∷ 2 ∷ [])
     ∷ visits 4
     ∷ bound 19
     ∷ live-in (0 ∷ 1 ∷ 0 ∷ 0 ∷ [])
@@ -328,7 +425,7 @@ cases =
     ∷ prints
     ("F 4 1 1"
     ∷ "0 10 1 0000000000000000 0000000000000000"
-    ∷ "1 20 3 0000000000000001 0000000000000000"
+    ∷ "1 20 2 0000000000000001 0000000000000000"
     ∷ "2 30 1 0000000000000000 0000000000000000"
     ∷ "3 40 2 0000000000000000 0000000000000000"
     ∷ [])
@@ -365,7 +462,7 @@ cases =
     -- Where a port goes astray
     ∷ accepted dimFlag0 (masks (1 ∷ 2 ∷ 1 ∷ 2 ∷ []) ∷ visits 4 ∷ bound 16 ∷ [])
     ∷ accepted sharedReturn (masks (1 ∷ 1 ∷ 2 ∷ 1 ∷ 3 ∷ 3 ∷ []) ∷ visits 8 ∷ bound 34 ∷ [])
-    ∷ accepted enteredContinuation (masks (1 ∷ 1 ∷ 3 ∷ 2 ∷ 3 ∷ []) ∷ visits 5 ∷ bound 28 ∷ [])
+    ∷ accepted enteredContinuation (masks (1 ∷ 1 ∷ 3 ∷ 2 ∷ 2 ∷ []) ∷ visits 5 ∷ bound 28 ∷ sure-arrays (1 ∷ 1 ∷ 0 ∷ 0 ∷ 0 ∷ []) ∷ [])
     ∷ accepted secondVisit (masks (1 ∷ 3 ∷ 3 ∷ []) ∷ visits 6 ∷ bound 19 ∷ [])
     ∷ accepted unvisited (masks (1 ∷ 1 ∷ 0 ∷ []) ∷ visits 2 ∷ bound 19 ∷ [])
     -- the rules one by one
@@ -391,6 +488,20 @@ cases =
     ∷ accepted (FH 0 0 64 0 ++ FE) (certain 0 ∷ [])
     ∷ accepted (FH 1 0 64 0 ++ uses 10 [] (2 ^ 63) 0 ++ FE) (certain (2 ^ 63) ∷ [])
     ∷ accepted p5 (work 256 0 ∷ work 255 10 ∷ [])
+    -- request E2
+    ∷ accepted p5 (sure-arrays (1 ∷ 0 ∷ 0 ∷ 0 ∷ []) ∷ [])
+    ∷ accepted p5On (sure-arrays (0 ∷ 0 ∷ 0 ∷ 0 ∷ []) ∷ [])
+    ∷ accepted runInBody (sure-arrays (0 ∷ 0 ∷ 0 ∷ 0 ∷ []) ∷ [])
+    ∷ accepted nestedTouched (sure-arrays (0 ∷ 0 ∷ 0 ∷ 0 ∷ 0 ∷ 0 ∷ 0 ∷ []) ∷ [])
+    ∷ accepted sureNested (masks (1 ∷ 2 ∷ 1 ∷ 2 ∷ 1 ∷ 2 ∷ 1 ∷ 2 ∷ []) ∷ visits 8 ∷ bound 43 ∷ sure-arrays (1 ∷ 0 ∷ 1 ∷ 0 ∷ 1 ∷ 0 ∷ 0 ∷ 0 ∷ []) ∷ [])
+    ∷ accepted sureLoop (masks (1 ∷ 2 ∷ 3 ∷ 3 ∷ 2 ∷ []) ∷ visits 11 ∷ bound 37 ∷ sure-arrays (1 ∷ 0 ∷ 0 ∷ 0 ∷ 0 ∷ []) ∷ [])
+    ∷ accepted twoReturns (masks (1 ∷ 1 ∷ 3 ∷ 2 ∷ 1 ∷ 1 ∷ 1 ∷ 2 ∷ 1 ∷ 2 ∷ 2 ∷ 2 ∷ []) ∷ visits 6 ∷ bound 51 ∷ sure-arrays (2 ∷ 0 ∷ 0 ∷ 0 ∷ 0 ∷ 0 ∷ []) ∷ [])
+    ∷ accepted neverReturns (masks (1 ∷ 3 ∷ 3 ∷ []) ∷ visits 5 ∷ bound 19 ∷ sure-arrays (0 ∷ 0 ∷ 0 ∷ []) ∷ [])
+    ∷ accepted entersNothing (masks (1 ∷ 1 ∷ 1 ∷ 2 ∷ []) ∷ visits 4 ∷ bound 19 ∷ sure-arrays (0 ∷ 0 ∷ 0 ∷ 0 ∷ []) ∷ [])
+    ∷ accepted endsElsewhere (masks (1 ∷ 2 ∷ 1 ∷ 1 ∷ 1 ∷ 2 ∷ []) ∷ visits 6 ∷ bound 31 ∷ sure-arrays (1 ∷ 0 ∷ 0 ∷ 0 ∷ 0 ∷ 0 ∷ []) ∷ [])
+    ∷ accepted passedBy (masks (1 ∷ 1 ∷ 3 ∷ 2 ∷ 1 ∷ 1 ∷ 3 ∷ 1 ∷ 3 ∷ 2 ∷ 3 ∷ 1 ∷ []) ∷ visits 8 ∷ bound 61 ∷ sure-arrays (2 ∷ 0 ∷ 0 ∷ 0 ∷ 0 ∷ 0 ∷ []) ∷ [])
+    ∷ accepted ordinaryInside (masks (1 ∷ 1 ∷ 3 ∷ 2 ∷ 1 ∷ 1 ∷ 1 ∷ 1 ∷ 1 ∷ 1 ∷ 3 ∷ 2 ∷ []) ∷ visits 6 ∷ bound 61 ∷ sure-arrays (2 ∷ 0 ∷ 0 ∷ 0 ∷ 0 ∷ 0 ∷ []) ∷ [])
+    ∷ accepted continuationEntered (masks (1 ∷ 1 ∷ 1 ∷ 3 ∷ 2 ∷ 1 ∷ []) ∷ visits 10 ∷ bound 40 ∷ sure-arrays (0 ∷ 1 ∷ 0 ∷ 0 ∷ 0 ∷ 0 ∷ []) ∷ [])
     ∷ []
 
 -- Whether a case is right
@@ -412,10 +523,14 @@ masksOf f = concatMap (λ i. map (maskOf f i) (upTo (f .arrays))) (upTo (size f)
 abbrev pub wordsOf : Flow → (Flow → ℕ → ℕ) → List ℕ
 wordsOf f w = map (w f) (upTo (size f))
 
+abbrev pub sureWord : Flow → ℕ → ℕ
+sureWord f c = sumBelow (f .arrays) (λ a. bitOf (sure f c a) * 2 ^ a)
+
 abbrev pub factHolds : Verdict → Flow → Fact → Bool
 factHolds v f (masks ms) = sameList (masksOf f) ms
 factHolds v f (live-in ws) = sameList (wordsOf f liveInWord) ws
 factHolds v f (live-out ws) = sameList (wordsOf f liveOutWord) ws
+factHolds v f (sure-arrays ws) = sameList (wordsOf f sureWord) ws
 factHolds v f (visits k) = eqb (visitsOf f) k
 factHolds v f (bound k) = eqb (visitBound (doubled f)) k
 factHolds v f (prints ls) = sameList (listing v f) (concatMap bytes ls)

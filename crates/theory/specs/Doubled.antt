@@ -12,6 +12,7 @@ use Rattle.flow.specs.declared.Base.the-variants.{Zero, N}
 use Rattle.flow.specs.Flow.{Flow, Kind, Item, size}
 use Rattle.theory.specs.Lists.{any, elem, select, upTo}
 use Rattle.theory.specs.Body.{kind, successors, references, continuationOf, entered, callees, isReturn, walked, opaqueCall, callTouches}
+use Rattle.theory.specs.Sure.{sure}
 use Rattle.theory.specs.Queue.{Arc, Graph}
 
 -- a doubled number: a statement in base 0 or in base n. A statement number is no doubled number
@@ -79,7 +80,7 @@ once [] = []
 once (e ∷ es) = e ∷ select (λ x. not (sameNode (x .to) (e .to))) (once es)
 
 -- a call that is not opaque, with the continuation k: to n + each entered statement, in listed order; to base + continuation; to base + each listed
--- successor that is neither entered nor the continuation; each once. The edge to base + continuation carries the touched step, also where it is an entered one
+-- successor that is neither entered nor the continuation; each once. The edge to base + continuation carries the call's step, also where it is an entered one
 unfoldable pub callEdges : Flow → Base → ℕ → ℕ → List Edge
 callEdges f b i k =
     once (map (λ v. record { to = v; continues = sameNode v (at b k) })
@@ -124,9 +125,17 @@ kindEffects (Kind.onGosub ls c) a = []
 unfoldable pub statementEffects : Flow → ℕ → ℕ → List Effect
 statementEffects f i a = cond (elem a (references f i)) (Reference ∷ []) [] ++ kindEffects (kind f i) a
 
--- the effect of an edge of statement i on array a: the statement's, then the touched step on the edge to base + continuation
+-- the edge goes to n + a statement that statement i enters
+unfoldable pub entering : Flow → ℕ → Edge → Bool
+entering f i e = any (λ b. sameNode (e .to) (at N b)) (entered f i)
+
+-- the step on the edge to base + continuation (request E2): a sure array takes that of a reference, unless the edge is also one to an entered statement; any other touched array takes the touched step
+unfoldable pub continuationEffects : Flow → ℕ → Edge → ℕ → List Effect
+continuationEffects f i e a = cond (sure f i a && not (entering f i e)) (Reference ∷ []) (cond (callTouches f i a) (Touched ∷ []) [])
+
+-- the effect of an edge of statement i on array a: the statement's, then on the edge to base + continuation that of the call
 unfoldable pub edgeEffects : Flow → ℕ → Edge → ℕ → List Effect
-edgeEffects f i e a = statementEffects f i a ++ cond ((e .continues) && callTouches f i a) (Touched ∷ []) []
+edgeEffects f i e a = statementEffects f i a ++ cond (e .continues) (continuationEffects f i e a) []
 
 -- every array is NONE at the entry
 unfoldable pub boundary : Flow → ℕ → ℕ

@@ -4,6 +4,7 @@ pub mod Row
 pub mod Inserted
 pub mod Rewritten
 pub mod Joined
+pub mod Pair
 pub mod Unioned
 pub mod Lowest
 pub mod Zeroed

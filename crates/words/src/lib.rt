@@ -4,8 +4,8 @@ ghost use mathlib.Core.Path.{_≡_};
 ghost use Prim.Native.Nat.{_+_, _-_, _*_, _/_, _^_, _≤_, _<_, min};
 ghost use lib.Dec.{eqb};
 ghost use lib.ListN.{length};
-ghost use Rattle.words.specs.contracts.Row.{has, members, nextMember};
-ghost use Rattle.words.specs.contracts.Change.{Joined, Inserted, removed, Unioned, zeroed, without, Chosen};
+ghost use Rattle.words.specs.contracts.Row.{has, members, nextMember, SomeMember};
+ghost use Rattle.words.specs.contracts.Change.{Joined, PairJoined, Inserted, removed, Unioned, zeroed, without, Chosen};
 
 pub fn contains(ws: &[u64], base: usize, i: usize) -> bool
     requires { ⌜ base + i / 64 < length (now ws) ⌝ }
@@ -23,6 +23,16 @@ pub fn union_word(ws: &mut [u64], at: usize, bits: u64) -> bool
     let joined = old | bits;
     ws[at] = joined;
     joined != old
+}
+
+// Two words joined to those from `at` on. Says whether one of them grew.
+pub fn union_pair(ws: &mut [u64], at: usize, low: u64, high: u64) -> bool
+    requires { ⌜ at + 2 ≤ length (now ws) ⌝ }
+    ensures { λ r. ⌜ PairJoined (now (ws .entry)) (now (ws .exit)) at low high r ⌝ }
+{
+    let first = union_word(ws, at, low);
+    let second = union_word(ws, at + 1, high);
+    first | second
 }
 
 // Says whether i is new.
@@ -155,4 +165,16 @@ pub fn next(ws: &[u64], base: usize, from: usize, bound: usize) -> usize
         return forward(from, u64::trailing_zeros(rest) as usize, bound);
     }
     next_by_word(ws, base, from / 64 + 1, bound)
+}
+
+// A member below `bound`: the first one from `from` on, or else from 0 on; `bound` if there is none.
+pub fn next_around(ws: &[u64], base: usize, from: usize, bound: usize) -> usize
+    requires { ⌜ (base + (bound + 63) / 64 ≤ length (now ws)) × (from ≤ bound) ⌝ }
+    ensures { λ r. ⌜ SomeMember (now (ws .entry)) base bound r ⌝ }
+{
+    let later = next(ws, base, from, bound);
+    if later < bound {
+        return later;
+    }
+    next(ws, base, 0, bound)
 }

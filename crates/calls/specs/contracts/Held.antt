@@ -12,8 +12,9 @@ use Rattle.flow.specs.Limits.{maxStatements, workWords}
 use Rattle.theory.specs.Lists as lists
 use Rattle.theory.specs.Lists.{In, any, upTo}
 use Rattle.theory.specs.Body.{kind, continuationOf, isReturn, callees, entered, Walks, opaqueCall, callTouches}
+use Rattle.theory.specs.Sure.{sure}
 use Rattle.theory.specs.Doubled.{returnsTo}
-use Rattle.statements.specs.contracts.Layout.{callsAt, callTouchedAt, bodiesAt, matrixAt, rowAt, rowWords, queueAt, enteredRowAt}
+use Rattle.statements.specs.contracts.Layout.{sureAt, callsAt, callTouchedAt, bodiesAt, matrixAt, rowAt, rowWords, queueAt, enteredRowAt}
 use Rattle.statements.specs.contracts.Ready.{MembersWord}
 use Rattle.calls.specs.contracts.Orders.{several, OrderOf}
 
@@ -69,6 +70,7 @@ pub record CallSummaries (f : Flow) (ws : List ℕ) (n : ℕ) : Type 0 where
   pub ordinary : (c : ℕ) → c < n → continuationOf (kind f c) ≡ none → getD ws (callsAt n + c) 0 ≡ unentered
   pub call : (c k : ℕ) → c < n → continuationOf (kind f c) ≡ some k → getD ws (callsAt n + c) 0 ≡ cond (opaqueCall f c) opaque transparent
   pub touched : (c : ℕ) → c < n → getD ws (callsAt n + c) 0 ≡ transparent → MembersWord (getD ws (callTouchedAt n + c) 0) (callTouches f c)
+  pub sure : (c : ℕ) → c < n → getD ws (callsAt n + c) 0 ≡ transparent → MembersWord (getD ws (sureAt n + c) 0) (sure f c)
 
 -- the summaries, and the walks of the bodies that the calls enter
 pub record Summarized (f : Flow) (ws : List ℕ) (n : ℕ) : Type 0 where

@@ -1,4 +1,4 @@
--- `certain::solve` meets its contract. The invariant: the law's, and i is the next statement that waits, or n if none does. The measure: what may still be done.
+-- `certain::solve` meets its contract. The invariant: the law's, and i is a statement that waits, or n if none does. The measure: what may still be done.
 -- Assumes nothing.
 use denote.Ref.{now}
 use mathlib.Core.Path.{_∙_}
@@ -7,7 +7,7 @@ use native.Mathlib.Omega.{arith}
 use Rattle.flow.specs.Format.{flowOf}
 use Rattle.statements.proofs.Keeps.{ready-most, ready-size, ready-keeps, keeps-trans}
 use Rattle.certain.specs.contracts.Unwritten.{left}
-use Rattle.certain.proofs.Visiting.{area-room}
+use Rattle.certain.proofs.Visiting.{area-room, waiting-room}
 use Rattle.certain.proofs.Solution.{Solving, solving-first, solving-more, solved}
 use Rattle.certain.proofs.solve.Statement.{statement}
 use Rattle.certain.proofs.solve.Tie as tie
@@ -27,18 +27,21 @@ loop-holds c = solving-first (flowOf (now (c .before .before .before .before .be
 visit-requires : tie.Need-visit-requires Inv-loop μ-loop
 visit-requires c κs = (ready-keeps (c .before .before .before .before .before .before .before .before .before .pre .ready) (keeps-trans (c .before .before .before .before .before .begin .ensures .kept) (c .before .before .loop .inv .kept)) (le-refl _), omega arith)
 
-next-waiting-requires : tie.Need-next-waiting-requires Inv-loop μ-loop
-next-waiting-requires c κs =
-    let start = c .before .before .before .before .before .before .before .before .before .before .before .before .before .pre in
+waiting-requires : tie.Need-waiting-requires Inv-loop μ-loop
+waiting-requires c κs = ready-most (c .before .before .before .before .before .before .before .before .before .before .before .before .before .pre .ready)
+
+next-around-requires : tie.Need-next-around-requires Inv-loop μ-loop
+next-around-requires c κs =
+    let start = c .before .before .before .before .before .before .before .before .before .before .before .before .before .before .pre in
     let room = area-room (start .ready) (omega (arith, start .small)) in
-    let inv = c .before .before .before .before .before .before .loop .inv in
-    (ready-most (start .ready), omega (arith, room, c .before .before .before .before .before .before .before .before .before .begin .ensures .kept .size, inv .kept .size, c .before .before .before .visit .ensures .kept .size), inv .next .high)
+    let inv = c .before .before .before .before .before .before .before .loop .inv in
+    (waiting-room (c .before .before .before .before .before .before .before .before .before .before .before .before .before .before .args .n) (c .waiting .ensures) (omega (arith, room, c .before .before .before .before .before .before .before .before .before .before .begin .ensures .kept .size, inv .kept .size, c .before .before .before .before .visit .ensures .kept .size)), inv .next .high)
 
 loop-less : tie.Need-loop-less Inv-loop μ-loop
-loop-less c = c .before .before .before .before .visit .ensures .falls (c .before .before .before .before .before .before .before .loop .inv .next .waits (omega arith))
+loop-less c = c .before .before .before .before .before .visit .ensures .falls (c .before .before .before .before .before .before .before .before .loop .inv .next .member (omega arith))
 
 loop-again : tie.Need-loop-again Inv-loop μ-loop
-loop-again c = solving-more (c .before .before .before .before .before .before .before .loop .inv) (c .before .before .before .before .visit .ensures) (c .next-waiting .ensures)
+loop-again c = solving-more (c .before .before .before .before .before .before .before .before .loop .inv) (c .before .before .before .before .before .visit .ensures) (c .before .waiting .ensures) (c .next-around .ensures)
 
 same-length : tie.Need-same-length Inv-loop μ-loop
 same-length c = c .before .loop .inv .kept .size ∙ c .before .before .before .before .begin .ensures .kept .size
@@ -55,7 +58,8 @@ solve-spec =
     begin-requires
     loop-holds
     visit-requires
-    next-waiting-requires
+    waiting-requires
+    next-around-requires
     loop-less
     loop-again
     same-length

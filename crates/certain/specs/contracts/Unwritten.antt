@@ -12,12 +12,12 @@ use Rattle.theory.specs.Live.{writes}
 use Rattle.theory.specs.Certain.{Unwritten}
 use Rattle.statements.specs.contracts.Layout.{rowWords}
 use Rattle.statements.specs.contracts.Ready.{Keeps}
-use Rattle.solve.specs.contracts.Sets.{Problem, Solving, Joins, Follows}
+use Rattle.solve.specs.contracts.Sets.{Problem, takingAll, Solving, Joins, Follows}
 use Rattle.certain.specs.contracts.Layout.{setAt, waitingAt, waitingEnd, elements}
 
 -- what leaves statement j comes to its successors; nothing is given on the way, and a write takes a name away
 abbrev pub forward : Flow → Problem
-forward f = record { edge = λ i j. In i (successors f j); starts = λ i x. i ≡ f .entry; gives = λ j x. ⊥; passes = λ j x. writes f j x ≡ false }
+forward f = takingAll (λ i j. In i (successors f j)) (λ i x. i ≡ f .entry) (λ j x. ⊥) (λ j x. writes f j x ≡ false)
 
 abbrev pub sets : List ℕ → ℕ → ℕ → ℕ → ℕ
 sets ws n i x = has ws (setAt n i) x
@@ -52,12 +52,6 @@ pub record Visited (f : Flow) (ws vs : List ℕ) (n i : ℕ) : Type 0 where
   pub held : Held f ws n → Held f vs n
   pub falls : Waits ws n i → left vs n < left ws n
   pub kept : Keeps n (waitingEnd n) ws vs
-
--- r waits, or it is n and nothing waits
-pub record NextWaiting (ws : List ℕ) (n r : ℕ) : Type 0 where
-  pub high : r ≤ n
-  pub waits : r < n → Waits ws n r
-  pub none : n ≤ r → (k : ℕ) → k < n → Waits ws n k → ⊥
 
 -- the entry has every element and waits; no other statement has any
 pub record Begun (ws vs : List ℕ) (n entry : ℕ) : Type 0 where

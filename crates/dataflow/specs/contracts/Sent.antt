@@ -23,7 +23,7 @@ use Rattle.solve.specs.contracts.Rows.{maskAt}
 use Rattle.solve.specs.contracts.Waiting.{Waits}
 use Rattle.solve.specs.contracts.Pushed.{masksAt}
 
--- where the row of a call's edge stands: that of the statement's act, or the one with the touched step as well
+-- where the row of a call's edge stands: that of the statement's act, or the one with the call's own step as well
 abbrev pub edgeRow : ℕ → ℕ → Bool → ℕ
 edgeRow n w continues = cond continues (backRow n w) (outRow n w)
 

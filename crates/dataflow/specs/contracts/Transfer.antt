@@ -1,16 +1,21 @@
 -- "At a statement, a reference turns NONE into AUTO and keeps other states; then DIM with flag 1 makes its array's mask DIMMED, CLR and RUN make all masks NONE":
 -- what the masks of a row become, array by array, and the sets of arrays by which a row steps. Assumes nothing.
 use Prim.Native.Nat.{ℕ, _+_, _*_, _<_, _≤_, max}
-use mathlib.Core.Bool.{Bool, cond}
+use mathlib.Core.Bool.{Bool, false, cond, _&&_}
 use mathlib.Core.List.{List}
 use mathlib.Core.Logic.{_⊎_}
+use mathlib.Core.Option.{Option, none, some}
 use mathlib.Core.Path.{_≡_}
 use lib.Dec.{ltb}
 use lib.ListN.{length, getD}
 use Rattle.words.specs.contracts.Row.{has}
 use Rattle.masks.specs.declared.Effect.{Effect}
+use Rattle.flow.specs.declared.Base.{Base}
+use Rattle.flow.specs.declared.Base.the-variants.{N}
 use Rattle.flow.specs.Flow.{Flow}
-use Rattle.theory.specs.Doubled.{statementEffects}
+use Rattle.theory.specs.Lists.{elem}
+use Rattle.theory.specs.Body.{kind, continuationOf, entered}
+use Rattle.theory.specs.Doubled.{sameBase, statementEffects}
 use Rattle.theory.specs.Queue.{stepAll}
 use Rattle.statements.specs.contracts.Ready.{Keeps}
 use Rattle.solve.specs.contracts.Layout.{setRow, maskRowAt}
@@ -44,6 +49,15 @@ pub record RowSteps (ws vs : List ℕ) (w set to from : ℕ) (p : ℕ → Bool) 
 -- each array below the count takes its effects, one after the other; the masks from there on stay
 unfoldable pub acted : ℕ → (ℕ → List Effect) → (ℕ → ℕ) → ℕ → ℕ
 acted count effects m a = cond (ltb a count) (stepAll (effects a) (m a)) (m a)
+
+-- the continuation of a call is a statement that it enters
+abbrev pub isEntered : Flow → ℕ → Option ℕ → Bool
+isEntered f i none = false
+isEntered f i (some k) = elem k (entered f i)
+
+-- the edge to base + the continuation of the call i is also one to n + an entered statement
+abbrev pub entersAgain : Flow → Base → ℕ → Bool
+entersAgain f b i = sameBase b N && isEntered f i (continuationOf (kind f i))
 
 -- the act of statement i on the masks of d is in the row at `row`
 pub record Acted (f : Flow) (ws vs : List ℕ) (n w d i row : ℕ) : Type 0 where

@@ -15,13 +15,13 @@ use Rattle.theory.specs.Body.{successors}
 use Rattle.theory.specs.Live.{reads, writes, LiveIn, LiveOut}
 use Rattle.statements.specs.contracts.Ready.{Keeps}
 use Rattle.solve.specs.declared.Queue.{Queue}
-use Rattle.solve.specs.contracts.Sets.{Problem}
+use Rattle.solve.specs.contracts.Sets.{Problem, takingAll}
 use Rattle.solve.specs.contracts.Waiting.{Waits, KeepsRest}
 use Rattle.live.specs.contracts.Spread.{missing}
 
 -- what leaves statement j comes to its predecessors' live-out: the names that it reads, and those of its own live-out that it does not write
 abbrev pub backward : Flow → Problem
-backward f = record { edge = λ i j. In j (successors f i); starts = λ i x. ⊥; gives = λ j x. reads f j x ≡ true; passes = λ j x. writes f j x ≡ false }
+backward f = takingAll (λ i j. In j (successors f i)) (λ i x. ⊥) (λ j x. reads f j x ≡ true) (λ j x. writes f j x ≡ false)
 
 -- live-in of statement j, from a live-out
 abbrev pub transfer : Flow → ℕ → ℕ → ℕ

@@ -1,8 +1,9 @@
 -- Rows of masks, each three sets of arrays of w words, NONE first, then AUTO, then DIMMED: the mask of an array, what a row of the slice becomes where nothing else
 -- changes, and masks of which some arrays take an effect. Assumes nothing.
-use Prim.Native.Nat.{ℕ, _+_, _*_, _<_}
+use Prim.Native.Nat.{ℕ, _+_, _*_, _<_, _≤_}
 use mathlib.Core.Bool.{Bool, cond}
 use mathlib.Core.List.{List}
+use mathlib.Core.Logic.{_⊎_}
 use mathlib.Core.Path.{_≡_}
 use lib.Dec.{eqb}
 use lib.ListN.{getD, set}
@@ -20,6 +21,10 @@ maskAt ws w row a = maskOf (has ws row a) (has ws (row + w) a) (has ws (row + 2 
 pub record RowIs (ws vs : List ℕ) (w row : ℕ) (m : ℕ → ℕ) : Type 0 where
   pub keeps : Keeps row (row + 3 * w) ws vs
   pub masks : (a : ℕ) → a < 64 * w → maskAt vs w row a ≡ m a
+
+-- two rows lie apart, or they are one
+abbrev pub Beside : ℕ → ℕ → ℕ → Type 0
+Beside w to from = ((to + 3 * w ≤ from) ⊎ (from + 3 * w ≤ to)) ⊎ (to ≡ from)
 
 -- the arrays that pass the test take the effect
 unfoldable pub stepWhere : (ℕ → Bool) → Effect → (ℕ → ℕ) → ℕ → ℕ

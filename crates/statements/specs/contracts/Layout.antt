@@ -1,4 +1,4 @@
--- The work area of a flow of n statements: offsets, parts of the lines, calls, bodies, the matrix of statement sets, the lists of what calls enter, the queue, the row of entered statements,
+-- The work area of a flow of n statements: offsets, parts of the lines, sure arrays, calls, bodies, the matrix of statement sets, the lists of what calls enter, the queue, the row of entered statements,
 -- and the words of the solver, whose layout is crate solve's. The matrix has n rows of `rowWords n` words; all fits into 64 × n words. Each phase writes one run of words, so that
 -- what it keeps is an interval.
 use Prim.Native.Nat.{ℕ, _+_, _-_, _*_, _/_}
@@ -10,20 +10,23 @@ offsetsAt n = 0
 abbrev pub linesAt : ℕ → ℕ
 linesAt n = n
 
+abbrev pub sureAt : ℕ → ℕ
+sureAt n = 2 * n
+
 abbrev pub callsAt : ℕ → ℕ
-callsAt n = 2 * n
+callsAt n = 3 * n
 
 abbrev pub callTouchedAt : ℕ → ℕ
-callTouchedAt n = 3 * n
+callTouchedAt n = 4 * n
 
 abbrev pub bodiesAt : ℕ → ℕ
-bodiesAt n = 4 * n
+bodiesAt n = 5 * n
 
 abbrev pub touchedAt : ℕ → ℕ
-touchedAt n = 5 * n
+touchedAt n = 6 * n
 
 abbrev pub matrixAt : ℕ → ℕ
-matrixAt n = 6 * n
+matrixAt n = 7 * n
 
 -- words of a row of statements
 unfoldable pub rowWords : ℕ → ℕ
@@ -41,9 +44,9 @@ rowAt n i = rowsEnd n i
 abbrev pub listsAt : ℕ → ℕ
 listsAt n = rowsEnd n n
 
--- the lists have what the matrix leaves of 42 × n words, less seven: the solver needs these besides its words for each statement
+-- the lists have what the matrix leaves of 41 × n words, less seven: the solver needs these besides its words for each statement
 unfoldable pub listWords : ℕ → ℕ
-listWords n = 42 * n - 7 - rowWords n * n
+listWords n = 41 * n - 7 - rowWords n * n
 
 abbrev pub queueAt : ℕ → ℕ
 queueAt n = listsAt n + listWords n

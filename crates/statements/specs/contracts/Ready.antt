@@ -11,10 +11,11 @@ use Rattle.flow.specs.contracts.Answers.{headerOf}
 use Rattle.flow.specs.Flow.{Flow, Item, statement, items}
 use Rattle.words.specs.contracts.Row.{bit}
 use Rattle.flow.specs.Limits.{workWords}
-use Rattle.flow.specs.Format.{flowOf, tabulate, statementsOf, lineCount, recordPlace, kindReturn, kindClr, kindRun, kindAt, successorCount, successorAt, referenceCount, referenceAt, writtenAt, readAt, itemAt}
+use Rattle.flow.specs.Format.{flowOf, tabulate, statementsOf, lineCount, recordPlace, kindReturn, kindClr, kindRun, kindGosub, kindAt, successorCount, successorAt, referenceCount, referenceAt, writtenAt, readAt, itemAt}
 use Rattle.flow.specs.contracts.Answers.{FitFile, FitRecord}
 use Rattle.records.specs.contracts.Fields.{notedWord, LineParts, itemCount, callLineCount, callLineAt, continuationIn}
 use Rattle.theory.specs.Body.{kind, successors, references, callLines, continuationOf, isReturn}
+use Rattle.theory.specs.Sure.{isGosub}
 use Rattle.theory.specs.Doubled.{resets}
 use Rattle.statements.specs.contracts.Layout.{offsetsAt, linesAt}
 
@@ -42,6 +43,7 @@ pub record RecordOf (s : List ℕ) (i p : ℕ) : Type 0 where
   pub fit : FitRecord s p
   pub return : eqb (kindAt s p) kindReturn ≡ isReturn (kind (flowOf s) i)
   pub resets : (eqb (kindAt s p) kindClr || eqb (kindAt s p) kindRun) ≡ resets (kind (flowOf s) i)
+  pub gosub : eqb (kindAt s p) kindGosub ≡ isGosub (kind (flowOf s) i)
   pub successors : Elements (successors (flowOf s) i) (successorCount s p) (successorAt s p)
   pub references : Elements (references (flowOf s) i) (referenceCount s p) (referenceAt s p)
   pub written : statement (flowOf s) i .written ≡ writtenAt s p

@@ -19,6 +19,11 @@ pub record Joined (ws vs : List ℕ) (at bits : ℕ) (r : Bool) : Type 0 where
   pub slice : vs ≡ joined ws at bits
   pub grew : r ≡ not (eqb (bitOr (getD ws at 0) bits) (getD ws at 0))
 
+-- vs is ws with two words joined to those from `at` on; r says whether one of them grew
+pub record PairJoined (ws vs : List ℕ) (at low high : ℕ) (r : Bool) : Type 0 where
+  pub slice : vs ≡ joined (joined ws at low) (at + 1) high
+  pub grew : r ≡ (not (eqb (bitOr (getD ws at 0) low) (getD ws at 0)) || not (eqb (bitOr (getD ws (at + 1) 0) high) (getD ws (at + 1) 0)))
+
 unfoldable pub inserted : List ℕ → ℕ → ℕ → List ℕ
 inserted ws base i = joined ws (base + i / 64) (2 ^ (i % 64))
 

@@ -37,6 +37,12 @@ seek ws base i (suc d) = cond (eqb (has ws base i) 1) i (seek ws base (i + 1) d)
 unfoldable pub nextMember : List ℕ → ℕ → ℕ → ℕ → ℕ
 nextMember ws base from bound = seek ws base from (bound - from)
 
+-- r is a member of the row below `bound`, or `bound` if there is none
+pub record SomeMember (ws : List ℕ) (base bound r : ℕ) : Type 0 where
+  pub high : r ≤ bound
+  pub member : r < bound → has ws base r ≡ 1
+  pub none : bound ≤ r → (j : ℕ) → j < bound → has ws base j ≡ 0
+
 -- r is the first member of the row from `from` on and below `bound`, or `bound`
 pub record First (ws : List ℕ) (base from bound r : ℕ) : Type 0 where
   pub low : from ≤ r

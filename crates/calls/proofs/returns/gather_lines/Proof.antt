@@ -36,7 +36,7 @@ add-lines-requires c κs =
     let n = start .args .h .statements in
     let kept = c .before .before .before .zero-row .ensures .1 in
     let low : callsAt n ≤ row .entered-row .result = omega (arith, row .entered-row .ensures, row-from n n) in (
-      indexed-keeps (p .0) kept low,
+      indexed-keeps (p .0) kept (omega arith),
       p .1,
       record { low = low; high = omega (arith, inside row, kept .size); apart = λ w. omega (arith, row .entered-row .ensures) },
       λ w. rows-stay (start .args .c .0) (ready-formed (p .0 .ready)) (ready-size (p .0 .ready)) kept (omega (arith, row .entered-row .ensures)) (p .2),

@@ -36,7 +36,7 @@ add-line-requires c κs =
     let p = start .pre in
     let ready = p .0 .ready in
     let added = c .before .before .loop .inv .1 in (
-      indexed-keeps (p .0) (added .kept) (p .2 .low),
+      indexed-keeps (p .0) (added .kept) (omega (arith, p .2 .low)),
       p .1,
       omega (arith, c .before .before .before .line-count .ensures),
       adds-target added (p .2),

@@ -59,7 +59,7 @@ add-lines-requires c κs =
     let n = start .args .h .statements in
     let kept = c .before .before .before .zero-row .ensures .1 in
     let low : callsAt n ≤ row .row .result = omega (arith, row .row .ensures, row-from n (start .args .i .0)) in
-    (indexed-keeps (start .pre .0) kept low, start .pre .1, record { low = low; high = omega (arith, inside row, kept .size); apart = λ w. clash false w refl }, λ w. clash false w refl)
+    (indexed-keeps (start .pre .0) kept (omega arith), start .pre .1, record { low = low; high = omega (arith, inside row, kept .size); apart = λ w. clash false w refl }, λ w. clash false w refl)
 
 same-length : tie.Need-same-length
 same-length c = search needs

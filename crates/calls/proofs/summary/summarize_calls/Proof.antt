@@ -1,66 +1,39 @@
--- `calls::summary::summarize_calls` meets its contract. The invariant: the calls below c have their summaries, and no body is open.
--- So in the end each call's state is that of the definitions.
-use Prim.Native.Nat.{_-_}
+-- `calls::summary::summarize_calls` meets its contract: the sure arrays are noted below the summaries, which leave them.
+-- Assumes nothing.
+use Prim.Native.Nat.{ℕ}
+use mathlib.Core.List.{List}
+use mathlib.Core.Path.{_∙_}
+use native.Mathlib.Nat.{le-refl}
 use native.Mathlib.Omega.{arith}
-use denote.Ref.{now}
-use Rattle.words.specs.contracts.Row.{Words}
-use Rattle.flow.specs.Format.{flowOf}
-use Rattle.statements.proofs.Keeps.{indexed-keeps, ready-most, ready-size, ready-formed}
-use Rattle.calls.proofs.Checked.{located}
-use Rattle.calls.proofs.Summaries.{SummedBelow, below-first, below-next, summarized, fresh-summing, fresh-shut}
+use Rattle.flow.specs.Flow.{Flow}
+use Rattle.statements.specs.contracts.Layout.{sureAt, queueAt}
+use Rattle.statements.specs.contracts.Ready.{Keeps}
+use Rattle.statements.proofs.Keeps.{keeps-trans, keeps-widen, indexed-keeps}
+use Rattle.sure.specs.contracts.SureArrays.{SureNoted}
+use Rattle.calls.specs.contracts.Held.{NoSummaries}
+use borrow.Author.Needs.{needs}
 use Rattle.calls.proofs.summary.summarize_calls.Statement.{statement}
 use Rattle.calls.proofs.summary.summarize_calls.Tie as tie
 
-abbrev Inv-loop : tie.InvT-loop
-Inv-loop file h work₀ n c₀ work c = SummedBelow (flowOf file) work₀ work n c × Words work
+sure-arrays-requires : tie.Need-sure-arrays-requires
+sure-arrays-requires c κs = search needs
 
-abbrev μ-loop : tie.MeasureT-loop
-μ-loop file h work₀ n c₀ work c = n - c
+-- what noting the sure arrays leaves
+sure-keeps : {f : Flow} {ws vs : List ℕ} {n : ℕ} → SureNoted f ws vs n → Keeps (sureAt n) (queueAt n) ws vs
+sure-keeps x = record { size = x .size; below = x .below; above = x .above }
 
-loop-holds : tie.Need-loop-holds Inv-loop μ-loop
-loop-holds c = (below-first (fresh-summing (c .before .before .pre .1) (flowOf (now (c .before .before .args .file)))), λ x. c .slice-known .given x .fits)
+fresh-still : {f : Flow} {ws vs : List ℕ} {n : ℕ} → SureNoted f ws vs n → NoSummaries ws n → NoSummaries vs n
+fresh-still x z = record { words = λ y l m. x .between y l m ∙ z .words y l m }
 
-call-summary-requires : tie.Need-call-summary-requires Inv-loop μ-loop
-call-summary-requires c κs =
-    let s = c .before .before .before .before .before in
-    let p = c .before .before .loop .inv .0 in
-    let e = s .pre .0 .ready .count in (
-      located (indexed-keeps (s .pre .0) (p .onward .keeps) (omega arith)),
-      rw (← e) (c .before .loop-test .taken),
-      rw (← e) (p .summing),
-      λ b m. rw (← e) (λ o l q. absurd (fresh-shut (s .pre .1) o l (p .onward .was-open o l (λ z. omega arith) q))),
-    )
+summarize-each-requires : tie.Need-summarize-each-requires
+summarize-each-requires c κs = let pre = c .before .before .before .before .before .before .before .pre in let x = c .before .before .before .sure-arrays .ensures in (indexed-keeps (pre .0) (sure-keeps x) (le-refl _), fresh-still x (pre .1), x .sure)
 
-add-c : tie.Need-add-c Inv-loop μ-loop
-add-c c = omega (arith, c .before .before .before .before .loop-test .taken, ready-most (c .before .before .before .before .before .before .before .before .pre .0 .ready))
+same-length : tie.Need-same-length
+same-length c = search needs
 
-loop-less : tie.Need-loop-less Inv-loop μ-loop
-loop-less c = omega (arith, c .before .before .before .before .loop-test .taken)
-
-loop-again : tie.Need-loop-again Inv-loop μ-loop
-loop-again c =
-    let again = rw (← c .before .before .before .before .before .before .before .before .pre .0 .ready .count) at (c .before .before .call-summary .ensures) in
-    (below-next (c .before .before .before .before .before .loop .inv .0) (c .before .before .before .before .loop-test .taken) again, λ x. c .slice-known2 .given x .fits)
-
-same-length : tie.Need-same-length Inv-loop μ-loop
-same-length c = c .before .loop .inv .0 .onward .keeps .size
-
-returns : tie.Need-returns Inv-loop μ-loop
-returns c =
-    let r = c .before .before .before .before .pre .0 .ready in
-    let p = c .before .loop .inv in
-    (summarized (ready-formed r) (ready-size r) (p .1) (p .0) (c .loop-test .left), p .0 .onward .keeps)
+returns : tie.Need-returns
+returns c = let each = c .before .before .summarize-each .ensures in (each .0, keeps-trans (keeps-widen (le-refl _) (omega arith) (sure-keeps (c .before .before .before .before .before .before .sure-arrays .ensures))) (keeps-widen (omega arith) (le-refl _) (each .1)))
 
 pub summarize-calls-spec : {M : Type 1} → statement M
 summarize-calls-spec =
-    tie.close
-    (tie.spec
-    Inv-loop
-    μ-loop
-    loop-holds
-    call-summary-requires
-    add-c
-    loop-less
-    loop-again
-    same-length
-    returns)
+    tie.close (tie.spec sure-arrays-requires summarize-each-requires same-length returns)

@@ -10,7 +10,7 @@ use Rattle.flow.specs.Format.{lineCount}
 use Rattle.records.specs.contracts.Fields.{PartsNoted}
 use Rattle.records.proofs.Files.{limited}
 use Rattle.statements.specs.contracts.Layout.{linesAt}
-use Rattle.dataflow.proofs.Phases.{room-fits, lines-unused, lines-room, noted-indexed, no-summaries, summed}
+use Rattle.dataflow.proofs.Phases.{room-fits, lines-unused, lines-room, noted-indexed, no-summaries, no-sure, summed}
 use Rattle.dataflow.proofs.door.summarize.Statement.{statement}
 use Rattle.dataflow.proofs.door.summarize.Tie as tie
 
@@ -56,7 +56,7 @@ summarize-calls-requires : tie.Need-summarize-calls-requires
 summarize-calls-requires c κs =
     let cleared = c .before .before .before .before .before .before .before .before .before .before .before .before .clear .ensures in
     let noted = c .before .before .before .before .before .before .before .before .note-offsets .ensures in
-    (noted-indexed (start c .pre) cleared noted (parts c), no-summaries (start c .pre) cleared noted (parts c))
+    (noted-indexed (start c .pre) cleared noted (parts c), no-summaries (start c .pre) cleared noted (parts c), no-sure (start c .pre) cleared noted (parts c))
 
 same-length : tie.Need-same-length
 same-length c = search needs

@@ -1,14 +1,13 @@
 -- `solve::rows::step_members` meets its contract. The invariant: the first k words of the row have stepped; one word is a step from none to all of them.
 -- The measure is what is left of the width.
-use Prim.Native.Nat.{ℕ, _-_, _+_, _*_, _≤_}
+use Prim.Native.Nat.{ℕ, _-_}
 use mathlib.Core.List.{List}
-use mathlib.Core.Logic.{_⊎_}
 use mathlib.Core.Path.{_≡_, refl, sym, subst}
 use native.Mathlib.Nat.{add-zero}
 use native.Mathlib.Omega.{arith}
 use denote.Ref.{now}
 use lib.ListN.{getD}
-use Rattle.solve.specs.contracts.Rows.{RowIs, WordStepped, maskAt, stepWhere, member}
+use Rattle.solve.specs.contracts.Rows.{RowIs, Beside, WordStepped, maskAt, stepWhere, member}
 use Rattle.solve.proofs.Stepping.{Stepping, stepping-none, stepping-more, stepping-all}
 use borrow.Author.Needs.{needs}
 use Rattle.solve.proofs.rows.step_members.Statement.{statement}
@@ -39,7 +38,7 @@ returns c =
     let ws : List ℕ = now (a .work) in
     let one : a .width ≡ 1 = c .before .before .before .before .before .if1 .taken in
     let word = subst (λ (x : ℕ). WordStepped ws (c .before .before .step-word .last .0) 1 (a .to) (a .from) 0 (getD ws x 0) (a .effect)) (sym (add-zero (a .set))) (c .before .before .step-word .ensures) in
-    let apart = subst (λ (w : ℕ). (a .to + 3 * w ≤ a .from) ⊎ (a .from + 3 * w ≤ a .to)) one (s .pre .4) in
+    let apart = subst (λ (w : ℕ). Beside w (a .to) (a .from)) one (s .pre .4) in
     subst (λ (w : ℕ). RowIs ws (c .before .before .step-word .last .0) w (a .to) (stepWhere (member ws (a .set)) (a .effect) (maskAt ws w (a .from)))) (sym one)
     (stepping-all (stepping-more stepping-none (omega arith) (omega (arith, s .pre .1)) (omega (arith, s .pre .2)) apart word) refl)
 

@@ -1,0 +1,5 @@
+-- What the functions of this crate promise one another and their callers. No promise of a door cites it.
+pub mod Layout
+pub mod Noting
+pub mod Missing
+pub mod SureArrays
