@@ -25,7 +25,8 @@ uint64_t yarnuskel_check(const uint8_t *file, size_t file_length, uint64_t *plac
 
 /* Answers a flow file. Returns 0 where it is accepted: the mask of an array at a statement is then
    masks[statement * arrays + array], bit i of live_in[statement] says that name i is live when the
-   statement starts, the work area is zero, *place is 0 and *visits the count of visits.
+   statement starts, the work area is zero, *place is 0 and *visits the count of visits. Where the flow has
+   an interrupt key (record FK) whose handler's body is opaque, every mask is 7 and *visits 0.
    Else returns the refusal's number, with its place in *place, and leaves every area as it was.
    Lengths count elements. No pointer may be null, even with length 0, and no two areas overlap. */
 uint64_t yarnuskel_states(const uint8_t *file, size_t file_length,
@@ -38,7 +39,7 @@ uint64_t yarnuskel_states(const uint8_t *file, size_t file_length,
 /* Answers a flow file with the names that are certainly written: some statement writes the name, and every
    statement that reads it is reached and has a write of it earlier on each walk from the entry over the
    listed successors. Returns 0 where the file is accepted: bit i of *certain says that name i is such a
-   name, *place is 0 and the whole work area is zero.
+   name, *place is 0 and the whole work area is zero. In a flow with an interrupt key (record FK) no name is.
    Else returns the refusal's number, with its place in *place; *certain is then 0, and the work area is as it
    was. The work area is the only one lent: it is too short (number 10, place 0) with fewer than
    YARNUSKEL_WORK_WORDS * n words.

@@ -8,6 +8,8 @@ use crate::flow::{self, Flow, Kind, Refusal, WORK_WORDS};
 pub const NONE: u8 = 1;
 pub const AUTO: u8 = 2;
 pub const DIMMED: u8 = 4;
+/// Every state.
+const ANY: u8 = NONE | AUTO | DIMMED;
 
 /// The lent areas.
 #[derive(Clone, Debug, PartialEq, Eq)]
@@ -92,10 +94,29 @@ pub enum Fault {
     SureStepNeverWhereEntered,
     SureStepOnEveryEdge,
     SureIsAutoAlone,
+    KeyIgnored,
+    KeyNotAtReturn,
+    KeyNotAtBodyReturn,
+    KeyNotInBodies,
+    KeyNotTwice,
+    KeyAfterAct,
+    KeyAfterOwnLoop,
+    KeyEdgeFirst,
+    KeyToBaseZero,
+    KeyEntryUnstepped,
+    KeyEdgesUnstepped,
+    KeyBodyEdgesUnstepped,
+    KeyStepBeforeAct,
+    KeyTakesSure,
+    OpaqueHandlerSolved,
+    OpaqueHandlerIfReached,
+    OpaqueHandlerVisits,
+    LiveWithKey,
+    CertainWithKey,
 }
 
 impl Fault {
-    pub const ALL: [Fault; 42] = [
+    pub const ALL: [Fault; 61] = [
         Fault::EveryMaskSeven,
         Fault::FirstVisitOnly,
         Fault::AreasUntouched,
@@ -138,6 +159,25 @@ impl Fault {
         Fault::SureStepNeverWhereEntered,
         Fault::SureStepOnEveryEdge,
         Fault::SureIsAutoAlone,
+        Fault::KeyIgnored,
+        Fault::KeyNotAtReturn,
+        Fault::KeyNotAtBodyReturn,
+        Fault::KeyNotInBodies,
+        Fault::KeyNotTwice,
+        Fault::KeyAfterAct,
+        Fault::KeyAfterOwnLoop,
+        Fault::KeyEdgeFirst,
+        Fault::KeyToBaseZero,
+        Fault::KeyEntryUnstepped,
+        Fault::KeyEdgesUnstepped,
+        Fault::KeyBodyEdgesUnstepped,
+        Fault::KeyStepBeforeAct,
+        Fault::KeyTakesSure,
+        Fault::OpaqueHandlerSolved,
+        Fault::OpaqueHandlerIfReached,
+        Fault::OpaqueHandlerVisits,
+        Fault::LiveWithKey,
+        Fault::CertainWithKey,
     ];
 
     pub fn text(self) -> &'static str {
@@ -186,6 +226,25 @@ impl Fault {
             }
             Fault::SureStepOnEveryEdge => "sure arrays: the new step on every edge of the call",
             Fault::SureIsAutoAlone => "sure arrays: the new step leaves AUTO alone",
+            Fault::KeyIgnored => "the key: an FK is read and passed over",
+            Fault::KeyNotAtReturn => "the key: no edge at a RETURN",
+            Fault::KeyNotAtBodyReturn => "the key: no edge at a RETURN of base n",
+            Fault::KeyNotInBodies => "the key: no edges in base n",
+            Fault::KeyNotTwice => "the key: no edge where one to the handler is there already",
+            Fault::KeyAfterAct => "the key: its edges carry what the statement's act leaves",
+            Fault::KeyAfterOwnLoop => "the key: its edges carry what a loop of the statement brings too",
+            Fault::KeyEdgeFirst => "the key: its edges come first",
+            Fault::KeyToBaseZero => "the key: its edges go to the handler in base 0",
+            Fault::KeyEntryUnstepped => "the key: the entry without the touched step",
+            Fault::KeyEdgesUnstepped => "the key: the other edges without the touched step",
+            Fault::KeyBodyEdgesUnstepped => "the key: the other edges of base n without the touched step",
+            Fault::KeyStepBeforeAct => "the key: the touched step before the statement's act",
+            Fault::KeyTakesSure => "the key: what the handler touches takes no step of a sure array",
+            Fault::OpaqueHandlerSolved => "the key: an opaque handler is solved as others are",
+            Fault::OpaqueHandlerIfReached => "the key: an opaque handler's masks are 7 where something leads",
+            Fault::OpaqueHandlerVisits => "the key: an opaque handler's masks are 7, with visits",
+            Fault::LiveWithKey => "the key: what is live at the handler is live everywhere",
+            Fault::CertainWithKey => "the key: names are certain as without it",
         }
     }
 }
@@ -212,14 +271,11 @@ struct Subroutines<'a> {
 impl<'a> Subroutines<'a> {
     fn new(flow: &'a Flow, fault: Option<Fault>) -> Self {
         let mut all = Subroutines { flow, fault, bodies: BTreeMap::new(), sure: Vec::new() };
-        for call in 0..flow.statements.len() {
-            if flow.statements[call].continuation().is_some() {
-                for e in flow.entered(call) {
-                    if !all.bodies.contains_key(&e) {
-                        let body = all.walk(e);
-                        all.bodies.insert(e, body);
-                    }
-                }
+        let calls = (0..flow.statements.len()).filter(|&i| flow.statements[i].continuation().is_some());
+        for e in calls.flat_map(|call| flow.entered(call)).chain(all.handler()) {
+            if !all.bodies.contains_key(&e) {
+                let body = all.walk(e);
+                all.bodies.insert(e, body);
             }
         }
         if fault != Some(Fault::OpaqueCycleLeftOut) {
@@ -317,6 +373,17 @@ impl<'a> Subroutines<'a> {
                 return;
             }
         }
+    }
+
+    /// The statement that the key calls.
+    fn handler(&self) -> Option<usize> {
+        let heeded = self.fault != Some(Fault::KeyIgnored);
+        self.flow.handler.filter(|_| heeded).map(usize::from)
+    }
+
+    /// The body that the key calls.
+    fn handler_body(&self) -> Option<&Body> {
+        self.handler().map(|h| &self.bodies[&h])
     }
 
     fn opaque_call(&self, call: usize) -> bool {
@@ -575,18 +642,21 @@ pub fn sure_parts(flow: &Flow) -> SureParts {
 
 // ----- The doubled graph --------------------------------------------------
 
-/// An edge of the doubled graph, with the arrays that take the step of a touched array on it, and those
-/// that take the step of a sure one instead.
-#[derive(Clone, Copy)]
+/// An edge of the doubled graph, with the arrays that take the step of a touched array on it, those that
+/// take the step of a sure one instead, and those that take the handler's touched step after it.
+#[derive(Clone, Copy, Default)]
 struct Edge {
     to: usize,
     touched: u64,
     sure: u64,
+    by_handler: u64,
+    /// The key's own edge: it carries the masks that the statement starts with.
+    key: bool,
 }
 
 impl Edge {
     fn plain(to: usize) -> Edge {
-        Edge { to, touched: 0, sure: 0 }
+        Edge { to, ..Edge::default() }
     }
 }
 
@@ -619,7 +689,61 @@ fn doubled_edges(subroutines: &Subroutines) -> Vec<Vec<Edge>> {
             });
         }
     }
+    add_key(subroutines, &mut edges);
     edges
+}
+
+/// With a handler, every edge ends with the step of what it touches, and every number has one edge more.
+fn add_key(subroutines: &Subroutines, edges: &mut [Vec<Edge>]) {
+    let Subroutines { flow, fault, .. } = *subroutines;
+    let Some(h) = subroutines.handler() else { return };
+    let (n, touched) = (flow.statements.len(), subroutines.bodies[&h].touched);
+    for (number, edges) in edges.iter_mut().enumerate() {
+        let (in_body, returns) = (number >= n, flow.statements[number % n].kind == Kind::Return);
+        let stepped = match fault {
+            Some(Fault::KeyEdgesUnstepped | Fault::KeyStepBeforeAct) => false,
+            Some(Fault::KeyBodyEdgesUnstepped) => !in_body,
+            _ => true,
+        };
+        for edge in edges.iter_mut() {
+            edge.by_handler = if stepped { touched } else { 0 };
+            if fault == Some(Fault::KeyTakesSure) {
+                edge.sure &= !touched;
+            }
+        }
+        let left_out = match fault {
+            Some(Fault::KeyNotAtReturn) => returns,
+            Some(Fault::KeyNotAtBodyReturn) => returns && in_body,
+            Some(Fault::KeyNotInBodies) => in_body,
+            Some(Fault::KeyNotTwice) => edges.iter().any(|edge| edge.to == n + h),
+            _ => false,
+        };
+        if left_out {
+            continue;
+        }
+        let to = if fault == Some(Fault::KeyToBaseZero) { h } else { n + h };
+        let key = Edge { key: true, ..Edge::plain(to) };
+        edges.insert(if fault == Some(Fault::KeyEdgeFirst) { 0 } else { edges.len() }, key);
+    }
+}
+
+/// The edges of the doubled graph of a flow, and how many of them are the key's own.
+pub fn edge_counts(flow: &Flow) -> (usize, usize) {
+    let edges = doubled_edges(&Subroutines::new(flow, None));
+    let keys = edges.iter().flatten().filter(|edge| edge.key).count();
+    (edges.iter().map(Vec::len).sum(), keys)
+}
+
+/// What a flow's handler is: whether its body is opaque, and the arrays that it touches.
+#[derive(Clone, Copy, Debug, PartialEq, Eq)]
+pub struct KeyParts {
+    pub opaque: bool,
+    pub touched: u64,
+}
+
+pub fn key_parts(flow: &Flow) -> Option<KeyParts> {
+    let subroutines = Subroutines::new(flow, None);
+    subroutines.handler_body().map(|&Body { opaque, touched, .. }| KeyParts { opaque, touched })
 }
 
 /// The edges of a call that is not opaque and has a continuation.
@@ -660,6 +784,10 @@ fn call_edges(subroutines: &Subroutines, call: usize, base: usize) -> Vec<Edge> 
 
 // ----- Masks by the queue rule --------------------------------------------
 
+fn has(set: u64, array: usize) -> bool {
+    set >> array & 1 == 1
+}
+
 /// A reference turns NONE into AUTO and keeps other states.
 fn referred(mask: u8) -> u8 {
     if mask & NONE == 0 { mask } else { mask & !NONE | AUTO }
@@ -668,6 +796,8 @@ fn referred(mask: u8) -> u8 {
 struct Queue<'a> {
     flow: &'a Flow,
     fault: Option<Fault>,
+    /// The arrays that the handler touches.
+    by_handler: u64,
     edges: Vec<Vec<Edge>>,
     /// Edges by the number they lead to; `to` is the number they come from.
     back: Vec<Vec<Edge>>,
@@ -677,8 +807,10 @@ struct Queue<'a> {
 }
 
 impl<'a> Queue<'a> {
-    fn new(flow: &'a Flow, fault: Option<Fault>) -> Self {
-        let edges = doubled_edges(&Subroutines::new(flow, fault));
+    fn new(subroutines: &Subroutines<'a>) -> Self {
+        let Subroutines { flow, fault, .. } = *subroutines;
+        let by_handler = subroutines.handler_body().map_or(0, |body| body.touched);
+        let edges = doubled_edges(subroutines);
         let mut back = vec![Vec::new(); edges.len()];
         for (from, list) in edges.iter().enumerate() {
             for edge in list {
@@ -687,13 +819,16 @@ impl<'a> Queue<'a> {
         }
         let masks = vec![vec![0; flow.arrays.into()]; edges.len()];
         let acted = vec![None; edges.len()];
-        Queue { flow, fault, edges, back, masks, acted }
+        Queue { flow, fault, by_handler, edges, back, masks, acted }
     }
 
     /// What statement `i` makes of the masks it starts with.
     fn act(&self, i: usize, masks: &[u8]) -> Vec<u8> {
         let s = &self.flow.statements[i];
         let mut out = masks.to_vec();
+        if self.fault == Some(Fault::KeyStepBeforeAct) {
+            out = self.after_handler(&out);
+        }
         for &a in &s.references {
             let mask = &mut out[usize::from(a)];
             *mask = referred(*mask);
@@ -721,28 +856,64 @@ impl<'a> Queue<'a> {
         }
     }
 
+    /// The masks after the handler's touched step.
+    fn after_handler(&self, masks: &[u8]) -> Vec<u8> {
+        let step = |(a, &mask): (usize, &u8)| if has(self.by_handler, a) { self.touched(mask) } else { mask };
+        masks.iter().enumerate().map(step).collect()
+    }
+
     /// What an edge makes of the mask of array `a`: a sure array's NONE becomes AUTO.
     fn carried(&self, edge: Edge, a: usize, mask: u8) -> u8 {
-        if edge.sure >> a & 1 == 1 {
+        let mask = if has(edge.sure, a) {
             match self.fault {
                 Some(Fault::SureIsAutoAlone) if mask != 0 => AUTO,
                 _ => referred(mask),
             }
-        } else if edge.touched >> a & 1 == 1 {
+        } else if has(edge.touched, a) {
             self.touched(mask)
         } else {
             mask
+        };
+        if has(edge.by_handler, a) { self.touched(mask) } else { mask }
+    }
+
+    /// NONE, after the handler's touched step.
+    fn at_entry(&self) -> Vec<u8> {
+        let none = vec![NONE; self.flow.arrays.into()];
+        if self.fault == Some(Fault::KeyEntryUnstepped) { none } else { self.after_handler(&none) }
+    }
+
+    /// What the key's edge of a number visited before carries: the masks that its statement starts with.
+    fn interrupted(&self, number: usize, acted: &[u8]) -> Vec<u8> {
+        let mut masks = self.masks[number].clone();
+        match self.fault {
+            Some(Fault::KeyAfterAct) => return acted.to_vec(),
+            Some(Fault::KeyAfterOwnLoop) => {
+                for edge in self.edges[number].iter().filter(|edge| edge.to == number && !edge.key) {
+                    self.join(&mut masks, *edge, acted);
+                }
+            }
+            _ => {}
+        }
+        masks
+    }
+
+    /// Adds what an edge makes of these masks.
+    fn join(&self, masks: &mut [u8], edge: Edge, from: &[u8]) {
+        for (a, (mask, &from)) in masks.iter_mut().zip(from).enumerate() {
+            *mask |= self.carried(edge, a, from);
         }
     }
 
-    /// The union over edges from numbers visited before, with NONE at the entry.
+    /// The union over edges from numbers visited before, with what comes in at the entry.
     fn union(&self, number: usize) -> Vec<u8> {
-        let first = if number == usize::from(self.flow.entry) { NONE } else { 0 };
-        let mut masks = vec![first; self.flow.arrays.into()];
+        let is_entry = number == usize::from(self.flow.entry);
+        let mut masks = if is_entry { self.at_entry() } else { vec![0; self.flow.arrays.into()] };
         for edge in &self.back[number] {
-            let Some(acted) = &self.acted[edge.to] else { continue };
-            for (a, (mask, &from)) in masks.iter_mut().zip(acted).enumerate() {
-                *mask |= self.carried(*edge, a, from);
+            match &self.acted[edge.to] {
+                Some(acted) if edge.key => self.join(&mut masks, *edge, &self.interrupted(edge.to, acted)),
+                Some(acted) => self.join(&mut masks, *edge, acted),
+                None => {}
             }
         }
         masks
@@ -789,7 +960,7 @@ impl<'a> Queue<'a> {
         let (outer, body) = self.masks.split_at(self.flow.statements.len());
         let both = outer.iter().flatten().zip(body.iter().flatten());
         match self.fault {
-            Some(Fault::EveryMaskSeven) => both.map(|_| NONE | AUTO | DIMMED).collect(),
+            Some(Fault::EveryMaskSeven) => both.map(|_| ANY).collect(),
             _ => both.map(|(a, b)| a | b).collect(),
         }
     }
@@ -802,14 +973,17 @@ pub fn visit_bound(edges: usize, arrays: u8) -> u64 {
 
 // ----- Live names ---------------------------------------------------------
 
-/// Live-in and live-out of each statement: the least sets that satisfy their definition.
-fn live_sets(flow: &Flow) -> (Vec<u64>, Vec<u64>) {
+/// Live-in and live-out of each statement: the least sets that satisfy their definition, which takes no
+/// notice of the key.
+fn live_sets(flow: &Flow, fault: Option<Fault>) -> (Vec<u64>, Vec<u64>) {
+    let interrupts = if fault == Some(Fault::LiveWithKey) { flow.handler } else { None };
     let n = flow.statements.len();
     let (mut live_in, mut live_out) = (vec![0u64; n], vec![0u64; n]);
     loop {
         let mut changed = false;
         for (i, s) in flow.statements.iter().enumerate().rev() {
-            let out = s.successors.iter().fold(0, |set, &t| set | live_in[usize::from(t)]);
+            let next = s.successors.iter().copied().chain(interrupts);
+            let out = next.fold(0, |set, t| set | live_in[usize::from(t)]);
             let start = s.read | out & !s.written;
             changed |= (start, out) != (live_in[i], live_out[i]);
             (live_in[i], live_out[i]) = (start, out);
@@ -932,8 +1106,11 @@ impl<'a> Walks<'a> {
 }
 
 /// The names that some statement writes, and that every statement which reads them finds written on
-/// each listed walk from the entry: bit i for name i.
+/// each listed walk from the entry: bit i for name i. With a handler there are none.
 pub fn certain_names(flow: &Flow, fault: Option<Fault>) -> u64 {
+    if flow.handler.is_some() && !matches!(fault, Some(Fault::KeyIgnored | Fault::CertainWithKey)) {
+        return 0;
+    }
     let mut walks = Walks::new(flow, fault);
     let mut word = 0;
     for name in 0..flow.names {
@@ -955,10 +1132,23 @@ pub struct States {
 }
 
 pub fn states(flow: &Flow, fault: Option<Fault>) -> States {
-    let mut queue = Queue::new(flow, fault);
-    let visits = queue.run();
-    let masks = queue.statement_masks();
-    let (live_in, live_out) = live_sets(flow);
+    let subroutines = Subroutines::new(flow, fault);
+    let (live_in, live_out) = live_sets(flow, fault);
+    let solved = || {
+        let mut queue = Queue::new(&subroutines);
+        let visits = queue.run();
+        (queue.statement_masks(), visits)
+    };
+    let opaque = subroutines.handler_body().is_some_and(|body| body.opaque);
+    let (masks, visits) = match fault {
+        Some(Fault::OpaqueHandlerSolved) => solved(),
+        _ if !opaque => solved(),
+        Some(Fault::OpaqueHandlerIfReached) => {
+            (solved().0.iter().map(|&mask| if mask == 0 { 0 } else { ANY }).collect(), 0)
+        }
+        Some(Fault::OpaqueHandlerVisits) => (vec![ANY; live_in.len() * usize::from(flow.arrays)], solved().1),
+        _ => (vec![ANY; live_in.len() * usize::from(flow.arrays)], 0),
+    };
     States { masks, live_in, live_out, visits }
 }
 

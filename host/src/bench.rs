@@ -5,7 +5,7 @@ use std::hint::black_box;
 use std::time::{Duration, Instant};
 
 use crate::flow::{Flow, Kind, MAX_ARRAYS, MAX_FILE, MAX_STATEMENTS, Statement};
-use crate::generate::Script;
+use crate::generate::{self, Script};
 use crate::judge::Lent;
 use crate::random::Random;
 use crate::{answerer, cases, sides};
@@ -49,7 +49,7 @@ fn busy(random: &mut Random, i: usize, mut s: Statement) -> Statement {
 
 fn script(statements: Vec<Statement>, entered: &[usize]) -> Flow {
     let lines = entered.iter().map(|&i| (line(i), i as u16)).collect();
-    Flow { arrays: MAX_ARRAYS, names: 64, entry: 0, statements, lines }
+    Flow { arrays: MAX_ARRAYS, names: 64, statements, lines, ..Flow::default() }
 }
 
 /// Tables laid out first, then a line of statements with branches ahead.
@@ -156,6 +156,34 @@ pub fn flows() -> Vec<(&'static str, Flow)> {
     ]
 }
 
+/// Two arrays are counted up before the handler returns.
+fn with_handler(mut flow: Flow) -> Flow {
+    let h = flow.statements.len() - 3;
+    flow.statements.truncate(h);
+    generate::within_itself(&mut flow);
+    for k in 0..2 {
+        let next = [(h + k + 1) as u16];
+        let references = [k as u8, flow.arrays - 1 - k as u8];
+        flow.statements.push(Statement::new(line(h + k), Kind::Other, &next, &references));
+    }
+    flow.statements.push(Statement::new(line(h + 2), Kind::Return, &[], &[]));
+    Flow { handler: Some(h as u16), ..flow }
+}
+
+/// Flows with an interrupt key: some of those above whose last statements give way to a handler, and one whose
+/// handler is opaque. The original has no figures for them.
+pub fn key_flows() -> Vec<(&'static str, Flow)> {
+    let mut opaque = with_handler(loops(N));
+    opaque.statements[N - 3].kind = Kind::Clr;
+    vec![
+        ("n 2048, call-free", with_handler(call_free(N))),
+        ("n 2048, loops", with_handler(loops(N))),
+        ("n 2048, shared subroutines", with_handler(shared_subroutines(N, MAX_ARRAYS))),
+        ("n 96, shared subroutines", with_handler(shared_subroutines(96, 16))),
+        ("n 2048, loops, opaque", opaque),
+    ]
+}
+
 /// A flow for which the call for certain names has most to do: a chain that leads from its last
 /// statement to the one before, to which the walks on which a name is unwritten come in turn, one name
 /// each, and as many listed successors as fit. They all lead back, so that no walk is shortened.
@@ -195,7 +223,7 @@ pub fn reading_file() -> Vec<u8> {
     };
     let statements = (0..n).map(statement).collect();
     let lines = (0..14_500).map(|i| (4 * i, random.below(n) as u16)).collect();
-    Flow { arrays: MAX_ARRAYS, names: 64, entry: 0, statements, lines }.bytes()
+    Flow { arrays: MAX_ARRAYS, names: 64, statements, lines, ..Flow::default() }.bytes()
 }
 
 // ----- Measurements -------------------------------------------------------
@@ -263,6 +291,38 @@ pub fn whole_call() -> bool {
     println!("over array_states alone, at the least: {least:.1} times (at least 2)");
     println!("over array_states with its live solve, geometric mean: {mean:.1} times (at least 50)");
     least >= 2.0 && mean >= 50.0
+}
+
+/// The call on flows with an interrupt key, beside the same flows without it.
+pub fn key_call() -> bool {
+    println!(
+        "\n{:28} {:>6} {:>8} {:>10} {:>15} {:>7}",
+        "flow with a key", "bytes", "visits", "call", "without the key", "times"
+    );
+    for (name, flow) in key_flows() {
+        let [file, without] = [flow.bytes(), flow.without_key().bytes()];
+        let mut areas = Lent::for_file(&file, 0).areas();
+        let Some(answer) = sides::proved_states(&file, &mut areas) else {
+            println!("{}", sides::NO_LIBRARY);
+            return true;
+        };
+        assert_eq!(answer.number, 0, "{name}");
+        let mut more = areas.clone();
+        let mut with = || {
+            black_box(sides::proved_states(black_box(&file), &mut areas));
+        };
+        let mut before = || {
+            black_box(sides::proved_states(black_box(&without), &mut more));
+        };
+        let [call, before] = medians(101, [&mut with, &mut before]);
+        println!(
+            "{name:28} {:>6} {:>8} {call:>10.2?} {before:>15.2?} {:>7.2}",
+            file.len(),
+            answer.visits,
+            ratio(call, before)
+        );
+    }
+    true
 }
 
 // ----- Certain names ------------------------------------------------------

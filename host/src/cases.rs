@@ -50,13 +50,13 @@ fn p5_with(kind: Kind, references: &[u8]) -> Flow {
     ];
     statements[1].read = 1;
     let lines = vec![(10, 0), (20, 1), (30, 2), (40, 3)];
-    Flow { arrays: 1, names: 1, entry: 0, statements, lines }
+    Flow { arrays: 1, names: 1, statements, lines, ..Flow::default() }
 }
 
 fn p9() -> Flow {
     let call = Kind::Gosub { line: 10, continuation: Some(1) };
     let statements = vec![Statement::new(10, call, &[0], &[]), Statement::new(20, Kind::Return, &[], &[])];
-    Flow { arrays: 1, names: 0, entry: 0, statements, lines: vec![(10, 0), (20, 1)] }
+    Flow { arrays: 1, statements, lines: vec![(10, 0), (20, 1)], ..Flow::default() }
 }
 
 /// Statements one after the other, the last without successors.
@@ -67,7 +67,7 @@ fn in_line(statements: Vec<(Kind, &[u8])>) -> Flow {
         Statement::new(10 * next, kind, if i < last { std::slice::from_ref(&next) } else { &[] }, references)
     };
     let statements = statements.into_iter().enumerate().map(statement).collect();
-    Flow { arrays: 1, names: 0, entry: 0, statements, lines: Vec::new() }
+    Flow { arrays: 1, statements, ..Flow::default() }
 }
 
 /// P1 to P4: the mask that a step is taken from, and the mask after it, among those of a flow.
@@ -587,6 +587,581 @@ pub fn sure() -> Vec<Case> {
     sure_flows().into_iter().map(case).collect()
 }
 
+// ----- The interrupt key --------------------------------------------------
+
+/// Flows for a rule of request E3 each, with the fault that goes astray there.
+const KEY: [(&str, Fault, &str); 41] = [
+    ("a handler that lays a table out", Fault::KeyIgnored, include_str!("../../examples/key.txt")),
+    (
+        "an opaque handler by CLR, and a statement that nothing reaches",
+        Fault::OpaqueHandlerIfReached,
+        include_str!("../../examples/key_opaque.txt"),
+    ),
+    (
+        "a handler that touches an array at the entry",
+        Fault::KeyEntryUnstepped,
+        "flow 3 statements, 1 array, 0 names, entry 0
+         0: line 10 other; refs 0
+         1: line 900 other; to 2; refs 0
+         2: line 910 RETURN
+         key 1",
+    ),
+    (
+        "a handler that is a RETURN alone",
+        Fault::KeyAfterAct,
+        "flow 2 statements, 1 array, 0 names, entry 0
+         0: line 10 other; refs 0
+         1: line 900 RETURN
+         key 1",
+    ),
+    (
+        "one statement, its own handler",
+        Fault::KeyIgnored,
+        "flow 1 statement, 1 array, 0 names, entry 0
+         0: line 10 RETURN
+         key 0",
+    ),
+    (
+        "the handler is the entry",
+        Fault::KeyToBaseZero,
+        "flow 2 statements, 1 array, 0 names, entry 0
+         0: line 10 other; to 1; refs 0
+         1: line 20 RETURN
+         key 0",
+    ),
+    (
+        "the handler is the entry, which a GOSUB calls too",
+        Fault::OpaqueCycleLeftOut,
+        "flow 3 statements, 1 array, 0 names, entry 0
+         0: line 10 other; to 1 2; refs 0
+         1: line 20 GOSUB 10 then 2; to 0
+         2: line 30 RETURN
+         lines 10=0
+         key 0",
+    ),
+    (
+        "a GOSUB calls the handler too",
+        Fault::KeyNotTwice,
+        "flow 3 statements, 1 array, 0 names, entry 0
+         0: line 10 GOSUB 900 then 1; to 2; refs 0
+         1: line 20 other
+         2: line 900 RETURN
+         lines 900=2
+         key 2",
+    ),
+    (
+        "a RETURN of base 0",
+        Fault::KeyNotAtReturn,
+        "flow 3 statements, 1 array, 0 names, entry 0
+         0: line 10 DIM 0(); to 1
+         1: line 20 RETURN
+         2: line 900 RETURN
+         key 2",
+    ),
+    (
+        "a RETURN of base n",
+        Fault::KeyNotAtBodyReturn,
+        "flow 8 statements, 1 array, 0 names, entry 0
+         0: line 10 GOSUB 100 then 1; to 2
+         1: line 20 other
+         2: line 100 GOSUB 200 then 3; to 6 4
+         3: line 110 RETURN
+         4: line 120 DIM 0(); to 5
+         5: line 130 RETURN
+         6: line 200 RETURN
+         7: line 900 RETURN
+         lines 100=2 200=6
+         key 7",
+    ),
+    (
+        "the RETURN of an opaque call is the handler",
+        Fault::KeyToBaseZero,
+        "flow 4 statements, 1 array, 0 names, entry 0
+         0: line 10 GOSUB 100 then 1; to 2
+         1: line 20 other; refs 0
+         2: line 100 DIM 0(); to 3
+         3: line 110 RETURN; to 1
+         lines 100=2
+         key 3",
+    ),
+    (
+        "a statement before which the array is not there, and after which it is",
+        Fault::KeyAfterAct,
+        "flow 4 statements, 2 arrays, 0 names, entry 0
+         0: line 10 DIM 0(); to 1
+         1: line 20 other; refs 1
+         2: line 900 other; to 3
+         3: line 910 RETURN
+         key 2",
+    ),
+    (
+        "a statement that leads to itself",
+        Fault::KeyAfterOwnLoop,
+        "flow 4 statements, 1 array, 0 names, entry 0
+         0: line 10 other; to 1
+         1: line 20 other; to 1; refs 0
+         2: line 900 other; to 3
+         3: line 910 RETURN
+         key 2",
+    ),
+    (
+        "a handler that leads to itself",
+        Fault::KeyAfterAct,
+        "flow 4 statements, 2 arrays, 0 names, entry 0
+         0: line 10 other; to 1
+         1: line 20 other; refs 1
+         2: line 900 DIM; to 2 3; refs 0
+         3: line 910 RETURN
+         key 2",
+    ),
+    (
+        "a call that goes on at itself",
+        Fault::KeyAfterOwnLoop,
+        "flow 6 statements, 1 array, 0 names, entry 0
+         0: line 10 other; to 1
+         1: line 20 GOSUB 100 then 1; to 2
+         2: line 100 other; to 3; refs 0
+         3: line 110 RETURN
+         4: line 900 other; to 5
+         5: line 910 RETURN
+         lines 100=2
+         key 4",
+    ),
+    (
+        "the key's edges come last",
+        Fault::KeyEdgeFirst,
+        "flow 4 statements, 1 array, 0 names, entry 0
+         0: line 10 other; to 1; refs 0
+         1: line 20 other
+         2: line 900 other; to 3
+         3: line 910 RETURN
+         key 2",
+    ),
+    (
+        "the statements of a subroutine are interrupted too",
+        Fault::KeyNotInBodies,
+        "flow 6 statements, 1 array, 0 names, entry 0
+         0: line 10 GOSUB 100 then 1; to 2
+         1: line 20 DIM 0()
+         2: line 100 other; to 3; refs 0
+         3: line 110 other; to 3
+         4: line 900 other; to 5
+         5: line 910 RETURN
+         lines 100=2
+         key 4",
+    ),
+    (
+        "a key after a CLR",
+        Fault::KeyEdgesUnstepped,
+        "flow 4 statements, 2 arrays, 0 names, entry 0
+         0: line 10 CLR; to 1
+         1: line 20 other; refs 0 1
+         2: line 900 other; to 3; refs 0
+         3: line 910 RETURN
+         key 2",
+    ),
+    (
+        "a key after a RUN",
+        Fault::KeyStepBeforeAct,
+        "flow 5 statements, 2 arrays, 0 names, entry 0
+         0: line 10 DIM 0() 1(); to 1
+         1: line 20 RUN; to 2
+         2: line 30 other; refs 0 1
+         3: line 900 other; to 4; refs 1
+         4: line 910 RETURN
+         key 3",
+    ),
+    (
+        "a key after a CLR in base n",
+        Fault::KeyBodyEdgesUnstepped,
+        "flow 9 statements, 1 array, 0 names, entry 0
+         0: line 10 GOSUB 100 then 1; to 2
+         1: line 20 other
+         2: line 100 GOSUB 200 then 3; to 6 4
+         3: line 110 RETURN
+         4: line 120 CLR; to 5
+         5: line 130 other
+         6: line 200 RETURN
+         7: line 900 other; to 8; refs 0
+         8: line 910 RETURN
+         lines 100=2 200=6
+         key 7",
+    ),
+    (
+        "the handler is a subroutine that always lays its table out",
+        Fault::KeyTakesSure,
+        "flow 4 statements, 1 array, 1 name, entry 0
+         0: line 10 GOSUB 30 then 1; to 2
+         1: line 20 other; refs 0; reads 0
+         2: line 30 other; to 3; refs 0
+         3: line 40 RETURN
+         lines 10=0 20=1 30=2 40=3
+         key 2",
+    ),
+    (
+        "the handler starts inside a subroutine that always lays tables out",
+        Fault::KeyTakesSure,
+        "flow 5 statements, 2 arrays, 0 names, entry 0
+         0: line 10 GOSUB 100 then 1; to 2
+         1: line 20 other; refs 0 1
+         2: line 100 other; to 3; refs 0
+         3: line 110 other; to 4; refs 1
+         4: line 120 RETURN
+         lines 100=2
+         key 3",
+    ),
+    (
+        "a handler that touches what a call touches",
+        Fault::NoneDroppedAfterCall,
+        "flow 7 statements, 1 array, 0 names, entry 0
+         0: line 10 GOSUB 100 then 1; to 2
+         1: line 20 other; refs 0
+         2: line 100 other; to 3 4
+         3: line 110 other; to 4; refs 0
+         4: line 120 RETURN
+         5: line 900 other; to 6; refs 0
+         6: line 910 RETURN
+         lines 100=2
+         key 5",
+    ),
+    (
+        "an ON GOSUB",
+        Fault::OnGosubSure,
+        "flow 8 statements, 2 arrays, 0 names, entry 0
+         0: line 10 ON GOSUB 100 200 then 1; to 2 4 1
+         1: line 20 other; refs 0 1
+         2: line 100 other; to 3; refs 0
+         3: line 110 RETURN
+         4: line 200 other; to 5; refs 0
+         5: line 210 RETURN
+         6: line 900 other; to 7; refs 1
+         7: line 910 RETURN
+         lines 100=2 200=4
+         key 6",
+    ),
+    (
+        "an ON GOSUB in the handler",
+        Fault::NestedTouchedLeftOut,
+        "flow 7 statements, 2 arrays, 0 names, entry 0
+         0: line 10 other; refs 0 1
+         1: line 900 ON GOSUB 100 200 then 2; to 3 5 2
+         2: line 910 RETURN
+         3: line 100 other; to 4; refs 0
+         4: line 110 RETURN
+         5: line 200 other; to 6; refs 1
+         6: line 210 RETURN
+         lines 100=3 200=5
+         key 1",
+    ),
+    (
+        "a handler that touches an array by way of two calls",
+        Fault::NestedTouchedLeftOut,
+        "flow 7 statements, 1 array, 0 names, entry 0
+         0: line 10 other; refs 0
+         1: line 900 GOSUB 100 then 2; to 3
+         2: line 910 RETURN
+         3: line 100 GOSUB 200 then 4; to 5
+         4: line 110 RETURN
+         5: line 200 other; to 6; refs 0
+         6: line 210 RETURN
+         lines 100=3 200=5
+         key 1",
+    ),
+    (
+        "a handler without RETURN",
+        Fault::KeyEntryUnstepped,
+        "flow 3 statements, 2 arrays, 0 names, entry 0
+         0: line 10 other; to 1; refs 0
+         1: line 20 other; refs 1
+         2: line 900 other; to 2; refs 1
+         key 2",
+    ),
+    (
+        "a DIM without items in the handler",
+        Fault::KeyIgnored,
+        "flow 3 statements, 1 array, 0 names, entry 0
+         0: line 10 other; refs 0
+         1: line 900 DIM; to 2; refs 0
+         2: line 910 RETURN
+         key 1",
+    ),
+    (
+        "a CLR that a call of the handler lists, but its body does not meet",
+        Fault::KeyIgnored,
+        "flow 5 statements, 1 array, 0 names, entry 0
+         0: line 10 other; refs 0
+         1: line 900 GOSUB 100 then 2; to 3 4
+         2: line 910 RETURN
+         3: line 100 RETURN
+         4: line 920 CLR; to 2
+         lines 100=3
+         key 1",
+    ),
+    (
+        "a GOSUB without a continuation in the handler",
+        Fault::KeyIgnored,
+        "flow 4 statements, 1 array, 0 names, entry 0
+         0: line 10 other; refs 0
+         1: line 900 GOSUB 100; to 2
+         2: line 910 RETURN
+         3: line 100 CLR; to 2
+         lines 100=3
+         key 1",
+    ),
+    (
+        "64 arrays, of which the handler touches some",
+        Fault::KeyEntryUnstepped,
+        "flow 3 statements, 64 arrays, 0 names, entry 0
+         0: line 10 other; refs 0 1 31 32 62 63
+         1: line 900 other; to 2; refs 0 31 32 63
+         2: line 910 RETURN
+         key 1",
+    ),
+    (
+        "no arrays",
+        Fault::KeyEdgeFirst,
+        "flow 4 statements, 0 arrays, 0 names, entry 0
+         0: line 10 other; to 1
+         1: line 20 other; to 0
+         2: line 900 other; to 3
+         3: line 910 RETURN
+         key 2",
+    ),
+    (
+        "an opaque handler by RUN",
+        Fault::OpaqueHandlerSolved,
+        "flow 3 statements, 2 arrays, 0 names, entry 0
+         0: line 10 other; refs 0
+         1: line 900 other; to 2
+         2: line 910 RUN; to 0
+         key 1",
+    ),
+    (
+        "an opaque handler by DIM",
+        Fault::OpaqueHandlerVisits,
+        "flow 3 statements, 2 arrays, 0 names, entry 0
+         0: line 10 other; refs 0
+         1: line 900 DIM 1(); to 2
+         2: line 910 RETURN
+         key 1",
+    ),
+    (
+        "an opaque handler by DIM without dimensions",
+        Fault::FlagZeroNotOpaque,
+        "flow 3 statements, 2 arrays, 0 names, entry 0
+         0: line 10 other; refs 0
+         1: line 900 DIM 1; to 2
+         2: line 910 RETURN
+         key 1",
+    ),
+    (
+        "an opaque handler by an opaque call",
+        Fault::OpaqueCalleeLeftOut,
+        "flow 7 statements, 1 array, 0 names, entry 0
+         0: line 10 other; refs 0
+         1: line 900 GOSUB 100 then 2; to 3
+         2: line 910 RETURN
+         3: line 100 GOSUB 200 then 4; to 5
+         4: line 110 RETURN
+         5: line 200 CLR; to 6
+         6: line 210 RETURN
+         lines 100=3 200=5
+         key 1",
+    ),
+    (
+        "an opaque handler by a cycle of calls",
+        Fault::OpaqueCycleLeftOut,
+        "flow 5 statements, 1 array, 0 names, entry 0
+         0: line 10 other; refs 0
+         1: line 900 GOSUB 100 then 2; to 3
+         2: line 910 RETURN
+         3: line 100 GOSUB 900 then 4; to 1
+         4: line 110 RETURN
+         lines 100=3 900=1
+         key 1",
+    ),
+    (
+        "an opaque handler by a call of a cycle that it is not on",
+        Fault::OpaqueCycleLeftOut,
+        "flow 5 statements, 1 array, 0 names, entry 0
+         0: line 10 other; refs 0
+         1: line 900 GOSUB 100 then 2; to 3
+         2: line 910 RETURN
+         3: line 100 GOSUB 100 then 4; to 3
+         4: line 110 RETURN
+         lines 100=3
+         key 1",
+    ),
+    (
+        "an opaque handler, and names",
+        Fault::LiveWithKey,
+        "flow 4 statements, 1 array, 2 names, entry 0
+         0: line 10 other; to 1; writes 0
+         1: line 20 other; reads 0
+         2: line 900 CLR; to 3; reads 1
+         3: line 910 RETURN
+         key 2",
+    ),
+    (
+        "names that are live at the handler",
+        Fault::LiveWithKey,
+        "flow 4 statements, 0 arrays, 3 names, entry 0
+         0: line 10 other; to 1; writes 0
+         1: line 20 other; reads 0
+         2: line 900 other; to 3; writes 1; reads 1 2
+         3: line 910 RETURN
+         key 2",
+    ),
+    (
+        "names that are certain without the key",
+        Fault::CertainWithKey,
+        "flow 3 statements, 0 arrays, 2 names, entry 0
+         0: line 10 other; to 1; writes 0 1
+         1: line 20 other; reads 0
+         2: line 900 RETURN
+         key 2",
+    ),
+];
+
+/// The flows above, and the fault that each is to show.
+pub fn key_flows() -> Vec<(&'static str, Fault, Flow)> {
+    KEY.into_iter().map(|(name, fault, text)| (name, fault, said(text))).collect()
+}
+
+/// A record `FK`.
+fn fk(handler: u16) -> Vec<u8> {
+    [*b"FK", handler.to_le_bytes()].concat()
+}
+
+/// Every refusal that has to do with an `FK`, and each limit on both sides.
+fn key_refusals() -> Vec<Case> {
+    use What::{FirstLine, FirstStatement, Handler, Mark};
+    let flow = Flow { handler: Some(4), ..every_kind() };
+    let base = Base(flow.encode());
+    let without = Base(every_kind().encode());
+    // Marks 0 to 12 without the key: FH, eight FN, three FL, FE.
+    let mark = |nth: usize| without.offset(Mark, nth).0;
+    let put = |at: usize, record: &[u8]| {
+        let (before, after) = without.0.bytes.split_at(at);
+        [before, record, after].concat()
+    };
+    let (end, whole) = (mark(12), &base.0.bytes);
+    let mut files: Vec<(String, Vec<u8>)> = Vec::new();
+    for handler in [0, 7, 8, 9, 65_534, 65_535] {
+        files.push((format!("handler {handler} of 8"), base.set(&[(Handler, 0, handler)])));
+    }
+    for keep in 0..6 {
+        files.push((format!("cut {keep} bytes into FK and FE"), whole[..end + keep].to_vec()));
+    }
+    for wrong in [b"FK", b"FL", b"FN", b"FH", b"FF", b"fE"] {
+        let name = format!("{} where FE is due", String::from_utf8_lossy(wrong));
+        files.push((name, [&whole[..end + 4], &wrong[..]].concat()));
+    }
+    for (name, file) in [
+        ("a second FK", put(end, &[fk(4), fk(4)].concat())),
+        ("a second FK, of a handler not below n", put(end, &[fk(4), fk(8)].concat())),
+        ("a first FK of a handler not below n, and a second", put(end, &[fk(8), fk(4)].concat())),
+        ("a first FK of a handler not below n, and no FE", [&whole[..end], &fk(8)].concat()),
+        ("FK before FH", put(0, &fk(4))),
+        ("FK alone", fk(0)),
+        ("FK before the first FN", put(mark(1), &fk(4))),
+        ("FK before the last FN", put(mark(8), &fk(4))),
+        ("FK before the first FL", put(mark(9), &fk(4))),
+        ("FK before the last FL", put(mark(11), &fk(4))),
+        ("FK of a handler not below n before an FL", put(mark(11), &fk(8))),
+        (
+            "FK before the first FL, and one before FE",
+            [&put(mark(9), &fk(4))[..end + 4], &fk(4), b"FE"].concat(),
+        ),
+        ("an FL after FK", [&whole[..end + 4], b"FL\xFF\xFF\0\0FE"].concat()),
+        ("FK after FE", [&without.0.bytes[..], &fk(4)].concat()),
+        ("FK before FE and after it", [&whole[..], &fk(4)].concat()),
+        ("FK of a handler not below n after FE", [&whole[..], &fk(8)].concat()),
+        ("half a mark after FK and FE", [&whole[..], b"F"].concat()),
+        ("a handler not below n, and bytes after FE", [&base.set(&[(Handler, 0, 8)])[..], b"F"].concat()),
+        ("an FL line not rising before FK", base.set(&[(FirstLine, 2, 50), (Handler, 0, 8)])),
+        ("an FL statement not below n before FK", base.set(&[(FirstStatement, 2, 8), (Handler, 0, 8)])),
+        ("FK in the place of FH", base.set(&[(Mark, 0, u64::from(u16::from_le_bytes(*b"FK")))])),
+        ("FK in the place of an FN", base.set(&[(Mark, 3, u64::from(u16::from_le_bytes(*b"FK")))])),
+    ] {
+        files.push((name.into(), file));
+    }
+    let none = |handler| Flow { arrays: 1, names: 1, handler: Some(handler), ..Flow::default() }.bytes();
+    for handler in [0, 1, 65_535] {
+        files.push((format!("n 0, handler {handler}"), none(handler)));
+    }
+    files.push(("n 0, FK cut off".into(), none(0)[..11].to_vec()));
+    for (handler, kind) in [(0, Kind::Other), (1, Kind::Other), (0, Kind::Clr)] {
+        let statements = vec![Statement::new(1, kind, &[0], &[])];
+        let flow = Flow { arrays: 1, statements, handler: Some(handler), ..Flow::default() };
+        files.push((
+            format!("n 1, handler {handler}, kind {}", flow.statements[0].kind.number()),
+            flow.bytes(),
+        ));
+    }
+    files.into_iter().map(|(name, file)| Case::new(name, file, 1)).collect()
+}
+
+/// The largest flows with a handler: 2,048 statements, 262,144 bytes and one more.
+fn key_limits() -> Vec<Case> {
+    let end = |handler| (1, [&fk(handler)[..], b"FE"].concat());
+    let plain = record(&Statement::new(1, Kind::Other, &[5], &[0]));
+    let many = |handler| vec![(1, header(2_048, 1, 9)), (2_048, plain.clone()), end(handler)];
+    let call = |lines: usize| {
+        let kind = Kind::OnGosub { lines: vec![10; lines], continuation: Some(250) };
+        record(&Statement::new(10, kind, &vec![3; 255], &[]))
+    };
+    // The record of the key takes the room of two lines.
+    let full = vec![(1, header(251, 1, 0)), (250, call(255)), (1, call(47)), end(3)];
+    let more = [full.clone(), vec![(1, b"F".to_vec())]].concat();
+    vec![
+        Case::repeated("2,048 statements, handler 2,047", many(2_047)),
+        Case::repeated("2,048 statements, handler 2,048", many(2_048)),
+        Case::repeated("262,144 bytes", full),
+        Case::repeated("262,145 bytes, one after FE", more),
+    ]
+}
+
+/// Areas as short as they may be and shorter, with a handler that is opaque and one that is not.
+fn key_areas() -> Vec<Case> {
+    let mut cases = Vec::new();
+    for (what, handler) in [("a handler", 4), ("an opaque handler", 3)] {
+        let exact = Case::new(
+            format!("{what}, areas exact"),
+            Flow { handler: Some(handler), ..every_kind() }.bytes(),
+            0,
+        );
+        let lent = exact.lent;
+        cases.push(exact.clone());
+        for (name, lent) in [
+            ("masks one short", Lent { masks: lent.masks - 1, ..lent }),
+            ("live-in one short", Lent { live_in: lent.live_in - 1, ..lent }),
+            ("live-out one short", Lent { live_out: lent.live_out - 1, ..lent }),
+            ("work one short", Lent { work: lent.work - 1, ..lent }),
+            ("all areas empty", Lent { masks: 0, live_in: 0, live_out: 0, work: 0 }),
+            ("areas long", Lent { masks: lent.masks + 9, live_in: 9, live_out: 11, work: lent.work + 100 }),
+        ] {
+            cases.push(Case { name: format!("{what}, {name}"), lent, ..exact.clone() });
+        }
+    }
+    let mut refused = Case::new(
+        "a handler not below n, all areas empty",
+        Flow { handler: Some(8), ..every_kind() }.bytes(),
+        0,
+    );
+    refused.lent = Lent { masks: 0, live_in: 0, live_out: 0, work: 0 };
+    cases.push(refused);
+    cases
+}
+
+/// The flows above, refusals, limits and areas.
+pub fn key() -> Vec<Case> {
+    let flows = key_flows().into_iter().map(|(name, _, flow)| Case::new(name, flow.bytes(), 1)).collect();
+    let mut cases = [flows, key_refusals(), key_limits(), key_areas()].concat();
+    cases.iter_mut().for_each(|case| case.name.insert_str(0, "the key: "));
+    cases
+}
+
 // ----- Refusals and limits ------------------------------------------------
 
 /// A small flow with a statement of each kind.
@@ -604,7 +1179,8 @@ fn every_kind() -> Flow {
         Statement::new(80, Kind::Run, &[], &[]),
     ];
     (statements[0].written, statements[4].read) = (0b00011, 0b10000);
-    Flow { arrays: 3, names: 5, entry: 0, statements, lines: vec![(10, 0), (50, 4), (60, 5)] }
+    let lines = vec![(10, 0), (50, 4), (60, 5)];
+    Flow { arrays: 3, names: 5, statements, lines, ..Flow::default() }
 }
 
 /// The so-many-th field of its kind, set to a value.

@@ -2,7 +2,8 @@
 //! that are sure for a call, and below them the names that are certainly written.
 //!
 //! Plain arrows are listed successors, dashed blue ones go to the statements that a call enters,
-//! dotted red ones to its continuation. Unreached statements are grey.
+//! dotted red ones to its continuation. Unreached statements are grey. The interrupt key is one bold green
+//! arrow to its handler, whatever statement it comes before, with what the handler's body touches.
 
 use std::fmt::{Display, Write};
 
@@ -47,7 +48,7 @@ fn node(flow: &Flow, i: usize, masks: &[u8], sure: u64) -> String {
     format!("  {i} [label=\"{label}\"{colour}];\n")
 }
 
-fn edges<T: Display>(from: usize, to: impl IntoIterator<Item = T>, style: &str) -> String {
+fn edges<T: Display>(from: impl Display, to: impl IntoIterator<Item = T>, style: &str) -> String {
     to.into_iter().map(|to| format!("  {from} -> {to}{style};\n")).collect()
 }
 
@@ -56,6 +57,18 @@ fn label(flow: &Flow) -> String {
     let names = text::list(text::members(answerer::certain_names(flow, None)));
     let names = if names.is_empty() { " none" } else { &names };
     format!("  graph [label=\"certain names{names}\", fontname=\"monospace\"];\n")
+}
+
+/// The key, and the arrow to its handler.
+fn key(flow: &Flow) -> Option<String> {
+    let (handler, parts) = (flow.handler?, answerer::key_parts(flow)?);
+    let label = match text::list(text::members(parts.touched)) {
+        _ if parts.opaque => "key\\lopaque\\l".into(),
+        arrays if arrays.is_empty() => "key\\l".into(),
+        arrays => format!("key\\ltouches{arrays}\\l"),
+    };
+    let arrow = edges("key", [handler], " [style=bold, color=darkgreen]");
+    Some(format!("  key [shape=plaintext, label=\"{label}\"];\n{arrow}"))
 }
 
 /// The picture of a flow whose masks are these, statement by statement.
@@ -68,6 +81,7 @@ pub fn print(flow: &Flow, masks: &[u8]) -> String {
     if !flow.statements.is_empty() {
         write!(text, "  start [shape=plaintext];\n  start -> {};\n", flow.entry).unwrap();
     }
+    text += &key(flow).unwrap_or_default();
     for (i, sure) in answerer::sure_arrays(flow, None).into_iter().enumerate() {
         text += &node(flow, i, &masks[i * arrays..(i + 1) * arrays], sure);
     }

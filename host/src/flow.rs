@@ -17,6 +17,8 @@ pub struct Flow {
     pub statements: Vec<Statement>,
     /// `FL` records: a line and its first statement.
     pub lines: Vec<(u16, u16)>,
+    /// The `FK` record: the statement that the interrupt key calls.
+    pub handler: Option<u16>,
 }
 
 #[derive(Clone, Debug, PartialEq, Eq)]
@@ -120,6 +122,7 @@ pub enum What {
     Continuation,
     FirstLine,
     FirstStatement,
+    Handler,
 }
 
 #[derive(Clone, Copy, Debug)]
@@ -204,12 +207,21 @@ impl Flow {
             out.put(What::FirstLine, 2, line.into());
             out.put(What::FirstStatement, 2, first.into());
         }
+        if let Some(handler) = self.handler {
+            out.mark(b"FK");
+            out.put(What::Handler, 2, handler.into());
+        }
         out.mark(b"FE");
         out
     }
 
     pub fn bytes(&self) -> Vec<u8> {
         self.encode().bytes
+    }
+
+    /// The same flow without its `FK`.
+    pub fn without_key(&self) -> Flow {
+        Flow { handler: None, ..self.clone() }
     }
 
     /// The statements that statement `i` enters, in listed order, with repeats.
@@ -358,6 +370,7 @@ pub fn read(file: &[u8]) -> Result<Flow, Refusal> {
         statements.push(c.statement(n, arrays, names)?);
     }
     let mut lines: Vec<(u16, u16)> = Vec::new();
+    let mut handler = None;
     loop {
         match &c.mark()? {
             b"FL" => {
@@ -366,6 +379,11 @@ pub fn read(file: &[u8]) -> Result<Flow, Refusal> {
                 let first = c.below(n)?;
                 lines.push((line, first));
             }
+            b"FK" => {
+                handler = Some(c.below(n)?);
+                c.the_mark(b"FE")?;
+                break;
+            }
             b"FE" => break,
             _ => return c.refuse(2),
         }
@@ -373,5 +391,5 @@ pub fn read(file: &[u8]) -> Result<Flow, Refusal> {
     if c.at < file.len() {
         return Err(Refusal { number: 9, place: c.at as u64 });
     }
-    Ok(Flow { arrays, names, entry, statements, lines })
+    Ok(Flow { arrays, names, entry, statements, lines, handler })
 }

@@ -1,5 +1,5 @@
 //! Random flow files: plain graphs, layered scripts, flows at the limits, scripts with set-up routines,
-//! damaged copies.
+//! damaged copies. About a third of them have an interrupt key.
 
 use crate::flow::{Encoded, Flow, Kind, MAX_ARRAYS, MAX_FILE, MAX_STATEMENTS, Statement, What};
 use crate::random::Random;
@@ -48,17 +48,18 @@ pub fn file(seed: u64, index: u64) -> Vec<u8> {
 
 pub fn file_of(family: Family, seed: u64, index: u64) -> Vec<u8> {
     let mut random = Random::new(seed, index);
-    // Names have numbers of their own, so that the rest of a flow does not depend on them.
+    // Names and keys have numbers of their own, so that the rest of a flow does not depend on them.
     let mut names = Random::new(!seed, index);
+    let mut keys = Random::new(seed.rotate_left(32), index);
     let flow = match family {
         Family::Plain => plain(&mut random),
         Family::Layered => layered(&mut random),
         Family::Limits if names.once_in(24) => revisited(&mut names),
         Family::Limits => limits(&mut random),
         Family::Setup => setup(&mut random),
-        Family::Damaged => return damaged(&mut random, &mut names),
+        Family::Damaged => return damaged(&mut random, &mut names, &mut keys),
     };
-    on_walks(&mut names, flow).bytes()
+    with_key(&mut keys, on_walks(&mut names, flow)).bytes()
 }
 
 /// Each of `count` numbers with one chance in `of`, rising.
@@ -178,7 +179,7 @@ fn plain(random: &mut Random) -> Flow {
     });
     let statements = statements.collect();
     let entry = if n == 0 { random.next() as u16 } else { random.below(n) as u16 };
-    Flow { arrays, names, entry, statements, lines }
+    Flow { arrays, names, entry, statements, lines, handler: None }
 }
 
 // ----- Layered scripts ----------------------------------------------------
@@ -352,9 +353,13 @@ impl Setup<'_> {
         self.flow.statements.push(Statement::new(line_of(self.here()), kind, &successors, references));
     }
 
-    /// A line enters the statement.
+    /// The line that enters the statement: one that does already, or its own. In a plain graph its own may
+    /// enter another statement.
     fn entered(&mut self, e: usize) -> u16 {
-        if let Err(at) = self.flow.lines.binary_search(&(line_of(e), e as u16)) {
+        if let Some(&(line, _)) = self.flow.lines.iter().find(|(_, first)| usize::from(*first) == e) {
+            return line;
+        }
+        if let Err(at) = self.flow.lines.binary_search_by_key(&line_of(e), |&(line, _)| line) {
             self.flow.lines.insert(at, (line_of(e), e as u16));
         }
         line_of(e)
@@ -364,6 +369,7 @@ impl Setup<'_> {
     fn arrays(&mut self) -> Vec<u8> {
         let arrays = self.flow.arrays;
         match self.random.below(8) {
+            _ if arrays == 0 => Vec::new(),
             0 => (0..arrays).collect(),
             1 => some_of(self.random, arrays, 2),
             2 => vec![arrays - 1],
@@ -458,16 +464,20 @@ impl Setup<'_> {
                 self.put(kind, &[], &[]);
             }
             16 | 17 => self.call_next(),
-            18 if self.random.once_in(5) => {
-                let kind = match self.random.below(4) {
-                    0 => Kind::Clr,
-                    1 => Kind::Run,
-                    _ => dim(self.random, self.flow.arrays),
-                };
-                self.put(kind, &[next], &[]);
-            }
+            18 if self.random.once_in(5) => self.lay_out(),
             _ => self.put(Kind::Other, &[next], &[]),
         }
+    }
+
+    /// What makes a body opaque.
+    fn lay_out(&mut self) {
+        let kind = match self.random.below(4) {
+            0 => Kind::Clr,
+            1 => Kind::Run,
+            _ => dim(self.random, self.flow.arrays),
+        };
+        let next = self.here() + 1;
+        self.put(kind, &[next], &[]);
     }
 
     /// A call of some routine that stands there already, if there is one.
@@ -556,7 +566,119 @@ pub fn moved(flow: Flow, place: &[usize], line_of: impl Fn(usize) -> u16) -> Flo
     let mut lines: Vec<(u16, u16)> =
         flow.lines.iter().map(|&(line, first)| (new_line(line), to(first))).collect();
     lines.sort_unstable();
-    Flow { entry: to(flow.entry), statements, lines, ..flow }
+    Flow { entry: to(flow.entry), statements, lines, handler: flow.handler.map(to), ..flow }
+}
+
+// ----- The interrupt key --------------------------------------------------
+
+/// Up to so many statements a flow is given a handler of its own; a larger one has its file to think of.
+const SMALL: usize = 200;
+
+/// In some 35 flows of 100, a handler: in most of them one made for it, else a statement that is there, among
+/// them the entry, a RETURN, and one that a line enters.
+fn with_key(random: &mut Random, mut flow: Flow) -> Flow {
+    let n = flow.statements.len();
+    if n == 0 || random.below(100) >= 35 {
+        return flow;
+    }
+    if n <= SMALL {
+        loosen(random, &mut flow);
+    }
+    let n = flow.statements.len();
+    let mut returns = (0..n as u16).filter(|&i| flow.statements[usize::from(i)].kind == Kind::Return);
+    let handler = match random.below(12) {
+        0 => Some(flow.entry),
+        1 => returns.next_back(),
+        2 | 3 if !flow.lines.is_empty() => Some(random.pick(&flow.lines).1),
+        4 | 5 => Some(random.below(n) as u16),
+        _ => None,
+    };
+    match handler {
+        None if n <= SMALL => own_handler(random, flow),
+        None => Flow { handler: Some(random.below(n) as u16), ..flow },
+        handler => Flow { handler, ..flow },
+    }
+    .within_file()
+}
+
+/// What tells on the edges of a flow with a key: a statement that leads to itself; one that clears all arrays;
+/// and another that a call lists and nothing else leads to, so that it stands in no body and may be come to in
+/// base n alone.
+fn loosen(random: &mut Random, flow: &mut Flow) {
+    let n = flow.statements.len();
+    let (itself, clears) = (random.below(n), random.below(n));
+    if random.once_in(4) && flow.statements[itself].kind != Kind::Return {
+        list_first(flow, itself, itself as u16);
+    }
+    if random.once_in(8) && flow.statements[clears].kind == Kind::Other {
+        flow.statements[clears].kind = if random.once_in(2) { Kind::Clr } else { Kind::Run };
+    }
+    if random.once_in(6) {
+        let calls: Vec<usize> = (0..n).filter(|&i| flow.statements[i].continuation().is_some()).collect();
+        let kind = if random.once_in(2) { Kind::Clr } else { Kind::Run };
+        let last = if random.once_in(2) { Kind::Return } else { Kind::Other };
+        flow.statements.push(Statement::new(line_of(n), kind, &[n as u16 + 1], &[]));
+        flow.statements.push(Statement::new(line_of(n + 1), last, &[], &[]));
+        if !calls.is_empty() {
+            list_first(flow, random.pick(&calls), n as u16);
+        }
+    }
+}
+
+/// One more successor of statement `i`, before the others.
+fn list_first(flow: &mut Flow, i: usize, successor: u16) {
+    let successors = &mut flow.statements[i].successors;
+    successors.truncate(254);
+    successors.insert(0, successor);
+}
+
+/// A handler behind the last statement, of the steps that set-up routines are made of: it may call what lines
+/// enter, and in one flow of six it has what makes a body opaque.
+fn own_handler(random: &mut Random, flow: Flow) -> Flow {
+    let (h, names) = (flow.statements.len(), flow.names);
+    let mut starts: Vec<usize> = flow.lines.iter().map(|&(_, first)| first.into()).collect();
+    starts.dedup();
+    let mut script = Setup { random, flow, starts };
+    for _ in 0..script.random.below(4) {
+        script.step(h);
+    }
+    if script.random.once_in(6) {
+        script.lay_out();
+    }
+    match script.random.below(12) {
+        0 => script.put(Kind::Other, &[], &[]),
+        1 => script.put(Kind::Other, &[h], &[]),
+        _ => script.put(Kind::Return, &[], &[]),
+    }
+    let Setup { random, mut flow, .. } = script;
+    for s in &mut flow.statements[h..] {
+        (s.written, s.read) = (some_names(random, names), some_names(random, names));
+    }
+    if random.once_in(2) {
+        call_handler(random, &mut flow, h);
+    }
+    Flow { handler: Some(h as u16), ..flow }
+}
+
+/// A GOSUB of the handler in the place of some statement before it.
+fn call_handler(random: &mut Random, flow: &mut Flow, h: usize) {
+    let s = &mut flow.statements[random.below(h)];
+    if s.kind != Kind::Other || s.successors.is_empty() {
+        return;
+    }
+    s.kind = Kind::Gosub { line: line_of(h), continuation: Some(s.successors[0]) };
+    s.successors.insert(0, h as u16);
+    s.successors.truncate(255);
+    if let Err(at) = flow.lines.binary_search_by_key(&line_of(h), |&(line, _)| line) {
+        flow.lines.insert(at, (line_of(h), h as u16));
+    }
+}
+
+impl Flow {
+    /// Without the key where its record would make the file too long.
+    fn within_file(self) -> Flow {
+        if self.statements.len() > SMALL && self.bytes().len() > MAX_FILE { self.without_key() } else { self }
+    }
 }
 
 // ----- At the limits ------------------------------------------------------
@@ -598,7 +720,7 @@ fn large(random: &mut Random, per_body: usize) -> Flow {
 }
 
 /// Cuts what leads beyond the last statement.
-fn within_itself(flow: &mut Flow) {
+pub fn within_itself(flow: &mut Flow) {
     let n = flow.statements.len() as u16;
     flow.lines.retain(|&(_, first)| first < n);
     for s in &mut flow.statements {
@@ -639,7 +761,7 @@ fn revisited(random: &mut Random) -> Flow {
         s
     };
     let statements = (0..n).map(statement).collect();
-    Flow { arrays, names, entry: 0, statements, lines: Vec::new() }
+    Flow { arrays, names, statements, ..Flow::default() }
 }
 
 /// Counts of 254 and 255: successors, DIM items, lines of a call.
@@ -715,21 +837,24 @@ fn full(random: &mut Random) -> Flow {
     };
     let mut statements: Vec<Statement> = (0..n - 1).map(|i| statement(i, 255, 255, random)).collect();
     statements.push(statement(n - 1, 255, 49, random));
-    let flow = Flow { arrays: 2, names: 0, entry: 0, statements, lines: Vec::new() };
+    let flow = Flow { arrays: 2, statements, ..Flow::default() };
     debug_assert_eq!(flow.bytes().len(), MAX_FILE);
     flow
 }
 
 // ----- Damage -------------------------------------------------------------
 
-fn damaged(random: &mut Random, names: &mut Random) -> Vec<u8> {
+fn damaged(random: &mut Random, names: &mut Random, keys: &mut Random) -> Vec<u8> {
     let flow = match random.below(5) {
         0 => plain(random),
         1 => wide(random),
         2 => setup(random),
         _ => layered(random),
     };
-    let flow = on_walks(names, flow);
+    let flow = with_key(keys, on_walks(names, flow));
+    if keys.once_in(3) {
+        return damaged_key(keys, flow);
+    }
     let encoded = flow.encode();
     let mut bytes = encoded.bytes.clone();
     for _ in 0..random.within(1, 2) {
@@ -773,6 +898,50 @@ fn set_field(random: &mut Random, flow: &Flow, encoded: &Encoded, bytes: &mut [u
         _ => random.pick(&near),
     };
     place.copy_from_slice(&value.to_le_bytes()[..field.width]);
+}
+
+/// A record `FK` in a place where it may not stand, twice, cut off, or with a handler at its limit.
+fn damaged_key(random: &mut Random, mut flow: Flow) -> Vec<u8> {
+    if random.once_in(12) {
+        (flow.statements, flow.lines) = (Vec::new(), Vec::new());
+    }
+    let n = flow.statements.len() as u16;
+    let handler = match random.below(6) {
+        0 => n,
+        1 => random.pick(&[n + 1, 65_534, 65_535]),
+        2 => n.saturating_sub(1),
+        _ => random.below(usize::from(n).max(1)) as u16,
+    };
+    let record = [*b"FK", handler.to_le_bytes()].concat();
+    let Encoded { mut bytes, fields } = flow.without_key().encode();
+    let marks: Vec<usize> = fields.iter().filter(|f| f.what == What::Mark).map(|f| f.offset).collect();
+    let end = bytes.len() - 2;
+    bytes.splice(end..end, record.iter().copied());
+    match random.below(10) {
+        // As it should be, but for the handler.
+        0 | 1 => {}
+        2 => drop(bytes.splice(end..end, record)),
+        3 => {
+            let at = random.pick(&marks);
+            bytes.splice(at..at, record);
+        }
+        4 => {
+            let after = marks.iter().copied().filter(|&at| at >= marks[usize::from(n)]).collect::<Vec<_>>();
+            let at = random.pick(&after);
+            bytes.splice(at..at, record);
+        }
+        5 => bytes.extend(record),
+        6 | 7 => bytes.truncate(end + random.below(6)),
+        8 => {
+            let mark = random.pick(&[*b"FH", *b"FN", *b"FL", *b"FK", *b"FF", *b"fE"]);
+            bytes[end + 4..].copy_from_slice(&mark);
+        }
+        _ => {
+            let line = [*b"FL", 65_535_u16.to_le_bytes(), 0_u16.to_le_bytes()].concat();
+            bytes.splice(end + 4..end + 4, line);
+        }
+    }
+    bytes
 }
 
 /// One more `FL` record before the end, its line often not above the one before.

@@ -1,7 +1,7 @@
 //! The right answer to a file, from the original where it has something to say and from the
 //! reference answerer elsewhere; how a fault shows against it; and who agrees with it.
 
-use crate::answerer::{self, Answer, Areas, Certain, Fault, States, SureParts};
+use crate::answerer::{self, Answer, Areas, Certain, Fault, KeyParts, States, SureParts};
 use crate::flow::{self, Flow, Refusal};
 use crate::sides::{self, Original, OriginalCertain};
 use crate::{generate, reader};
@@ -72,7 +72,7 @@ impl Outcome {
 }
 
 /// The right outcome, with the flow of a fit file and what it has of sure arrays, and with what the
-/// original says where a call accepts.
+/// original says where a call accepts and there is no interrupt key.
 pub struct Right {
     pub outcome: Outcome,
     pub flow: Option<Flow>,
@@ -95,6 +95,10 @@ impl Right {
     /// The flow, where the call accepts it.
     fn accepted(&self) -> Option<&Flow> {
         self.flow.as_ref().filter(|_| self.outcome.answer.number == 0)
+    }
+
+    pub fn has_key(&self) -> bool {
+        self.flow.as_ref().is_some_and(|flow| flow.handler.is_some())
     }
 
     /// Whether the masks and live sets agree with the original's, if it has any.
@@ -165,8 +169,8 @@ pub fn print_fault_table(table: &[(Fault, Shown)], count: u64) -> bool {
 
 // ----- Comparisons --------------------------------------------------------
 
-/// Of the flows whose certain names were asked for: how many have one, a written name that is none, or
-/// both; and how many were compared with the original, or left out for a statement's visits.
+/// Of the flows without a key whose certain names were asked for: how many have one, a written name that is
+/// none, or both; and how many were compared with the original, or left out for a statement's visits.
 #[derive(Default)]
 pub struct Certainty {
     pub flows: usize,
@@ -179,7 +183,8 @@ pub struct Certainty {
 
 impl Certainty {
     fn count(&mut self, right: &Right) {
-        let Some(flow) = right.flow.as_ref().filter(|_| right.outcome.certain.number == 0) else { return };
+        let accepted = right.outcome.certain.number == 0 && !right.has_key();
+        let Some(flow) = right.flow.as_ref().filter(|_| accepted) else { return };
         let written = flow.statements.iter().fold(0, |set, s| set | s.written);
         let certain = right.outcome.certain.word;
         let (some, others) = (certain != 0, written & !certain != 0);
@@ -202,8 +207,8 @@ impl Certainty {
     }
 }
 
-/// Of the accepted flows: how many have sure arrays, by way of a call on the walk alone, and on an edge that
-/// is also the edge to an entered statement; how many have a smaller mask for it; and in how many the
+/// Of the accepted flows without a key: how many have sure arrays, by way of a call on the walk alone, and on
+/// an edge that is also the edge to an entered statement; how many have a smaller mask for it; and in how many the
 /// visits without sure arrays were compared with the original's.
 #[derive(Default)]
 pub struct Sureness {
@@ -238,6 +243,34 @@ impl Sureness {
     }
 }
 
+/// Of the accepted flows: how many have a handler, an opaque one, one that is not opaque and touches arrays;
+/// and how many have another mask for it than the same flow without its `FK`.
+#[derive(Default)]
+pub struct Keys {
+    pub flows: usize,
+    pub some: usize,
+    pub opaque: usize,
+    pub touches: usize,
+    pub other: usize,
+}
+
+impl Keys {
+    fn count(&mut self, KeyParts { opaque, touched }: KeyParts, other: bool) {
+        self.some += 1;
+        self.opaque += usize::from(opaque);
+        self.touches += usize::from(!opaque && touched != 0);
+        self.other += usize::from(other);
+    }
+
+    fn print(&self) {
+        let Keys { flows, some, opaque, touches, other } = *self;
+        let share = |count: usize| format!("{count} ({:.1}%)", 100.0 * count as f64 / flows as f64);
+        print!("  interrupt key, {flows} flows: {} with a handler, ", share(some));
+        print!("{} with an opaque one, {} with another that touches arrays, ", share(opaque), share(touches));
+        println!("{} with another mask than without the key", share(other));
+    }
+}
+
 #[derive(Default)]
 pub struct Comparison {
     pub accepted: usize,
@@ -245,6 +278,7 @@ pub struct Comparison {
     pub refused: [usize; 11],
     pub certainty: Certainty,
     pub sureness: Sureness,
+    pub keys: Keys,
     pub differences: Vec<String>,
 }
 
@@ -274,7 +308,9 @@ impl Comparison {
         let (Some(flow), Some(without)) = (right.accepted(), right.without_sure()) else { return };
         let (masks, visits) = (&right.outcome.areas.masks, right.outcome.answer.visits);
         let same = masks.starts_with(&without.masks);
-        self.sureness.count(right.sure, !same);
+        if !right.has_key() {
+            self.sureness.count(right.sure, !same);
+        }
         let fewer = masks_agree(masks, &without.masks, true);
         let agree = if right.sure.some { fewer } else { same && visits == without.visits };
         self.hold(index, "the answerer with and without sure arrays", agree);
@@ -284,6 +320,19 @@ impl Comparison {
             self.sureness.visits += 1;
             self.hold(index, "visits by the original and without sure arrays", counted == without.visits);
         }
+    }
+
+    /// A flow with a key beside itself without it: no mask loses a state, and the live sets are the same.
+    fn hold_key(&mut self, index: u64, right: &Right) {
+        let Some(flow) = right.accepted() else { return };
+        self.keys.flows += 1;
+        let Some(parts) = answerer::key_parts(flow) else { return };
+        let (areas, without) = (&right.outcome.areas, answerer::states(&flow.without_key(), None));
+        self.keys.count(parts, !areas.masks.starts_with(&without.masks));
+        let kept = areas.masks.iter().zip(&without.masks).all(|(with, without)| without & !with == 0);
+        let same =
+            areas.live_in.starts_with(&without.live_in) && areas.live_out.starts_with(&without.live_out);
+        self.hold(index, "the answerer with and without the key", kept && same);
     }
 
     pub fn print(&self, count: u64, seed: u64) {
@@ -296,6 +345,9 @@ impl Comparison {
         }
         if self.sureness.flows > 0 {
             self.sureness.print();
+        }
+        if self.keys.flows > 0 {
+            self.keys.print();
         }
         self.differences.iter().for_each(|d| println!("  {d}"));
         println!("{} differences", self.differences.len());
@@ -323,6 +375,7 @@ pub fn compare(count: u64, seed: u64) -> Comparison {
         comparison.hold(index, "the plain reader and the answerer", read == of_file(right.outcome.answer));
         comparison.hold_original(index, "the answerer", &right, &right.outcome);
         comparison.hold_without_sure(index, &right);
+        comparison.hold_key(index, &right);
     }
     comparison
 }
@@ -384,6 +437,7 @@ pub fn compare_proved(count: u64, seed: u64) -> Option<Comparison> {
         comparison.hold(index, "the proved calls and the answerer", proved == right.outcome);
         comparison.hold_original(index, "the proved calls", &right, &proved);
         comparison.hold_without_sure(index, &right);
+        comparison.hold_key(index, &right);
     }
     Some(comparison)
 }

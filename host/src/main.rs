@@ -7,11 +7,11 @@ use std::{env, fs};
 use yarnuskel_host::flow::Flow;
 use yarnuskel_host::generate::{self, Family};
 use yarnuskel_host::judge::{self, Comparison, Lent};
-use yarnuskel_host::sides::{self, NO_LIBRARY, NO_ORIGINAL};
+use yarnuskel_host::sides::{self, NO_KEY, NO_LIBRARY, NO_ORIGINAL};
 use yarnuskel_host::{answerer, bench, cases, dot, flow, listing, reading, saved, stack, store, text, worst};
 
 const USAGE: &str = "commands:
-  answer FILE|DIR              masks, live sets and certain names by the original, refusals and what sure arrays change by the answerer (of a DIR, its .flow files)
+  answer FILE|DIR              masks, live sets and certain names by the original, refusals and what sure arrays change by the answerer (of a DIR, its .flow files), which also answers a flow with an interrupt key
   random KIND COUNT SEED DIR   write random files: plain, layered, limits, setup, damaged
   file SEED INDEX PATH         write one file of a comparison
   time FILE                    time the original
@@ -25,9 +25,10 @@ const USAGE: &str = "commands:
   definitions                  every definition that the promises rest on, with its file and its lines
   text FILE                    a flow file as text
   flow TEXT PATH               write the flow file that a text says
-  dot FILE                     a flow file with its masks, sure arrays and certain names as a picture, for Graphviz
+  dot FILE                     a flow file with its masks, sure arrays, certain names and key as a picture, for Graphviz
   saved                        how many references need no test for sure arrays, in the flows of bench and the examples
   saved FILE                   the masks of a flow file without sure arrays and with them
+  key FILE                     the masks of a flow file without its interrupt key and with it
   bench-reader                 the proved reader beside a plain one
   bench                        the proved calls beside the original, and beside each other
   stack                        the stack that the deepest nest of subroutines takes, in each order of the file
@@ -68,28 +69,34 @@ fn answer_file(path: &Path) -> Outcome {
             return Ok(true);
         }
     };
-    let Some(answer) = sides::original(&flow) else {
+    let states = answerer::states(&flow, None);
+    let original = sides::original(&flow);
+    if original.is_none() && flow.handler.is_none() {
         println!("{NO_ORIGINAL}");
         return Ok(true);
-    };
+    }
     let arrays = usize::from(flow.arrays);
     let digits = |masks: &[u8], i: usize| -> String {
         let row = &masks[i * arrays..(i + 1) * arrays];
         if arrays == 0 { "-".into() } else { row.iter().map(|m| char::from(b'0' + m)).collect() }
     };
-    let sure = answerer::states(&flow, None).masks;
     for i in 0..flow.statements.len() {
-        let (original, masks) = (digits(&answer.masks, i), digits(&sure, i));
-        let was = if original == masks { String::new() } else { format!(" (the original: {original})") };
-        println!("{i} {masks} {:016x} {:016x}{was}", answer.live_in[i], answer.live_out[i]);
+        let masks = digits(&states.masks, i);
+        let was = original.as_ref().map(|original| digits(&original.masks, i)).filter(|was| *was != masks);
+        let was = was.map_or(String::new(), |was| format!(" (the original: {was})"));
+        println!("{i} {masks} {:016x} {:016x}{was}", states.live_in[i], states.live_out[i]);
     }
     println!("{}", certain_line(&flow));
     Ok(true)
 }
 
-/// The certain names by the original, or by the answerer where the original may have fallen back.
+/// The certain names by the original, or by the answerer where the original may have fallen back or says
+/// nothing.
 fn certain_line(flow: &Flow) -> String {
     match sides::original_certain(flow) {
+        None if flow.handler.is_some() => {
+            format!("certain {:016x}, all by the answerer: {NO_KEY}", answerer::certain_names(flow, None))
+        }
         Some(original) if original.compared().is_none() => {
             let word = answerer::certain_names(flow, None);
             let visits = original.visits;
@@ -166,7 +173,7 @@ fn write_flow(from: &Path, to: &Path) -> Outcome {
 fn time(path: &Path) -> Outcome {
     let flow = fit(path)?;
     let Some([mut masks, mut live]) = sides::original_runs(&flow) else {
-        println!("{NO_ORIGINAL}");
+        println!("{}", if flow.handler.is_some() { NO_KEY } else { NO_ORIGINAL });
         return Ok(true);
     };
     let [masks, live] = bench::medians(5, [&mut masks, &mut live]);
@@ -262,13 +269,17 @@ fn run(words: &[&str]) -> Outcome {
             print!("{}", saved::masks(&fit(Path::new(path))?));
             Ok(true)
         }
+        ["key", path] => {
+            print!("{}", saved::key_masks(&fit(Path::new(path))?));
+            Ok(true)
+        }
         ["definitions"] => {
             print!("{}", reading::Library::load(&root()).believed(&root()));
             Ok(true)
         }
         ["flow", from, path] => write_flow(Path::new(from), Path::new(path)),
         ["bench-reader"] => Ok(bench::readers()),
-        ["bench"] => Ok(bench::whole_call() & bench::certain_call()),
+        ["bench"] => Ok(bench::whole_call() & bench::key_call() & bench::certain_call()),
         ["stack"] => stack::measure(),
         ["stack-try", order, depth, bytes] => stack::tried(order, number(depth)?, number(bytes)?),
         ["worst", seconds, seed] => worst::search(number(seconds)?, number(seed)?, None),

@@ -158,7 +158,11 @@ fn graph(flow: &Flow) -> Cfg {
 }
 
 impl Original {
-    pub fn new(flow: &Flow) -> Original {
+    /// `None` for a flow with an interrupt key.
+    pub fn new(flow: &Flow) -> Option<Original> {
+        if flow.handler.is_some() {
+            return None;
+        }
         let arrays: Vec<VarName> = (0..flow.arrays.into()).map(|i| name(i, VarKind::Float)).collect();
         let names: Vec<VarName> = (0..flow.names.into()).map(|i| name(i, VarKind::Float)).collect();
         let members = |set: u64| {
@@ -171,12 +175,12 @@ impl Original {
             read: members(s.read),
         };
         let stmts = flow.statements.iter().map(|s| stmt(&s.kind, &arrays)).collect();
-        Original {
+        Some(Original {
             module: Module { lines: vec![Line { stmts }], cfg: graph(flow), on_key: false },
             lists: Rc::new(flow.statements.iter().map(lists).collect()),
             arrays,
             names,
-        }
+        })
     }
 
     /// The masks of each statement.

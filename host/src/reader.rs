@@ -158,6 +158,11 @@ impl Reader<'_> {
                     least = line + 1;
                     self.statement_number()?;
                 }
+                // Then only the end may stand.
+                b"FK" => {
+                    self.statement_number()?;
+                    return if self.mark()? == *b"FE" { Ok(()) } else { self.unfit(2) };
+                }
                 b"FE" => return Ok(()),
                 _ => return self.unfit(2),
             }

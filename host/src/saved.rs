@@ -1,5 +1,6 @@
 //! What sure arrays save: references whose array had several states in the mask without them, and has one
-//! with them, so that a compiled script need not test it.
+//! with them, so that a compiled script need not test it. And the masks of a flow without its interrupt key
+//! beside those with it.
 
 use std::fmt::Write;
 
@@ -50,20 +51,32 @@ pub fn table(flows: &[(String, Flow)]) -> String {
     text
 }
 
-/// The masks of a flow without sure arrays and with them, a row a statement, and its checks.
-pub fn masks(flow: &Flow) -> String {
+/// Masks of a flow, in two columns, a row a statement.
+fn beside(flow: &Flow, [first, second]: [(&str, &[u8]); 2]) -> String {
     let arrays = usize::from(flow.arrays);
     let digits = |masks: &[u8], i: usize| -> String {
         let row = &masks[i * arrays..(i + 1) * arrays];
         if row.is_empty() { "-".into() } else { row.iter().map(u8::to_string).collect() }
     };
-    let (before, after) = (answerer::states_without_sure(flow).masks, answerer::states(flow, None).masks);
-    let width = arrays.max(6);
-    let mut text = format!("{:>9} {:>5} {:>width$} {:>width$}\n", "statement", "line", "before", "after");
+    let width = arrays.max(first.0.len()).max(second.0.len());
+    let mut text = format!("{:>9} {:>5} {:>width$} {:>width$}\n", "statement", "line", first.0, second.0);
     for (i, s) in flow.statements.iter().enumerate() {
-        let (before, after) = (digits(&before, i), digits(&after, i));
-        writeln!(text, "{i:>9} {:>5} {before:>width$} {after:>width$}", s.line).unwrap();
+        let (first, second) = (digits(first.1, i), digits(second.1, i));
+        writeln!(text, "{i:>9} {:>5} {first:>width$} {second:>width$}", s.line).unwrap();
     }
+    text
+}
+
+/// The masks of a flow without its interrupt key and with it.
+pub fn key_masks(flow: &Flow) -> String {
+    let without = answerer::states(&flow.without_key(), None).masks;
+    beside(flow, [("without key", &without), ("with it", &answerer::states(flow, None).masks)])
+}
+
+/// The masks of a flow without sure arrays and with them, a row a statement, and its checks.
+pub fn masks(flow: &Flow) -> String {
+    let (before, after) = (answerer::states_without_sure(flow).masks, answerer::states(flow, None).masks);
+    let mut text = beside(flow, [("before", &before), ("after", &after)]);
     let Checks { pairs, before, after } = checks(flow);
     writeln!(text, "{pairs} references, {before} checks before, {after} after").unwrap();
     text

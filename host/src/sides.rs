@@ -1,10 +1,12 @@
 //! The sides of a comparison that may be absent: the original Rust and the proved library. Each
-//! answers `None` where it was not there at build time.
+//! answers `None` where it was not there at build time, the original also for a flow with an interrupt
+//! key, of which its runs know nothing.
 
 use crate::answerer::{Answer, Areas, Certain};
 use crate::flow::{Flow, Refusal};
 
 pub const NO_ORIGINAL: &str = "the original Rust is not here: what needs it is skipped";
+pub const NO_KEY: &str = "the original knows no interrupt key";
 pub const NO_LIBRARY: &str = "target/staticlib/libyarnuskel.a is not built: what needs it is skipped";
 
 /// What the original says of an accepted flow.
@@ -17,7 +19,7 @@ pub struct Original {
 
 #[cfg(original)]
 pub fn original(flow: &Flow) -> Option<Original> {
-    let original = crate::original::Original::new(flow);
+    let original = crate::original::Original::new(flow)?;
     let masks = original.array_states().concat();
     let (live_in, live_out) = original.live_words();
     Some(Original { masks, live_in, live_out })
@@ -33,7 +35,7 @@ pub fn original(_: &Flow) -> Option<Original> {
 #[cfg(original)]
 pub fn original_visits(flow: &Flow) -> Option<u64> {
     use crate::flow::Kind;
-    let (edges, visits) = crate::original::Original::new(flow).doubled();
+    let (edges, visits) = crate::original::Original::new(flow)?.doubled();
     let ordered = |i: usize| match flow.statements[i].kind {
         Kind::Return => edges[i].windows(2).all(|two| two[0] == two[1]),
         _ => true,
@@ -66,7 +68,7 @@ impl OriginalCertain {
 
 #[cfg(original)]
 pub fn original_certain(flow: &Flow) -> Option<OriginalCertain> {
-    let original = crate::original::Original::new(flow);
+    let original = crate::original::Original::new(flow)?;
     let visits = original.defined_visits().into_iter().max().unwrap_or(0);
     Some(OriginalCertain { word: original.defined_before_use(), visits })
 }
@@ -84,7 +86,7 @@ pub type Run<'a> = Box<dyn FnMut() + 'a>;
 pub fn original_runs(flow: &Flow) -> Option<[Run<'static>; 2]> {
     use std::hint::black_box;
     use std::rc::Rc;
-    let masks = Rc::new(crate::original::Original::new(flow));
+    let masks = Rc::new(crate::original::Original::new(flow)?);
     let live = masks.clone();
     Some([
         Box::new(move || drop(black_box(masks.array_states()))),
@@ -100,7 +102,7 @@ pub fn original_runs(_: &Flow) -> Option<[Run<'static>; 2]> {
 /// The original's `DefinedBeforeUse`.
 #[cfg(original)]
 pub fn original_certain_run(flow: &Flow) -> Option<Run<'static>> {
-    let original = crate::original::Original::new(flow);
+    let original = crate::original::Original::new(flow)?;
     Some(Box::new(move || {
         std::hint::black_box(original.defined_before_use());
     }))

@@ -40,7 +40,8 @@ pub fn nest(order: Order, depth: usize) -> Flow {
     };
     let all = 0..=depth as u16;
     let lines = all.clone().filter(|&i| i != place(0)).map(|i| (line(i), i)).collect();
-    Flow { arrays: MAX_ARRAYS, names: 0, entry: place(0), statements: all.map(statement).collect(), lines }
+    let statements = all.map(statement).collect();
+    Flow { arrays: MAX_ARRAYS, entry: place(0), statements, lines, ..Flow::default() }
 }
 
 /// What the proved call answers in a thread with so much stack. Too little of it ends the process.

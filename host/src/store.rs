@@ -17,11 +17,12 @@ const LONGEST: usize = 700;
 /// How many flows show a fault before no more are taken for its sake.
 const ENOUGH: usize = 8;
 
-/// Whether a fault shows against the original; visits, and masks where there are sure arrays, are the
-/// answerer's alone.
+/// Whether a fault shows against the original; visits, masks where there are sure arrays, and all of a flow
+/// with a key are the answerer's alone.
 fn shows(fault: Fault, file: &[u8], lent: Lent, right: &Right) -> bool {
     let (at_all, against_original) = judge::shows(fault, file, lent, right);
-    if fault == Fault::VisitsFitTheBound || right.sure.some { at_all } else { against_original }
+    let alone = fault == Fault::VisitsFitTheBound || right.sure.some || right.has_key();
+    if alone { at_all } else { against_original }
 }
 
 /// Random flows: those that show a fault not yet shown often, and half of the others.
@@ -40,12 +41,11 @@ fn random_cases() -> Vec<Case> {
         }
         let lent = Lent::for_file(&file, (index % 3) as usize);
         let right = judge::right(&file, lent);
-        let shows = Fault::ALL.map(|fault| shows(fault, &file, lent, &right));
-        let adds = shown.iter().zip(shows).any(|(&times, shows)| shows && times < ENOUGH);
-        if adds || cases.len() < FLOWS && index % 2 == 0 {
-            for (times, shows) in shown.iter_mut().zip(shows) {
-                *times += usize::from(shows);
-            }
+        let wanted = Fault::ALL.into_iter().zip(&mut shown).filter(|(_, times)| **times < ENOUGH);
+        let shows: Vec<&mut usize> =
+            wanted.filter(|(fault, _)| shows(*fault, &file, lent, &right)).map(|(_, times)| times).collect();
+        if !shows.is_empty() || cases.len() < FLOWS && index % 2 == 0 {
+            shows.into_iter().for_each(|times| *times += 1);
             let mut case = Case::new(format!("{} {index}", family.name()), file, 0);
             case.lent = lent;
             cases.push(case);
@@ -61,7 +61,8 @@ pub fn cases() -> Vec<Case> {
     let differences = cases::differences().into_iter().map(|(name, flow)| (name, flow.bytes()));
     let differences = differences.chain([("refused", cases::refused())]);
     let differences = differences.map(|(name, file)| Case::new(name, file, 1)).collect();
-    [worked, cases::refusals(), cases::certain(), cases::sure(), random_cases(), differences].concat()
+    [worked, cases::refusals(), cases::certain(), cases::sure(), cases::key(), random_cases(), differences]
+        .concat()
 }
 
 /// The right answer to a case; an error where original and answerer part, also without sure arrays.

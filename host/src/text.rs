@@ -20,9 +20,10 @@
 //!   continuation;
 //! - `ON GOSUB 30 40 then 1`: the same with any number of lines, none too.
 //!
-//! Last, `lines` with LINE=STATEMENT, lines rising: the statements that calls of these lines
-//! enter. There may be several such lines of text, or none. What stands after `#` is a remark, and
-//! an empty line says nothing.
+//! Then `lines` with LINE=STATEMENT, lines rising: the statements that calls of these lines
+//! enter. There may be several such lines of text, or none. Last, where there is an interrupt key,
+//! `key 2`: its handler is statement 2. What stands after `#` is a remark, and an empty line says
+//! nothing.
 
 use std::fmt::{self, Write};
 
@@ -84,6 +85,9 @@ pub fn print(flow: &Flow) -> String {
     for some in flow.lines.chunks(8) {
         let pairs = list(some.iter().map(|(line, first)| format!("{line}={first}")));
         writeln!(text, "lines{pairs}").unwrap();
+    }
+    if let Some(handler) = flow.handler {
+        writeln!(text, "key {handler}").unwrap();
     }
     text
 }
@@ -341,7 +345,9 @@ fn statement(line: &mut Line, i: usize, counts: Counts) -> Read<Statement> {
 }
 
 fn entered(line: &mut Line, counts: Counts, lines: &mut Vec<(u16, u16)>) -> Read<()> {
-    line.word("lines")?;
+    if !line.take("lines") {
+        return line.expected("`lines` or `key`");
+    }
     while line.next().is_some() {
         let last = lines.last().map(|&(last, _)| last);
         let number = line.above(last, "a BASIC line", Line::line_number)?;
@@ -366,9 +372,18 @@ pub fn read(text: &str) -> Read<Flow> {
         entry,
         statements: statements?,
         lines: Vec::new(),
+        handler: None,
     };
     for mut line in lines {
-        entered(&mut line, counts, &mut flow.lines)?;
+        if flow.handler.is_some() {
+            return line.expected("the end of the text");
+        }
+        if line.take("key") {
+            flow.handler = Some(line.below("a statement", counts.statements)?);
+            line.end()?;
+        } else {
+            entered(&mut line, counts, &mut flow.lines)?;
+        }
     }
     match flow.bytes().len() {
         ..=MAX_FILE => Ok(flow),

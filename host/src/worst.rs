@@ -34,9 +34,13 @@ enum Family {
     Shared,
     /// Many plain GOSUBs in one dense graph, and arrays that walks to a RETURN miss one at a time.
     Sure,
+    /// A dense graph that an interrupt key's handler walks too, so that it is come to in both copies.
+    Key,
+    /// Calls that are not opaque, with long lists of lines, and an interrupt key.
+    KeyCalls,
 }
 
-const FAMILIES: [Family; 7] = [
+const FAMILIES: [Family; 9] = [
     Family::Returns,
     Family::Bodies,
     Family::Calls,
@@ -44,6 +48,8 @@ const FAMILIES: [Family; 7] = [
     Family::Dense,
     Family::Shared,
     Family::Sure,
+    Family::Key,
+    Family::KeyCalls,
 ];
 
 // ----- Recipes ------------------------------------------------------------
@@ -101,6 +107,8 @@ impl Recipe {
             Family::Dense => dense(self.knobs, random),
             Family::Shared => shared(self.knobs, random),
             Family::Sure => sure(self.knobs, random),
+            Family::Key => key(self.knobs, random),
+            Family::KeyCalls => key_calls(self.knobs, random),
         }
         .bytes()
     }
@@ -138,7 +146,7 @@ fn changes(to: usize) -> Vec<Statement> {
 }
 
 fn flow(statements: Vec<Statement>, lines: Vec<(u16, u16)>) -> Flow {
-    Flow { arrays: MAX_ARRAYS, names: 64, entry: 0, statements, lines }
+    Flow { arrays: MAX_ARRAYS, names: 64, statements, lines, ..Flow::default() }
 }
 
 /// How many more entries of `width` bytes each of `count` lists may have, by the knob.
@@ -364,6 +372,33 @@ fn sure([share, fill, gates, direction]: Knobs, random: &mut Random) -> Flow {
     generate::moved(flow, &place, line)
 }
 
+/// Knobs: successors, how many arrays the handler touches, where edges go, and where the handler leads: on into
+/// the dense graph, with the arrays that it refers to, or in the upper half to a RETURN alone.
+fn key([fill, touched, direction, leads]: Knobs, random: &mut Random) -> Flow {
+    let (handler, first) = (CHANGES, CHANGES + 2);
+    let touched: Vec<u8> = (0..MAX_ARRAYS).take(ARRAYS * touched / TURNS).collect();
+    let to = if leads > TURNS / 2 { handler + 1 } else { first };
+    let mut statements = changes(first);
+    statements.push(Statement::new(line(handler), Kind::Other, &[to as u16], &touched));
+    statements.push(Statement::new(line(handler + 1), Kind::Return, &[], &[]));
+    statements.extend((first..N).map(ordinary));
+    let mut flow = Flow { handler: Some(handler as u16), ..flow(statements, Vec::new()) };
+    densify(&mut flow, first, [fill, 0, direction], random);
+    flow
+}
+
+/// Knobs: as those of `transparent`, but for the last: where among the statements the handler stands. All of
+/// them lead on to one that refers to an array.
+fn key_calls([share, fill, known, at]: Knobs, random: &mut Random) -> Flow {
+    let mut flow = transparent([share, fill, known, TURNS / 2], random);
+    let calls = CHANGES + 2..flow.statements.len() - 2;
+    flow.handler = Some((calls.start + (calls.len() - 1) * at / TURNS) as u16);
+    while flow.bytes().len() > MAX_FILE {
+        flow.lines.pop();
+    }
+    flow
+}
+
 // ----- The search ---------------------------------------------------------
 
 /// How long this thread was on a processor, where the system says so, as Linux does.
@@ -449,6 +484,16 @@ pub fn sure_files() -> [Vec<u8>; 2] {
         .map(|direction| Recipe { family: Family::Sure, knobs: [20, 8, 40, direction], seed: 1 }.file())
 }
 
+/// Files of many statements with an interrupt key: its handler touches all arrays, or half of them.
+pub fn key_files() -> [Vec<u8>; 3] {
+    let recipe = |family, knobs| Recipe { family, knobs, seed: 1 }.file();
+    [
+        recipe(Family::Key, [20, TURNS, 45, 0]),
+        recipe(Family::Key, [20, TURNS / 2, 30, TURNS]),
+        recipe(Family::KeyCalls, [TURNS, 20, 20, 10]),
+    ]
+}
+
 /// The file of stored recipe `number`, from 0.
 pub fn stored_file(number: usize) -> Option<Vec<u8>> {
     stored().get(number).map(|recipe| recipe.file())
@@ -498,6 +543,24 @@ mod tests {
             let flow = crate::flow::read(&file).unwrap();
             let sure = crate::answerer::sure_arrays(&flow, None);
             assert!(sure.iter().filter(|&&set| set != 0).count() > 500);
+        }
+    }
+
+    /// Were the handler opaque, there would be nothing to solve.
+    #[test]
+    fn key_files_have_handlers_that_touch_arrays() {
+        for file in key_files() {
+            let flow = crate::flow::read(&file).unwrap();
+            let parts = crate::answerer::key_parts(&flow).unwrap();
+            assert!(!parts.opaque && parts.touched != 0);
+        }
+        let mut random = Random::new(3, 0);
+        for family in [Family::Key, Family::KeyCalls] {
+            for _ in 0..10 {
+                let recipe = Recipe::any(family, &mut random);
+                let flow = crate::flow::read(&recipe.file()).unwrap();
+                assert!(!crate::answerer::key_parts(&flow).unwrap().opaque, "{recipe}");
+            }
         }
     }
 

@@ -62,7 +62,7 @@ mod original {
     fn return_edges_come_in_either_order() {
         let flow = named("return_order");
         let run = |_| {
-            let (edges, visits) = Original::new(&flow).doubled();
+            let (edges, visits) = Original::new(&flow).unwrap().doubled();
             (edges[7].clone(), visits.iter().sum())
         };
         let runs: BTreeSet<(Vec<usize>, u64)> = (0..100).map(run).collect();
@@ -73,7 +73,7 @@ mod original {
     /// Bodies 2 and 5 call each other: what the Rust finds the second to touch is not complete.
     #[test]
     fn touched_arrays_on_a_cycle_depend_on_the_order() {
-        let original = Original::new(&named("call_cycle"));
+        let original = Original::new(&named("call_cycle")).unwrap();
         let touched = |entries: [usize; 2]| original.bodies(&entries);
         assert_eq!(touched([2, 5]), [(vec![0, 1], true), (vec![1], true)]);
         assert_eq!(touched([5, 2]), [(vec![0, 1], true), (vec![0], true)]);
@@ -83,7 +83,7 @@ mod original {
     #[test]
     fn a_statement_visited_past_both_thresholds() {
         let flow = named("many_visits");
-        let (_, visits) = Original::new(&flow).doubled();
+        let (_, visits) = Original::new(&flow).unwrap().doubled();
         assert_eq!(visits[70], 71);
         assert_eq!(visits.iter().sum::<u64>(), answerer::states(&flow, None).visits);
     }
@@ -111,7 +111,8 @@ mod original {
     fn small_flows_stay_below_the_threshold() {
         let flows = (0..8_000).filter_map(|index| flow::read(&generate::file(5, index)).ok());
         for flow in flows.filter(|flow| flow.statements.len() <= 32) {
-            let visits = Original::new(&flow).defined_visits();
+            let Some(original) = Original::new(&flow) else { continue };
+            let visits = original.defined_visits();
             let others = visits.iter().enumerate().filter(|(i, _)| *i != usize::from(flow.entry));
             assert!(others.map(|(_, visits)| *visits).max().unwrap_or(0) <= flow.statements.len() as u64);
             let (original, _, certain) = certain(&flow);

@@ -52,6 +52,23 @@ fn sure_arrays() {
     }
 }
 
+/// The key is one arrow to its handler, with what the handler's body touches.
+#[test]
+fn interrupt_key() {
+    let p5 = &cases::worked()[0].flow;
+    assert!(!picture(p5).contains("key"));
+    for (handler, label) in [(2, "key\\ltouches 0\\l"), (3, "key\\l")] {
+        let picture = picture(&Flow { handler: Some(handler), ..p5.clone() });
+        assert!(picture.contains(&format!("  key [shape=plaintext, label=\"{label}\"];\n")), "{picture}");
+        let (nodes, edges) = parts(&picture);
+        assert_eq!(nodes.iter().filter(|name| **name == "key").count(), 1);
+        let of_key: Vec<&&str> = edges.iter().filter(|edge| edge.starts_with("key")).collect();
+        assert_eq!(of_key, [&format!("key -> {handler} [style=bold, color=darkgreen];")]);
+    }
+    let opaque = Flow { handler: Some(2), ..cases::worked()[1].flow.clone() };
+    assert!(picture(&opaque).contains("label=\"key\\lopaque\\l\""));
+}
+
 #[test]
 fn certain_names() {
     let p5 = &cases::worked()[0].flow;

@@ -82,6 +82,25 @@ fn sure_flows_show_their_faults() {
     }
 }
 
+/// Each flow for a rule of the interrupt key tells it from the fault there, and without its key it is
+/// answered as the original does.
+#[test]
+fn key_flows_show_their_faults() {
+    for (name, fault, flow) in cases::key_flows() {
+        let answers = |fault| (answerer::states(&flow, fault), answerer::certain_names(&flow, fault));
+        assert_ne!(answers(Some(fault)), answers(None), "{name}");
+        assert_eq!(answers(None).1, 0, "{name}");
+        assert_eq!(sides::original(&flow), None, "{name}");
+        let without = flow.without_key();
+        match sides::original(&without) {
+            Some(original) => {
+                assert_eq!(original.masks, answerer::states_without_sure(&without).masks, "{name}")
+            }
+            None => println!("{NO_ORIGINAL}"),
+        }
+    }
+}
+
 #[test]
 fn original_and_answerer_agree() {
     let count = 8_000;
@@ -97,6 +116,11 @@ fn original_and_answerer_agree() {
     assert!(12 * sureness.nested > sureness.flows, "too few flows with arrays sure by way of another call");
     assert!(30 * sureness.shared > sureness.flows, "too few flows with the old step for sure arrays");
     assert!(cfg!(not(original)) || 2 * sureness.visits > sureness.flows, "too few visits compared");
+    let keys = &comparison.keys;
+    assert!(4 * keys.some > keys.flows, "too few flows with a handler");
+    assert!(20 * keys.opaque > keys.flows, "too few flows with an opaque handler");
+    assert!(8 * keys.touches > keys.flows, "too few flows with a handler that touches arrays");
+    assert!(5 * keys.other > keys.flows, "too few flows with another mask than without the key");
 }
 
 #[test]
@@ -120,7 +144,7 @@ fn stored_answers_show_every_fault() {
         let shows = |s: &&store::Stored| judge::outcome(&s.file, s.lent, Some(fault)) != s.outcome;
         let count = stored.iter().filter(shows).count();
         println!("{:64} in {count} of {} stored cases", fault.text(), stored.len());
-        assert!(count > 0);
+        assert!(count >= 8);
     }
 }
 

@@ -55,12 +55,15 @@ fn random_files_by_the_proved_call() {
     no_differences(20_000, judge::compare_proved(20_000, SEED), NO_LIBRARY);
 }
 
-/// The flows of the benchmarks are at the limits of size, and so are those with many sure arrays.
+/// The flows of the benchmarks are at the limits of size, and so are those with many sure arrays and those
+/// with an interrupt key.
 #[test]
 fn large_flows_by_the_proved_call() {
     let flows = bench::flows().into_iter().chain([("names", bench::one_name_at_a_time())]);
+    let flows = flows.chain(bench::key_flows());
     let sure = worst::sure_files().map(|file| ("sure arrays", file));
-    for (name, file) in flows.map(|(name, flow)| (name, flow.bytes())).chain(sure) {
+    let key = worst::key_files().map(|file| ("the key", file));
+    for (name, file) in flows.map(|(name, flow)| (name, flow.bytes())).chain(sure).chain(key) {
         let lent = Lent::for_file(&file, 1);
         match judge::proved_outcome(&file, lent) {
             Some(outcome) => assert!(outcome == judge::outcome(&file, lent, None), "{name}"),
@@ -105,7 +108,7 @@ fn the_wrapper_sizes_its_areas() {
 /// A work area one word short, exact and longer: changed by no refusal, and zero after an answer.
 #[test]
 fn work_areas_of_certain_names() {
-    for case in cases::certain() {
+    for case in cases::certain().into_iter().chain(cases::key()) {
         let file = case.file();
         let work = Lent::for_file(&file, 0).work;
         for length in [0, work.saturating_sub(1), work, work + 1, 2 * work + 3] {
@@ -208,7 +211,8 @@ fn run_with_input(program: &Path, input: &[u8]) -> String {
     text
 }
 
-/// One input for each shape of line: worked flows, refusals, no arrays, 97 statements, long input.
+/// One input for each shape of line: worked flows, refusals, no arrays, an interrupt key, 97 statements, long
+/// input.
 #[test]
 fn listing_program() {
     let program = root().join("target/bin/listing");
@@ -216,9 +220,10 @@ fn listing_program() {
         return println!("target/bin/listing is not built: its test is skipped");
     }
     let stored = stored().into_iter().take(240).map(|stored| stored.file);
+    let keys = cases::key().into_iter().map(|case| case.file());
     let sized = [96, 97].map(|n| bench::call_free(n).bytes());
     let long = [16_384, 16_385].map(|length| vec![b'F'; length]);
-    for (number, input) in stored.chain(sized).chain(long).enumerate() {
+    for (number, input) in stored.chain(keys).chain(sized).chain(long).enumerate() {
         assert_eq!(run_with_input(&program, &input), listing::listing(&input), "input {number}");
     }
 }

@@ -29,6 +29,8 @@ fn worked_flows_and_limits_both_ways() {
     }
     let fit = cases::refusals().iter().filter(|case| both_ways(&case.file())).count();
     assert!(fit > 5, "{fit} cases at the limits");
+    let fit = cases::key().iter().filter(|case| both_ways(&case.file())).count();
+    assert!(fit > 40, "{fit} cases with a key");
     assert!(both_ways(&Flow { arrays: 64, names: 64, entry: 65_535, ..Flow::default() }.bytes()));
 }
 
@@ -47,6 +49,29 @@ fn p5_as_text() {
     let by_hand =
         P5.replace("flow 4", "# remark\n\nflow 4").replace("; refs 0; reads 0", " ;reads 0;refs 0 # both");
     assert_eq!(text::read(&by_hand).as_ref(), Ok(p5));
+}
+
+/// The handler stands on a line of its own, after the lines or in their place.
+#[test]
+fn interrupt_key_as_text() {
+    let with_key = Flow { handler: Some(2), ..cases::worked()[0].flow.clone() };
+    assert_eq!(text::print(&with_key), format!("{P5}key 2\n"));
+    assert_eq!(text::read(&format!("{P5}\n  key  2 # a handler\n")).as_ref(), Ok(&with_key));
+    let short = "flow 1 statement, 0 arrays, 0 names, entry 0\n0: line 1 RETURN\n";
+    assert_eq!(text::read(&format!("{short}key 0")).unwrap().handler, Some(0));
+    let said = |more: &str| text::read(&format!("{P5}{more}")).unwrap_err().to_string();
+    for (more, message) in [
+        ("key", "line 7: expected a statement from 0 to 3, found the end of the line"),
+        ("key 4", "line 7: expected a statement from 0 to 3, found `4`"),
+        ("key 2 3", "line 7: expected the end of the line, found `3`"),
+        ("key 2\nkey 2", "line 8: expected the end of the text, found `key`"),
+        ("key 2\nlines 50=1", "line 8: expected the end of the text, found `lines`"),
+        ("keys 2", "line 7: expected `lines` or `key`, found `keys`"),
+    ] {
+        assert_eq!(said(more), message);
+    }
+    let none = text::read("flow 0 statements, 0 arrays, 0 names, entry 0\nkey 0").unwrap_err();
+    assert_eq!(none.to_string(), "line 2: expected a statement, of which there are none, found `0`");
 }
 
 /// What is said of P5 with one text put in the place of another.
@@ -83,7 +108,7 @@ fn errors_name_line_and_expectation() {
         ("other; to 3", "DIM 0(; to 3", "line 4: expected `)`, found `;`"),
         ("to 3; refs 0", "to 3; to 3", "line 4: expected one of refs, writes, reads, found `to`"),
         ("3: line 40 RETURN\n", "", "line 5: expected statement 3, found `lines`"),
-        ("lines 10=0", "4: line 50 RETURN\nlines 10=0", "line 6: expected `lines`, found `4`"),
+        ("lines 10=0", "4: line 50 RETURN\nlines 10=0", "line 6: expected `lines` or `key`, found `4`"),
         ("20=1", "10=1", "line 6: expected a BASIC line above the one before, found `10`"),
         ("20=1", "20=4", "line 6: expected a statement from 0 to 3, found `4`"),
     ];

@@ -2,15 +2,18 @@
 -- By what a fit file gives its readers, and what is asked of the work area before statements are read by number.
 use Prim.Native.Nat.{ℕ, zero, suc, _+_, _/_, _≤_, _<_}
 use mathlib.Core.List.{List}
-use mathlib.Core.Path.{_≡_, refl, ap, subst, _∙_}
+use mathlib.Core.Option.{Option, none, some}
+use mathlib.Core.Path.{_≡_, refl, sym, ap, subst, _∙_}
 use native.Mathlib.Omega.{arith}
 use lib.ListN.{length, getD}
 use Rattle.flow.specs.Limits.{maxFile}
 use Rattle.flow.specs.Flow.{size}
+use Rattle.flow.specs.declared.StmtId.{StmtId}
+use Rattle.flow.specs.declared.Handler as H
 use Rattle.flow.specs.declared.Header.{Header}
-use Rattle.flow.specs.contracts.Answers.{FitFile, FitRecord}
+use Rattle.flow.specs.contracts.Answers.{handlerFrom, FitFile, FitRecord}
 use Rattle.records.specs.contracts.Fields.{LineParts, callLineCount, callLineAt}
-use Rattle.flow.specs.Format.{flowOf, statementsOf, lineCount, recordPlace, successorCount, successorAt}
+use Rattle.flow.specs.Format.{flowOf, statementsOf, lineCount, handlerOf, recordPlace, successorCount, successorAt}
 use Rattle.records.proofs.Files.{limited, record-fit}
 use Rattle.records.proofs.KindData.{call-line-fits}
 use Rattle.flow.proofs.Records.{references-fit}
@@ -85,3 +88,21 @@ located-keeps l k h = record { ready = ready-keeps (l .ready) k (omega arith); p
 -- where the number of statements was read again
 pub ready-again : {s ws : List ℕ} {n : ℕ} → n ≡ statementsOf s → Ready s ws (statementsOf s) → Ready s ws n
 ready-again e r = rw e r
+
+-- the handler that the header tells is the flow's
+
+pub told-at : (o : Option ℕ) (k : StmtId) → handlerFrom o ≡ H.the-variants.At k → o ≡ some (k .0)
+told-at none k e = let z : _≡_ {A = ℕ} 0 1 = cc in absurd (omega arith)
+told-at (some t) k e = let q : record { 0 = t } ≡ k = cc in ap (λ (x : StmtId). some (x .0)) q
+
+pub told-none : (o : Option ℕ) → handlerFrom o ≡ H.the-variants.None → o ≡ none
+told-none none e = refl
+told-none (some t) e = let z : _≡_ {A = ℕ} 0 1 = cc in absurd (omega arith)
+
+pub handler-at : {s ws : List ℕ} {h : Header} → Indexed s h ws → (k : StmtId) → h .handler ≡ H.the-variants.At k → flowOf s .handler ≡ some (k .0)
+unfolding flowOf
+handler-at {s} x k e = told-at (handlerOf s) k (sym (ap (λ (h : Header). h .handler) (x .header)) ∙ e)
+
+pub handler-none : {s ws : List ℕ} {h : Header} → Indexed s h ws → h .handler ≡ H.the-variants.None → flowOf s .handler ≡ none
+unfolding flowOf
+handler-none {s} x e = told-none (handlerOf s) (sym (ap (λ (h : Header). h .handler) (x .header)) ∙ e)

@@ -11,17 +11,17 @@ use lib.ListN.{length}
 use Rattle.words.specs.contracts.Row.{has}
 use Rattle.flow.specs.Flow.{Flow, size}
 use Rattle.theory.specs.Lists.{In, elem, concatMap, upTo}
-use Rattle.theory.specs.Body.{kind, isReturn}
+use Rattle.theory.specs.Body.{kind, isReturn, touches}
 use Rattle.theory.specs.contracts.WellFormed.{WellFormed}
 use Rattle.theory.proofs.Lists.{same-test, In-elem, elem-In, concatMap-In, In-concatMap, concatMap-append, upTo-In}
-use Rattle.statements.specs.contracts.Layout.{bodiesAt, rowWords, rowsEnd, listWords, rowAt, returnsRowAt}
-use Rattle.statements.specs.contracts.Ready.{Ready, Keeps}
+use Rattle.statements.specs.contracts.Layout.{touchedAt, matrixAt, rowWords, rowsEnd, listWords, rowAt, returnsRowAt}
+use Rattle.statements.specs.contracts.Ready.{Ready, Keeps, MembersWord}
 use Rattle.statements.proofs.WorkArea.{row-words-le}
 use Rattle.statements.proofs.Keeps.{ready-room, keeps-has}
-use Rattle.calls.specs.contracts.Held.{Empty, Summarized}
+use Rattle.calls.specs.contracts.Held.{Empty, HandlerSummary, Summarized}
 use Rattle.calls.specs.contracts.Joins.{Adds, ReturnSet, ifReturn}
 use Rattle.calls.proofs.Joined.{adds-then, adds-all}
-use Rattle.calls.proofs.Summing.{walk-low, walk-kept, callee-low}
+use Rattle.calls.proofs.Summing.{walk-low, walk-kept, callee-low, handler-low}
 use Rattle.calls.proofs.Gathered.{summaries-kept}
 
 pub returns-room : {s ws : List ℕ} (n : ℕ) → Ready s ws n → returnsRowAt n + rowWords n ≤ length ws
@@ -59,10 +59,18 @@ elem-returns f k s l = same-test (elem s (returnsBelow f k)) (isReturn (kind f s
 pub returns-all : (f : Flow) {ws vs : List ℕ} {n : ℕ} → Empty ws n (returnsRowAt n) → Adds (returnsRowAt n) ws vs n (returnsBelow f n) → ReturnSet f vs n
 returns-all f {n = n} empty a = record { holds = λ r l. adds-all empty a r l ∙ ap (λ (t : Bool). cond t 1 0) (elem-returns f n r l) }
 
+-- the handler's summary stays where the words below the matrix do
+pub handler-kept : {f : Flow} {ws vs : List ℕ} {n lo hi : ℕ} → WellFormed f → size f ≡ n → Keeps lo hi ws vs → matrixAt n ≤ lo → HandlerSummary f ws n → HandlerSummary f vs n
+handler-kept {f} {n = n} w z k h s = record {
+  body = λ e q. k .below _ (let l = handler-low w z e q in omega arith) ∙ s .body e q;
+  touched = λ e q o. subst (λ (x : ℕ). MembersWord x (touches f e)) (sym (k .below (touchedAt n + e) (let l = handler-low w z e q in omega arith))) (s .touched e q o);
+}
+
 -- what the summaries say stays where the rows are written that belong to RETURNs, and no others
-pub summarized-stays : {f : Flow} {ws vs : List ℕ} {n lo hi : ℕ} → WellFormed f → size f ≡ n → Keeps lo hi ws vs → bodiesAt n ≤ lo
+pub summarized-stays : {f : Flow} {ws vs : List ℕ} {n lo hi : ℕ} → WellFormed f → size f ≡ n → Keeps lo hi ws vs → matrixAt n ≤ lo
     → ((e i : ℕ) → e < n → i < n → isReturn (kind f e) ≡ false → has vs (rowAt n e) i ≡ has ws (rowAt n e) i) → Summarized f ws n → Summarized f vs n
 summarized-stays w z k h others s = record {
-  calls = summaries-kept h k (s .calls);
+  calls = summaries-kept (omega arith) k (s .calls);
+  handler = handler-kept w z k h (s .handler);
   walks = λ c b l m other. let lb = callee-low w z c b m in walk-kept (walk-low w z lb) (λ i li. others b i lb li other) (s .walks c b l m other);
 }

@@ -1,4 +1,4 @@
--- The present slots of a doubled number are its edges, but that a call's edges come once a target: repeats have the same effects, so the queue rule
+-- The present slots of a doubled number are the edges of its statement, but that a call's edges come once a target: repeats have the same effects, so the queue rule
 -- takes the same from both. By induction on the lists.
 use Prim.Native.Nat.{ℕ}
 use mathlib.Core.Bool.{Bool, true, false, cond, not, _||_}
@@ -14,7 +14,7 @@ use Rattle.flow.specs.declared.Base.the-variants.{Zero, N}
 use Rattle.flow.specs.Flow.{Flow, enters}
 use Rattle.theory.specs.Lists.{In, elem, select, concatMap, optionList}
 use Rattle.theory.specs.Body.{kind, successors, callLines, continuationOf, entered, isReturn, opaqueCall}
-use Rattle.theory.specs.Doubled.{Node, Edge, at, plain, number, node, sameNode, returnEdges, listedEdges, callEdges, edgesOf, edges, once, arcsOf, doubled}
+use Rattle.theory.specs.Doubled.{Node, Edge, at, plain, number, node, sameNode, returnEdges, listedEdges, callEdges, edgesOf, edges, once}
 use Rattle.theory.specs.Queue.{Arc, brings, join, enqueue, stepAll}
 use Rattle.theory.proofs.Lists.{In-elem, In-map, select-In, concatMap-append}
 use Rattle.theory.proofs.Edges.{same-node, in-once}
@@ -177,8 +177,7 @@ module _ (f : Flow) (i : ℕ) where
       enqueue-rest (x .to) (once es) v (join-adds w (number f (x .to))) ∙ enqueue-once es v
 
 pub enqueue-slots : (f : Flow) (d : ℕ) (w : List ℕ)
-    → enqueue (map (toArc f (node f d .stmt)) (present (slots f (node f d)))) w ≡ enqueue (doubled f .arcs d) w
-unfolding doubled arcsOf
+    → enqueue (map (toArc f (node f d .stmt)) (present (slots f (node f d)))) w ≡ enqueue (map (toArc f (node f d .stmt)) (edges f (node f d))) w
 enqueue-slots f d w = go (same-edges f (node f d))
   where
     arcs : List Edge → List Arc
@@ -235,8 +234,7 @@ module _ (f : Flow) (i t a m : ℕ) where
       ∙ ap (bitOr (brought x)) (brings-once es (λ u v p q. h u v (List·Memᴰ·tail p) (List·Memᴰ·tail q)))
 
 pub brings-slots : (f : Flow) (t a m d : ℕ)
-    → brings t a m (map (toArc f (node f d .stmt)) (present (slots f (node f d)))) ≡ brings t a m (doubled f .arcs d)
-unfolding doubled arcsOf
+    → brings t a m (map (toArc f (node f d .stmt)) (present (slots f (node f d)))) ≡ brings t a m (map (toArc f (node f d .stmt)) (edges f (node f d)))
 brings-slots f t a m d = go (same-edges f (node f d))
   where
     arcs : List Edge → List Arc

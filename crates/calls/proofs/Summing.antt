@@ -4,6 +4,7 @@ use Prim.Native.Nat.{ℕ, _+_, _/_, _<_, _≤_}
 use mathlib.Core.Bool.{Bool, true}
 use mathlib.Core.List.{List}
 use mathlib.Core.Logic.{_≢_}
+use mathlib.Core.Option.{some}
 use mathlib.Core.Path.{_≡_, sym, ap, _∙_, subst}
 use native.Mathlib.Decide.{decLt, ℕ-discrete}
 use native.Mathlib.Omega.{arith}
@@ -196,6 +197,9 @@ module _ {f : Flow} {n : ℕ} (w : WellFormed f) (sz : size f ≡ n) where
 
   pub callee-low : (c b : ℕ) → In b (callees f c) → b < n
   callee-low c b m = subst (λ m. b < m) sz (callees-below w c b m)
+
+  pub handler-low : (e : ℕ) → f .handler ≡ some e → e < n
+  handler-low e q = subst (λ m. e < m) sz (w .handler e q)
 
   module _ {ws : List ℕ} (s : Summing f ws n) (room : matrixAt n ≤ length ws) where
     -- a set grows

@@ -18,7 +18,7 @@ ghost use Rattle.theory.specs.Body.{kind, callLines, callees};
 ghost use Rattle.sure.specs.contracts.SureArrays.{SureWords};
 ghost use Rattle.calls.specs.contracts.Held.{NoSummaries, Summarized};
 ghost use Rattle.calls.specs.contracts.Summing as state;
-ghost use Rattle.calls.specs.contracts.Summing.{Summing, Leads, Located, WalkPassed, BodyJoined, Entered, Awaits, BodySummed, CallSummed};
+ghost use Rattle.calls.specs.contracts.Summing.{Summing, Leads, Located, WalkPassed, BodyJoined, Entered, Awaits, BodySummed, CallSummed, HandlerSummed};
 use crate::OPAQUE;
 use crate::OPEN;
 use crate::TRANSPARENT;
@@ -26,6 +26,7 @@ use crate::UNENTERED;
 use crate::rows;
 use crate::walk::walk;
 use flow::Continuation;
+use flow::Handler;
 use flow::LineEntry;
 use flow::StmtId;
 use flow::bytes::u16_at;
@@ -173,12 +174,24 @@ fn call_summary(file: &[u8], work: &mut [u64], lines_at: usize, c: StmtId)
     work[layout::calls(statement_count(file)) + c.0] = summary_state(opaque);
 }
 
-// The summary of every call with a continuation, beside the arrays that are sure for it, which are noted.
+// The body of the handler, if there is one, gets its summary.
+fn summarize_handler(file: &[u8], h: flow::Header, work: &mut [u64])
+    requires { ⌜ Indexed (now file) h (now work) × NoSummaries (now work) (h .statements) ⌝ }
+    ensures { λ _. ⌜ HandlerSummed (flowOf (now (file .entry))) (now (work .entry)) (now (work .exit)) (h .statements) ⌝ }
+{
+    let handler = h.handler;
+    if let Handler::At(e) = handler {
+        sub_effect(file, work, h.lines_at, e);
+    }
+}
+
+// The summary of the handler's body and of every call with a continuation, beside the arrays that are sure for it, which are noted.
 fn summarize_each(file: &[u8], h: flow::Header, work: &mut [u64])
     requires { ⌜ Indexed (now file) h (now work) × NoSummaries (now work) (h .statements) × SureWords (flowOf (now file)) (now work) (h .statements) ⌝ }
     ensures { λ _. ⌜ Summarized (flowOf (now (file .entry))) (now (work .exit)) (h .statements) ⌝ }
     ensures { λ _. ⌜ Keeps (callsAt (h .statements)) (enteredRowAt (h .statements)) (now (work .entry)) (now (work .exit)) ⌝ }
 {
+    summarize_handler(file, h, work);
     let n = h.statements;
     let mut c = 0;
     while c < n {
@@ -187,7 +200,7 @@ fn summarize_each(file: &[u8], h: flow::Header, work: &mut [u64])
     }
 }
 
-// The summary of every call: the arrays that are sure for it, those that it touches, and whether it is opaque.
+// The summary of every call, the arrays that are sure for it, those that it touches, and whether it is opaque, and that of the handler's body.
 pub fn summarize_calls(file: &[u8], h: flow::Header, work: &mut [u64])
     requires { ⌜ Indexed (now file) h (now work) × NoSummaries (now work) (h .statements) × ((c : ℕ) → c < h .statements → getD (now work) (sureAt (h .statements) + c) 0 ≡ 0) ⌝ }
     ensures { λ _. ⌜ Summarized (flowOf (now (file .entry))) (now (work .exit)) (h .statements) ⌝ }

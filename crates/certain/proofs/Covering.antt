@@ -4,6 +4,7 @@ use Prim.Native.Nat.{ℕ, _+_, _-_, _^_, _<_, min}
 use mathlib.Core.Bool.{Bool, true}
 use mathlib.Core.List.{List}
 use mathlib.Core.Logic.{_⊎_, ⊎-elim}
+use mathlib.Core.Option.{none}
 use mathlib.Core.Path.{_≡_, sym, _∙_, ap, subst}
 use native.Mathlib.Decide.{ℕ-discrete}
 use native.Mathlib.Omega.{arith}
@@ -118,7 +119,7 @@ module _ {s ws : List ℕ} {n : ℕ} (r : Ready s ws n) where
       (λ x l. same-test (member w x) (certain (flowOf s) x) (λ e. certain-complete (ready-formed r) (sound x (member-bit w x e)))
       (λ e. bit-member w x (all x (certain-sound (ready-formed r) x e))))
 
-  module _ {written read : ℕ} (u : Used (flowOf s) n written read) where
+  module _ (unkeyed : flowOf s .handler ≡ none) {written read : ℕ} (u : Used (flowOf s) n written read) where
     writer : (x : ℕ) → bit written x ≡ 1 → (i : ℕ) × (i < size (flowOf s)) × (writes (flowOf s) i x ≡ true)
     writer x e = let t = u .writer x e in (t .0, omega (arith, t .1, ready-size r), t .2)
 
@@ -127,12 +128,12 @@ module _ {s ws : List ℕ} {n : ℕ} (r : Ready s ws n) where
 
     -- no name is both written and read
     pub apart : bitAnd written read ≡ 0 → written ≡ certainWord (flowOf s)
-    apart none = answer written (λ x e. record { writer = writer x e; readers = λ k l d. absurd (clash x e k l d) }) has-writer
+    apart disjoint = answer written (λ x e. record { no-handler = unkeyed; writer = writer x e; readers = λ k l d. absurd (clash x e k l d) }) has-writer
       where
         clash : (x : ℕ) → bit written x ≡ 1 → (k : ℕ) → k < size (flowOf s) → reads (flowOf s) k x ≡ true → ⊥
         clash x e k l d =
             let one = u .all-read x k (omega (arith, ready-size r)) d in
-            let zero : bit (bitAnd written read) x ≡ 0 = ap (λ z. bit z x) none ∙ bit-of-zero x in
+            let zero : bit (bitAnd written read) x ≡ 0 = ap (λ z. bit z x) disjoint ∙ bit-of-zero x in
             omega (arith, bit-and written read x)
 
     pub without-early : {early : ℕ} → Early (flowOf s) n early → without written early ≡ certainWord (flowOf s)
@@ -145,11 +146,12 @@ module _ {s ws : List ℕ} {n : ℕ} (r : Ready s ws n) where
 
         sound : (x : ℕ) → bit (without written early) x ≡ 1 → Certain (flowOf s) x
         sound x e = record {
+          no-handler = unkeyed;
           writer = writer x (omega (arith, bits x, bit-lt written x));
           readers = λ k l d. c .others x k (omega (arith, ready-size r)) d (omega (arith, bits x, bit-lt early x));
         }
 
         all : (x : ℕ) → Certain (flowOf s) x → bit (without written early) x ≡ 1
         all x t =
-            let none : bit early x ≡ 1 → ⊥ = λ e. let b = c .reader x e in b .3 (t .readers (b .0) (omega (arith, b .1, ready-size r)) (b .2)) in
-            omega (arith, bits x, has-writer x t, bit-lt early x, none)
+            let never : bit early x ≡ 1 → ⊥ = λ e. let b = c .reader x e in b .3 (t .readers (b .0) (omega (arith, b .1, ready-size r)) (b .2)) in
+            omega (arith, bits x, has-writer x t, bit-lt early x, never)

@@ -3,6 +3,7 @@
 use Prim.Native.Nat.{ℕ, _*_, _≤_, _<_}
 use mathlib.Core.Bool.{Bool, true, false, cond}
 use mathlib.Core.List.{List, [], _∷_, _++_}
+use mathlib.Core.Option.{none}
 use mathlib.Core.Path.{_≡_, refl, sym, ap, ap₂, subst, _∙_}
 use native.Mathlib.Decide.{decLt}
 use native.Mathlib.Omega.{arith}
@@ -10,22 +11,24 @@ use borrow.Author.Tests.{lt-ltb, le-ltb, eqb-true}
 use lib.Dec.{eqb, ltb}
 use lib.ListN.{length, getD}
 use Rattle.masks.specs.declared.Effect.{Effect}
-use Rattle.masks.specs.declared.Effect.the-variants.{Reference, Dim, Reset}
+use Rattle.masks.specs.declared.Effect.the-variants.{Reference, Dim, Reset, Touched}
 use Rattle.masks.specs.Step.{stepOf}
 use Rattle.flow.specs.Flow.{Flow, Kind, Item, items}
 use Rattle.theory.specs.Lists.{any, elem}
 use Rattle.theory.specs.Body.{kind, references}
-use Rattle.theory.specs.Doubled.{dims, resets, kindEffects, statementEffects}
+use Rattle.theory.specs.Key.{handlerTouches}
+use Rattle.theory.specs.Doubled.{dims, resets, kindEffects, statementEffects, keyEffects}
 use Rattle.theory.specs.Queue.{stepAll}
 use Rattle.theory.specs.contracts.WellFormed.{WellFormed}
 use Rattle.theory.proofs.Lists.{clash, not-so, or-first, or-second, elem-In, any-find, and-both}
+use Rattle.theory.proofs.Handler.{handler-below}
 use Rattle.statements.specs.contracts.Ready.{Keeps, actsIn}
-use Rattle.statements.proofs.Keeps.{keeps-refl}
-use Rattle.solve.specs.contracts.Layout.{setRow, outRow, backRow, maskRowAt}
-use Rattle.solve.specs.contracts.Rows.{stepWhere}
+use Rattle.statements.proofs.Keeps.{keeps-refl, keeps-trans, keeps-widen}
+use Rattle.solve.specs.contracts.Layout.{setRow, outRow, backRow, maskRowAt, keyAt}
+use Rattle.solve.specs.contracts.Rows.{maskAt, RowIs, stepWhere, member as inSet}
 use Rattle.solve.specs.contracts.Pushed.{masksAt}
 use Rattle.solve.proofs.Room.{row-first}
-use Rattle.dataflow.specs.contracts.Transfer.{acted, RowSteps, Acted}
+use Rattle.dataflow.specs.contracts.Transfer.{acted, RowSteps, Acted, plainEffects}
 
 pub stepAll-append : (es fs : List Effect) (m : ℕ) → stepAll (es ++ fs) m ≡ stepAll fs (stepAll es m)
 unfolding stepAll
@@ -36,6 +39,11 @@ pub stepAll-if : (b : Bool) (e : Effect) (m : ℕ) → stepAll (cond b (e ∷ []
 unfolding stepAll
 stepAll-if true e m = refl
 stepAll-if false e m = refl
+
+-- the handler's touched step
+pub key-step : (f : Flow) (a v : ℕ) → cond (handlerTouches f a) (stepOf Touched v) v ≡ stepAll (keyEffects f a) v
+unfolding keyEffects
+key-step f a v = sym (stepAll-if (handlerTouches f a) Touched v)
 
 -- a kind that does not empty the stack steps the arrays of its items with dimensions
 kind-steps : (k : Kind) (a m : ℕ) → resets k ≡ false → cond (any (dims a) (items k)) (stepOf Dim m) m ≡ stepAll (kindEffects k a) m
@@ -122,18 +130,18 @@ module _ {f : Flow} (wf : WellFormed f) (n w d i : ℕ) (below : d < 2 * n) {ws 
   around : length vs ≡ length ws → ((x : ℕ) → (setRow n ≤ x → x < maskRowAt n w 0 → ⊥) → getD vs x 0 ≡ getD ws x 0) → Keeps (setRow n) (maskRowAt n w 0) ws vs
   around size h = record { size = size; below = λ x l. h x (λ a b. omega arith); above = λ x l. h x (λ a b. omega arith) }
 
-  pub acts-plain : resets (kind f i) ≡ false → items (kind f i) ≡ [] → RowSteps ws vs w (setRow n) (outRow n w) (maskRowAt n w d) (λ a. elem a (references f i)) Reference → Acted f ws vs n w d i (outRow n w)
+  pub acts-plain : resets (kind f i) ≡ false → items (kind f i) ≡ [] → RowSteps ws vs w (setRow n) (outRow n w) (maskRowAt n w d) (λ a. elem a (references f i)) Reference → Acted f ws vs n w d (statementEffects f i) (outRow n w)
   unfolding any stepWhere
-  acts-plain e none x =
+  acts-plain e bare x =
       let first = row-first n w in
       record {
         keeps = around (x .size) (λ y out. x .elsewhere y (λ a b. out a (omega arith)) (λ a b. out (omega arith) (omega arith)));
         masks = λ a l. x .masks a l
-            ∙ sym (ap (λ (its : List Item). cond (any (dims a) its) (stepOf Dim (stepWhere (λ b. elem b (references f i)) Reference (masksAt ws n w d) a)) (stepWhere (λ b. elem b (references f i)) Reference (masksAt ws n w d) a)) none)
+            ∙ sym (ap (λ (its : List Item). cond (any (dims a) its) (stepOf Dim (stepWhere (λ b. elem b (references f i)) Reference (masksAt ws n w d) a)) (stepWhere (λ b. elem b (references f i)) Reference (masksAt ws n w d) a)) bare)
             ∙ acted-stays wf i (masksAt ws n w d) a e;
       }
 
-  pub acts-resets : {count : ℕ} → count ≡ f .arrays → resets (kind f i) ≡ true → RowSteps ws vs w (setRow n) (outRow n w) (maskRowAt n w d) (λ a. ltb a count) Reset → Acted f ws vs n w d i (outRow n w)
+  pub acts-resets : {count : ℕ} → count ≡ f .arrays → resets (kind f i) ≡ true → RowSteps ws vs w (setRow n) (outRow n w) (maskRowAt n w d) (λ a. ltb a count) Reset → Acted f ws vs n w d (statementEffects f i) (outRow n w)
   unfolding stepWhere
   acts-resets {count} all e x =
       let first = row-first n w in
@@ -147,7 +155,7 @@ module _ {f : Flow} (wf : WellFormed f) (n w d i : ℕ) (below : d < 2 * n) {ws 
 
   pub acts-dims : {us : List ℕ} → resets (kind f i) ≡ false
       → RowSteps ws us w (setRow n) (backRow n w) (maskRowAt n w d) (λ a. elem a (references f i)) Reference
-      → RowSteps us vs w (setRow n) (outRow n w) (backRow n w) (λ a. any (dims a) (items (kind f i))) Dim → Acted f ws vs n w d i (outRow n w)
+      → RowSteps us vs w (setRow n) (outRow n w) (backRow n w) (λ a. any (dims a) (items (kind f i))) Dim → Acted f ws vs n w d (statementEffects f i) (outRow n w)
   unfolding stepWhere
   acts-dims {us} e x y =
       let first = row-first n w in
@@ -164,15 +172,50 @@ no-elements [] e = refl
 no-elements (x ∷ l) e = clash (ltb 0 (length (x ∷ l))) (lt-ltb 0 (length (x ∷ l)) (omega arith)) e
 
 -- a statement that does nothing to masks: the number's own row serves
-pub acts-not : {f : Flow} → WellFormed f → (n w d i : ℕ) {ws : List ℕ} → actsIn f i ≡ false → Acted f ws ws n w d i (maskRowAt n w d)
+pub acts-not : {f : Flow} → WellFormed f → (n w d i : ℕ) {ws : List ℕ} → actsIn f i ≡ false → Acted f ws ws n w d (statementEffects f i) (maskRowAt n w d)
 unfolding any elem stepWhere actsIn
 acts-not {f} wf n w d i {ws} idle =
     let counts = or-second (resets (kind f i)) _ idle in
-    let none = no-elements (items (kind f i)) (or-first _ _ counts) in
+    let bare = no-elements (items (kind f i)) (or-first _ _ counts) in
     let refs = no-elements (references f i) (or-second (ltb 0 (length (items (kind f i)))) _ counts) in
     record {
       keeps = keeps-refl;
       masks = λ a l.
-          sym (ap₂ (λ (its : List Item) (rs : List ℕ). stepWhere (λ b. any (dims b) its) Dim (stepWhere (λ b. elem b rs) Reference (masksAt ws n w d)) a) none refs)
+          sym (ap₂ (λ (its : List Item) (rs : List ℕ). stepWhere (λ b. any (dims b) its) Dim (stepWhere (λ b. elem b rs) Reference (masksAt ws n w d)) a) bare refs)
           ∙ acted-stays wf i (masksAt ws n w d) a (or-first _ _ idle);
     }
+
+-- and then the handler's touched step: without a handler there is none
+
+pub unkeyed-step : (f : Flow) (a v : ℕ) → f .handler ≡ none → stepAll (keyEffects f a) v ≡ v
+unfolding keyEffects handlerTouches stepAll
+unkeyed-step f a v e = rw e refl
+
+pub acts-unkeyed : (f : Flow) (i : ℕ) {ws vs : List ℕ} {n w d row : ℕ} → f .handler ≡ none → Acted f ws vs n w d (statementEffects f i) row → Acted f ws vs n w d (plainEffects f i) row
+unfolding acted
+acts-unkeyed f i {ws} {n = n} {w = w} {d = d} e x = record {
+  keeps = x .keeps;
+  masks = λ a l.
+      x .masks a l
+      ∙ ap (λ (v : ℕ). cond (ltb a (f .arrays)) v (masksAt ws n w d a))
+      (sym (stepAll-append (statementEffects f i a) (keyEffects f a) (masksAt ws n w d a) ∙ unkeyed-step f a (stepAll (statementEffects f i a) (masksAt ws n w d a)) e));
+}
+
+pub acts-keyed : {f : Flow} → WellFormed f → (i : ℕ) {ws us vs : List ℕ} {n w d row : ℕ} → Acted f ws us n w d (statementEffects f i) row
+    → RowIs us vs w (outRow n w) (stepWhere (inSet us (keyAt n w)) Touched (maskAt us w row)) → ((a : ℕ) → a < 64 * w → inSet us (keyAt n w) a ≡ handlerTouches f a)
+    → Acted f ws vs n w d (plainEffects f i) (outRow n w)
+unfolding acted stepWhere
+acts-keyed {f} wf i {ws} {us} {vs} {n} {w} {d} {row} x y says = record {
+  keeps = keeps-trans (x .keeps) (keeps-widen (omega arith) (let first = row-first n w in omega arith) (y .keeps));
+  masks = λ a l. y .masks a l ∙ ap₂ (λ (b : Bool) (v : ℕ). cond b (stepOf Touched v) v) (says a l) (x .masks a l) ∙ at a (decLt a (f .arrays));
+}
+  where
+    m : ℕ → ℕ
+    m = masksAt ws n w d
+
+    at : (a : ℕ) → Dec (a < f .arrays) → cond (handlerTouches f a) (stepOf Touched (cond (ltb a (f .arrays)) (stepAll (statementEffects f i a) (m a)) (m a))) (cond (ltb a (f .arrays)) (stepAll (statementEffects f i a) (m a)) (m a))
+        ≡ cond (ltb a (f .arrays)) (stepAll (statementEffects f i a ++ keyEffects f a) (m a)) (m a)
+    at a (yes l) =
+        rw (lt-ltb a (f .arrays) l)
+        (key-step f a (stepAll (statementEffects f i a) (m a)) ∙ sym (stepAll-append (statementEffects f i a) (keyEffects f a) (m a)))
+    at a (no l) = rw (le-ltb a (f .arrays) (omega (arith, l)), handler-below wf a l) refl

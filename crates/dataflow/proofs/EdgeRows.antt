@@ -9,6 +9,7 @@ use lib.Bits.{bitOr}
 use lib.Dec.{eqb, ltb}
 use lib.ListN.{getD}
 use Rattle.words.specs.contracts.Row as bits
+use Rattle.masks.specs.declared.Effect.{Effect}
 use Rattle.masks.specs.declared.Effect.the-variants.{Reference, Touched}
 use Rattle.masks.specs.Step.{stepOf}
 use Rattle.masks.proofs.Laws.{touched-reference}
@@ -17,16 +18,17 @@ use Rattle.flow.specs.Limits.{maxArrays}
 use Rattle.theory.specs.Lists.{In}
 use Rattle.theory.specs.Body.{callTouches}
 use Rattle.theory.specs.Sure.{sure}
-use Rattle.theory.specs.Doubled.{Edge, number, statementEffects, entering, continuationEffects, edgeEffects}
+use Rattle.theory.specs.Key.{handlerTouches}
+use Rattle.theory.specs.Doubled.{Edge, number, statementEffects, entering, continuationEffects, ownEffects, keyEffects, edgeEffects}
 use Rattle.theory.specs.Queue.{stepAll, brings}
 use Rattle.theory.proofs.Lists.{says-one}
 use Rattle.statements.specs.contracts.Ready.{MembersWord}
 use Rattle.calls.specs.contracts.Slots.{toArc}
 use Rattle.solve.specs.contracts.Rows.{maskAt, stepWhere, member}
-use Rattle.dataflow.specs.contracts.Transfer.{acted}
+use Rattle.dataflow.specs.contracts.Transfer.{acted, plainEffects}
 use Rattle.dataflow.specs.contracts.Sent.{carried, masksBelow}
 use Rattle.dataflow.proofs.Unions.{cond-zero}
-use Rattle.dataflow.proofs.Acted.{stepAll-append}
+use Rattle.dataflow.proofs.Acted.{stepAll-append, key-step}
 
 -- a set of one word
 word-has : (ws : List ℕ) (set a : ℕ) → a < maxArrays → bits.has ws set a ≡ bits.bit (getD ws set 0) a
@@ -41,20 +43,51 @@ pub word-member : (ws : List ℕ) (set : ℕ) (p : ℕ → Bool) (a : ℕ) → a
 unfolding member
 word-member ws set p a l w = ap (λ (y : ℕ). eqb y 1) (word-has ws set a l ∙ w .member a l) ∙ says-one (p a)
 
--- the act of the statement, on an edge that carries nothing more
-pub act-row : (f : Flow) (i count : ℕ) (m row : ℕ → ℕ) (x : Edge) (a : ℕ) → row a ≡ masksBelow count m a → x .continues ≡ false
-    → acted count (statementEffects f i) row a ≡ masksBelow count (λ b. stepAll (edgeEffects f i x b) (m b)) a
-unfolding acted masksBelow edgeEffects stepAll
-act-row f i count m row x a is e = at (ltb a count) is
+-- effects on a row of masks, by others that step a mask alike
+acted-below : (count : ℕ) (E F : ℕ → List Effect) (m row : ℕ → ℕ) (a : ℕ) → row a ≡ masksBelow count m a → ((v : ℕ) → stepAll (E a) v ≡ stepAll (F a) v)
+    → acted count E row a ≡ masksBelow count (λ b. stepAll (F b) (m b)) a
+unfolding acted masksBelow
+acted-below count E F m row a is same = at (ltb a count) is
   where
-    at : (b : Bool) → row a ≡ cond b (m a) 0
-        → cond b (stepAll (statementEffects f i a) (row a)) (row a)
-        ≡ cond b (stepAll (statementEffects f i a ++ cond (x .continues) (continuationEffects f i x a) []) (m a)) 0
-    at true q =
-        ap (stepAll (statementEffects f i a)) q
-        ∙ sym (stepAll-append (statementEffects f i a) (cond (x .continues) (continuationEffects f i x a) []) (m a)
-        ∙ ap (λ (c : Bool). stepAll (cond c (continuationEffects f i x a) []) (stepAll (statementEffects f i a) (m a))) e)
+    at : (b : Bool) → row a ≡ cond b (m a) 0 → cond b (stepAll (E a) (row a)) (row a) ≡ cond b (stepAll (F a) (m a)) 0
+    at true q = ap (stepAll (E a)) q ∙ same (m a)
     at false q = q
+
+-- on an edge that is not that to a continuation a statement has done no more than its act
+own-plain : (f : Flow) (i : ℕ) (x : Edge) (a : ℕ) → x .continues ≡ false → (v : ℕ) → stepAll (statementEffects f i a) v ≡ stepAll (ownEffects f i x a) v
+unfolding ownEffects stepAll
+own-plain f i x a e v =
+    sym (stepAll-append (statementEffects f i a) (cond (x .continues) (continuationEffects f i x a) []) v
+    ∙ ap (λ (c : Bool). stepAll (cond c (continuationEffects f i x a) []) (stepAll (statementEffects f i a) v)) e)
+
+pub act-row : (f : Flow) (i count : ℕ) (m row : ℕ → ℕ) (x : Edge) (a : ℕ) → row a ≡ masksBelow count m a → x .continues ≡ false
+    → acted count (statementEffects f i) row a ≡ masksBelow count (λ b. stepAll (ownEffects f i x b) (m b)) a
+act-row f i count m row x a is e = acted-below count (statementEffects f i) (ownEffects f i x) m row a is (own-plain f i x a e)
+
+pub plain-row : (f : Flow) (i count : ℕ) (m row : ℕ → ℕ) (x : Edge) (a : ℕ) → row a ≡ masksBelow count m a → x .continues ≡ false
+    → acted count (plainEffects f i) row a ≡ masksBelow count (λ b. stepAll (edgeEffects f i x b) (m b)) a
+unfolding edgeEffects
+plain-row f i count m row x a is e =
+    acted-below count (plainEffects f i) (edgeEffects f i x) m row a is (λ v.
+    stepAll-append (statementEffects f i a) (keyEffects f a) v
+    ∙ ap (stepAll (keyEffects f a)) (own-plain f i x a e v)
+    ∙ sym (stepAll-append (ownEffects f i x a) (keyEffects f a) v))
+
+-- a row with the handler's touched step
+pub key-row : (f : Flow) (i count : ℕ) (m row : ℕ → ℕ) (touched : ℕ → Bool) (x : Edge) (a : ℕ) → row a ≡ masksBelow count (λ b. stepAll (ownEffects f i x b) (m b)) a → touched a ≡ handlerTouches f a
+    → stepWhere touched Touched row a ≡ masksBelow count (λ b. stepAll (edgeEffects f i x b) (m b)) a
+unfolding stepWhere masksBelow edgeEffects
+key-row f i count m row touched x a is t =
+    ap₂ (λ (b : Bool) (v : ℕ). cond b (stepOf Touched v) v) t is ∙ at (ltb a count)
+  where
+    nothing : (b : Bool) → cond b (stepOf Touched 0) 0 ≡ 0
+    nothing true = refl
+    nothing false = refl
+
+    at : (b : Bool) → cond (handlerTouches f a) (stepOf Touched (cond b (stepAll (ownEffects f i x a) (m a)) 0)) (cond b (stepAll (ownEffects f i x a) (m a)) 0)
+        ≡ cond b (stepAll (ownEffects f i x a ++ keyEffects f a) (m a)) 0
+    at true = key-step f a (stepAll (ownEffects f i x a) (m a)) ∙ sym (stepAll-append (ownEffects f i x a) (keyEffects f a) (m a))
+    at false = nothing (handlerTouches f a)
 
 -- the steps one after the other, as the call's own
 own-step : (s t : Bool) (m : ℕ) → cond s (stepOf Reference (cond t (stepOf Touched m) m)) (cond t (stepOf Touched m) m) ≡ stepAll (cond s (Reference ∷ []) (cond t (Touched ∷ []) [])) m
@@ -67,8 +100,8 @@ own-step false false m = refl
 -- and with the call's own step
 pub back-row : (f : Flow) (i count : ℕ) (m row : ℕ → ℕ) (touched sured : ℕ → Bool) (x : Edge) (a : ℕ) → row a ≡ masksBelow count m a → x .continues ≡ true
     → touched a ≡ callTouches f i a → sured a ≡ (sure f i a && not (entering f i x))
-    → stepWhere sured Reference (stepWhere touched Touched (acted count (statementEffects f i) row)) a ≡ masksBelow count (λ b. stepAll (edgeEffects f i x b) (m b)) a
-unfolding acted masksBelow edgeEffects continuationEffects stepAll stepWhere
+    → stepWhere sured Reference (stepWhere touched Touched (acted count (statementEffects f i) row)) a ≡ masksBelow count (λ b. stepAll (ownEffects f i x b) (m b)) a
+unfolding acted masksBelow ownEffects continuationEffects stepAll stepWhere
 back-row f i count m row touched sured x a is e t s = at (ltb a count) is
   where
     own : ℕ → ℕ

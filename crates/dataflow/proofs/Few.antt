@@ -4,7 +4,7 @@ use Prim.Native.Nat.{ℕ, _+_, _-_, _*_, _^_, _≤_, _<_, zero-le}
 use mathlib.Core.Bool.{Bool, true, false, cond, not, _||_}
 use mathlib.Core.List.{List, [], _∷_, _++_, map}
 use mathlib.Core.Option.{Option, none, some}
-use mathlib.Core.Path.{_≡_, sym, subst}
+use mathlib.Core.Path.{_≡_, refl, sym, subst}
 use native.Mathlib.Decide.{decLt}
 use native.Mathlib.Nat.{mul-le-mul-right}
 use native.Mathlib.Omega.{arith}
@@ -18,7 +18,7 @@ use Rattle.flow.specs.Limits.{maxFile, maxStatements, maxArrays}
 use Rattle.records.proofs.Files.{limited}
 use Rattle.theory.specs.Lists.{any, elem, select, concatMap, optionList, upTo, sumBelow}
 use Rattle.theory.specs.Body.{kind, successors, callLines, continuationOf, isReturn, entered, opaqueCall}
-use Rattle.theory.specs.Doubled.{Node, Edge, at, plain, node, sameNode, once, edges, edgesOf, listedEdges, returnEdges, callEdges, returnsTo, number, edgeEffects, arcsOf, doubled}
+use Rattle.theory.specs.Doubled.{Node, Edge, at, plain, node, sameNode, once, edges, edgesOf, listedEdges, returnEdges, callEdges, returnsTo, number, edgeEffects, keyArcs, arcsOf, doubled}
 use Rattle.theory.specs.Queue.{Arc, arcCount, visitBound}
 use Rattle.theory.proofs.Lists.{length-upTo, sumBelow-le}
 use Rattle.theory.proofs.Below.{sumBelow-const}
@@ -127,14 +127,14 @@ module _ {s ws : List ℕ} {n : ℕ} (r : Ready s ws n) where
 
   -- Term 1's bound is a word, and so is one more
   pub visits-few : visitBound (doubled (flowOf s)) < 2 ^ 63
-  unfolding arcCount doubled arcsOf
+  unfolding arcCount doubled arcsOf keyArcs
   visits-few =
       let f : Flow = flowOf s in
-      let each : ℕ = maxFile + maxFile + 1 in
+      let each : ℕ = maxFile + maxFile + 2 in
       let sum : arcCount (doubled f) ≤ sumBelow (size f + size f) (λ d. each) =
       sumBelow-le (size f + size f) (λ d. length (doubled f .arcs d)) (λ d. each) (λ d l.
       let h = node-few d (omega (arith, ready-size r)) in
-      omega (arith, length-map (edges f (node f d)) (arcOf f d))) in
+      omega (arith, length-append (map (arcOf f d) (edges f (node f d))) (keyArcs f), length-map (edges f (node f d)) (arcOf f d), key-few f (f .handler) refl)) in
       let all : sumBelow (size f + size f) (λ d. each) ≡ (size f + size f) * each = sumBelow-const (size f + size f) each in
       let few = ready-most r in
       let edges : arcCount (doubled f) ≤ 4096 * each = omega (arith, mul-le-mul-right each (nodes-few few), ready-size r) in
@@ -144,6 +144,10 @@ module _ {s ws : List ℕ} {n : ℕ} (r : Ready s ws n) where
     where
       arcOf : (f : Flow) (d : ℕ) → Edge → Arc
       arcOf f d e = record { to = number f (e .to); effects = edgeEffects f (node f d .stmt) e }
+
+      key-few : (f : Flow) (o : Option ℕ) → f .handler ≡ o → length (keyArcs f) ≤ 1
+      key-few f none e = rw e (omega arith)
+      key-few f (some h) e = rw e (omega arith)
 
       nodes-few : n ≤ maxStatements → size (flowOf s) + size (flowOf s) ≤ 4096
       nodes-few h = omega (arith, ready-size r)

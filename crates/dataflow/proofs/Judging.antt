@@ -126,11 +126,12 @@ pub nothing-solved : (s masks liveIn liveOut : List ℕ) → statementsOf s ≡ 
 nothing-solved s masks liveIn liveOut z =
     let none : size (flowOf s) ≡ 0 = size-is s ∙ z in
     record {
-      left = initial (doubled (flowOf s));
-      over = term-1-empty (flowOf s) none;
-      mask-bytes = λ i a l m. absurd (omega arith);
-      masks-size = refl;
-      masks-kept = λ x l. refl;
+      found = record {
+        solved = λ _. record { left = initial (doubled (flowOf s)); over = term-1-empty (flowOf s) none; mask-bytes = λ i a l m. absurd (omega arith) };
+        unsolved = λ _. record { no-visits = refl; mask-bytes = λ i a l m. absurd (omega arith) };
+        masks-size = refl;
+        masks-kept = λ x l. refl;
+      };
       live-in = record { size = refl; written = λ i l. absurd (omega arith); kept = λ x l. refl };
       live-out = record { size = refl; written = λ i l. absurd (omega arith); kept = λ x l. refl };
     }

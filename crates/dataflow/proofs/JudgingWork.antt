@@ -2,17 +2,20 @@
 use Prim.Native.Nat.{ℕ}
 use mathlib.Core.Bool.{Bool, true, false, cond}
 use mathlib.Core.List.{List}
+use mathlib.Core.Option.{none, some}
 use mathlib.Core.Path.{_≡_, refl, ap, sym, _∙_, subst}
 use lib.Dec.{leb}
 use lib.ListN.{length, replicate}
 use native.Mathlib.Omega.{arith}
 use Rattle.flow.specs.declared.Refusal.{Refusal}
 use Rattle.flow.specs.declared.Refusal.the-variants.{Areas}
+use Rattle.flow.specs.declared.StmtId.{StmtId}
+use Rattle.flow.specs.declared.Handler as H
 use Rattle.flow.specs.declared.Header.{Header}
 use Rattle.flow.specs.declared.Checked.{Checked}
 use Rattle.flow.specs.declared.Checked.the-variants.{Unfit}
 use Rattle.flow.specs.Limits.{workWords}
-use Rattle.flow.specs.Format.{fit, unfit, first, verdict, fileChecks, flowOf, statementsOf}
+use Rattle.flow.specs.Format.{fit, unfit, first, verdict, fileChecks, flowOf, statementsOf, handlerOf}
 use Rattle.flow.specs.contracts.Answers.{FitFile, headerOf, checkedOf}
 use Rattle.flow.proofs.Verdicts.{fit-append, unfit-append}
 use Rattle.flow.proofs.Reading.{unfit-answer}
@@ -20,9 +23,10 @@ use Rattle.records.proofs.Statements.{size-is}
 use Rattle.words.specs.contracts.Change.{noted}
 use Rattle.records.specs.contracts.Fields.{notedWord}
 use Rattle.theory.specs.Certain.{certainWord}
-use Rattle.theory.proofs.Certain.{certainWord-lt, certainWord-sound, certainWord-complete, certainWord-none}
+use Rattle.theory.proofs.Certain.{certainWord-lt, certainWord-sound, certainWord-complete, certainWord-none, certainWord-handler}
 use Rattle.statements.proofs.WellFormed.{well-formed, entry-is}
 use Rattle.statements.proofs.Noted.{ready-noted}
+use Rattle.calls.proofs.Checked.{told-at, told-none}
 use Rattle.certain.specs.contracts.CertainNames.{CertainStart}
 use Rattle.dataflow.specs.declared.Answer.the-variants.{Accepted, Refused}
 use Rattle.dataflow.specs.Certain.{judgedWork, CertainFound, CertainPromise}
@@ -73,14 +77,28 @@ module _ (s work : List ℕ) where
   pub none-certain : statementsOf s ≡ 0 → 0 ≡ certainWord (flowOf s)
   none-certain z = sym (certainWord-none (flowOf s) (size-is s ∙ z))
 
+-- the handler that the header tells is the flow's; with one no name is certain
+module _ (s : List ℕ) {h : Header} (e : h ≡ headerOf s) where
+  pub no-handler : h .handler ≡ H.the-variants.None → flowOf s .handler ≡ none
+  unfolding flowOf
+  no-handler q = told-none (handlerOf s) (sym (ap (λ (x : Header). x .handler) e) ∙ q)
+
+  has-handler : (k : StmtId) → h .handler ≡ H.the-variants.At k → flowOf s .handler ≡ some (k .0)
+  unfolding flowOf
+  has-handler k q = told-at (handlerOf s) k (sym (ap (λ (x : Header). x .handler) e) ∙ q)
+
+  pub handler-certain : (k : StmtId) → h .handler ≡ H.the-variants.At k → 0 ≡ certainWord (flowOf s)
+  handler-certain k q = sym (certainWord-handler (flowOf s) (has-handler k q))
+
 -- the places of the records are noted, and the entry is a statement
-pub certain-start : {s work work′ : List ℕ} {h : Header} → FitFlow s h work → work′ ≡ noted work 0 (h .statements) (notedWord s) → CertainStart s work′ (h .statements) (h .entry .0)
-certain-start {s} {work} {work′} {h} p e =
+pub certain-start : {s work work′ : List ℕ} {h : Header} → FitFlow s h work → flowOf s .handler ≡ none → work′ ≡ noted work 0 (h .statements) (notedWord s) → CertainStart s work′ (h .statements) (h .entry .0)
+certain-start {s} {work} {work′} {h} p unkeyed e =
     let count : h .statements ≡ statementsOf s = ap (λ (x : Header). x .statements) (p .header) in
     let size = size-is s ∙ sym count in
     let entry : h .entry .0 ≡ flowOf s .entry = ap (λ (x : Header). x .entry .0) (p .header) ∙ sym (entry-is s) in
     record {
       ready = ready-noted work (p .fit) count (p .work-room) e;
+      no-handler = unkeyed;
       entry-is = entry;
       small = let below = well-formed (p .fit) .entry (omega (arith, p .some, size)) in omega (arith, entry, size);
     }

@@ -1,13 +1,17 @@
 -- What the solver leaves alone: the calls' summaries, the rows of the RETURNs and of the calls, and the calls' orders lie outside the words that it writes.
 -- By the layout of the work area.
-use Prim.Native.Nat.{ℕ, _+_, _/_, _<_, _≤_}
+use Prim.Native.Nat.{ℕ, _+_, _*_, _/_, _<_, _≤_}
 use mathlib.Core.List.{List}
+use mathlib.Core.Option.{some}
 use mathlib.Core.Path.{_≡_, sym, ap, subst, _∙_}
 use native.Mathlib.Omega.{arith}
+use lib.Dec.{eqb}
 use lib.ListN.{length, getD}
 use Rattle.words.specs.contracts.Row.{has}
 use Rattle.flow.specs.declared.Header.{Header}
 use Rattle.flow.specs.Flow.{Flow, size}
+use Rattle.theory.specs.Key.{handlerTouches}
+use Rattle.theory.proofs.Lists.{says-one}
 use Rattle.statements.specs.contracts.Layout.{matrixAt, callsAt, bodiesAt, touchedAt, rowAt, queueAt}
 use Rattle.statements.specs.contracts.Ready.{Ready, Indexed, Keeps}
 use Rattle.statements.proofs.WorkArea.{row-from, row-fits, member-word}
@@ -18,6 +22,9 @@ use Rattle.calls.specs.contracts.Held.{Leads, Linked}
 use Rattle.calls.specs.contracts.Orders.{listsEnd, ListOf, OrderOf}
 use Rattle.calls.proofs.Gathered.{summaries-kept}
 use Rattle.calls.proofs.Ordering.{list-to, list-kept, order-kept}
+use Rattle.solve.specs.contracts.Layout.{areaEnd, keyAt}
+use Rattle.solve.specs.contracts.Rows.{member}
+use Rattle.dataflow.specs.contracts.Transfer.{KeySet}
 
 -- the words from the queue on are the solver's
 pub queue-above : (n : ℕ) → matrixAt n ≤ queueAt n
@@ -65,3 +72,12 @@ module _ {ws vs : List ℕ} {n hi : ℕ} (k : Keeps (queueAt n) hi ws vs) where
         keeps-has k (x .row) j (λ p q. let at : x .row ≡ rowAt n i = c .place ∙ ap (λ (m : ℕ). rowAt m i) z in let fits = row-fits n l in let word = member-word (subst (λ (m : ℕ). j < m) z m) in omega arith)
         ∙ c .entered j m;
   }
+
+-- the handler's set stands behind the words that the solver writes
+pub key-stays : {f : Flow} {ws vs : List ℕ} {n w lo : ℕ} → Keeps lo (areaEnd n w) ws vs → KeySet f ws n w → KeySet f vs n w
+key-stays {n = n} {w = w} k x = record { member = λ e h a l. keeps-has k (keyAt n w) a (λ p q. omega arith) ∙ x .member e h a l }
+
+-- and says which arrays the handler touches
+pub key-says : {f : Flow} {ws : List ℕ} {n w e : ℕ} → KeySet f ws n w → f .handler ≡ some e → (a : ℕ) → a < 64 * w → member ws (keyAt n w) a ≡ handlerTouches f a
+unfolding member
+key-says {f} {e = e} x h a l = ap (λ (y : ℕ). eqb y 1) (x .member e h a l) ∙ says-one (handlerTouches f a)

@@ -7,13 +7,16 @@ pub mod EdgeRows
 pub mod Sharing
 pub mod Sends
 pub mod Visiting
+pub mod Keyed
 pub mod Few
 pub mod Running
 pub mod NotedRows
 pub mod MaskBytes
 pub mod Members
 pub mod Ordered
+pub mod HandlerNoted
 pub mod Phases
+pub mod RunsWithin
 pub mod Promised
 pub mod Told
 pub mod Judging

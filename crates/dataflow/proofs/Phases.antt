@@ -2,10 +2,11 @@
 -- the definitions say. By the laws of what is kept and of what was noted, written and zeroed.
 use Prim.Native.Nat.{ℕ, _+_, _-_, _*_, _<_, _≤_}
 use native.Mathlib.Omega.{arith}
-use native.Mathlib.Nat.{zero-add}
+use native.Mathlib.Nat.{zero-add, suc-mul, mul-le-mul-right}
 use native.Mathlib.Decide.{decLt}
+use mathlib.Core.Bool.{true, false}
 use mathlib.Core.List.{List}
-use mathlib.Core.Path.{_≡_, ap, ap₂, sym, _∙_, subst}
+use mathlib.Core.Path.{_≡_, refl, ap, ap₂, sym, _∙_, subst}
 use lib.Bits.{bitOr}
 use lib.ListN.{length, getD}
 use Rattle.words.specs.contracts.Change.{zeroed}
@@ -18,14 +19,16 @@ use Rattle.flow.specs.contracts.Answers.{headerOf}
 use Rattle.records.specs.contracts.Fields.{notedWord, PartsNoted}
 use Rattle.flow.specs.Limits.{maxStatements}
 use Rattle.records.proofs.Files.{limited}
-use Rattle.records.proofs.Noting.{length-noted, noted-other}
+use Rattle.records.proofs.Noting.{length-noted, noted-at, noted-other}
 use Rattle.records.proofs.Statements.{size-is}
-use Rattle.theory.specs.Masks.{maskLeft}
+use Rattle.theory.specs.Key.{opaqueHandler}
+use Rattle.theory.specs.Masks.{anyState, maskLeft}
 use Rattle.theory.specs.Live.{liveInWord, liveOutWord}
+use Rattle.theory.proofs.Lists.{clash}
 use Rattle.statements.specs.contracts.Layout.{sureAt, rowWords, linesAt, bodiesAt, matrixAt, queueAt, enteredRowAt, returnsRowAt, setWords}
 use Rattle.statements.specs.contracts.Ready.{Ready, Indexed, Keeps}
 use Rattle.statements.proofs.Noted.{ready-noted}
-use Rattle.statements.proofs.Keeps.{keeps-zeroed, ready-keeps, ready-room, indexed-keeps}
+use Rattle.statements.proofs.Keeps.{keeps-zeroed, keeps-widen, ready-keeps, ready-room, indexed-keeps}
 use Rattle.statements.proofs.WorkArea as area
 use Rattle.solve.specs.contracts.Layout.{areaEnd}
 use Rattle.solve.proofs.Room.{solver-fits}
@@ -33,10 +36,11 @@ use Rattle.statements.proofs.WellFormed.{arrays-is}
 use Rattle.calls.specs.contracts.Held as held
 use Rattle.calls.specs.contracts.Held.{Summarized, Linked}
 use Rattle.dataflow.specs.Promise.{Written}
+use Rattle.dataflow.specs.contracts.Transfer.{KeySet}
 use Rattle.dataflow.specs.contracts.Phases.{edgesEnd, cleared, FitFlow, SummariesMade, SolverStart, Masked, Findings}
 use Rattle.dataflow.specs.contracts.Solving as solver
 use Rattle.dataflow.specs.contracts.Bytes.{bothCopies, notedRows}
-use Rattle.dataflow.proofs.Kept.{indexed-stays, linked-stays}
+use Rattle.dataflow.proofs.Kept.{indexed-stays, linked-stays, key-stays}
 use Rattle.dataflow.proofs.NotedRows.{length-rows, rows-past, rows-at}
 
 -- what finding the edges uses ends before the solver's words do
@@ -117,14 +121,15 @@ pub used-room : {s ws : List ℕ} {n : ℕ} → Ready s ws n → 0 < n → edges
 used-room {n = n} r p = omega (arith, ready-room r p, area.row-words-le n)
 
 -- with the words of the queue and of the rows of entered statements and of RETURNs zeroed, the forward solver can begin
-pub linked : {s : List ℕ} {h : Header} {ws vs us : List ℕ} → SummariesMade s h ws → 0 < h .statements
+pub linked : {s : List ℕ} {h : Header} {ws vs us : List ℕ} → SummariesMade s h ws → KeySet (flowOf s) ws (h .statements) (setWords (h .arrays)) → 0 < h .statements
     → Linked (flowOf s) vs (h .statements) → Keeps (bodiesAt (h .statements)) (edgesEnd (h .statements)) ws vs
     → us ≡ zeroed vs (queueAt (h .statements)) (edgesEnd (h .statements) - queueAt (h .statements)) → SolverStart s h us
-linked {s} {h} {ws} {vs} {us} begun some l k c =
+linked {s} {h} {ws} {vs} {us} begun key some l k c =
     subst (SolverStart s h) (sym c)
     (record {
       indexed = indexed-stays resets indexed′;
       linked = linked-stays resets l;
+      key = key-stays {lo = queue} (keeps-widen (omega arith) within resets) (key-stays {lo = bodiesAt (h .statements)} (keeps-widen (omega arith) within k) key);
       some = some;
       zero = λ x a b. zeros x a b (decLt x end);
     })
@@ -134,6 +139,9 @@ linked {s} {h} {ws} {vs} {us} begun some l k c =
 
     end : ℕ
     end = edgesEnd (h .statements)
+
+    within : end ≤ areaEnd (h .statements) (setWords (h .arrays))
+    within = edges-within (h .statements) (setWords (h .arrays))
 
     indexed′ : Indexed s h vs
     indexed′ = indexed-keeps (begun .indexed) k (omega arith)
@@ -146,37 +154,82 @@ linked {s} {h} {ws} {vs} {us} begun some l k c =
     zeros x a b (no m) =
         zeroed-other vs queue (end - queue) x (λ j y z. m (omega arith)) ∙ k .above x (omega (arith, m)) ∙ begun .zero x (omega (arith, m)) b
 
+-- the numbers of the flow, by the header
+module _ (s : List ℕ) {h : Header} (e : h ≡ headerOf s) where
+  sizes : size (flowOf s) ≡ h .statements
+  sizes = size-is s ∙ ap (λ (x : Header). x .statements) (sym e)
+
+  arrays′ : flowOf s .arrays ≡ h .arrays
+  arrays′ = arrays-is s ∙ ap (λ (x : Header). x .arrays) (sym e)
+
+  -- the bytes of the masks, and those past them
+
+  byte-is : (masks : List ℕ) {m : ℕ → ℕ → ℕ} → ((i a : ℕ) → i < h .statements → a < h .arrays → getD masks (i * h .arrays + a) 0 ≡ m i a)
+      → (i a : ℕ) → i < size (flowOf s) → a < flowOf s .arrays → getD masks (i * (flowOf s .arrays) + a) 0 ≡ m i a
+  byte-is masks b i a l m = ap (λ k. getD masks (i * k + a) 0) arrays′ ∙ b i a (omega (arith, sizes)) (omega (arith, arrays′))
+
+  byte-past : {x : ℕ} → size (flowOf s) * (flowOf s .arrays) ≤ x → h .statements * h .arrays ≤ x
+  byte-past {x} l = subst (λ k. k * h .arrays ≤ x) sizes (subst (λ k. size (flowOf s) * k ≤ x) arrays′ l)
+
 -- the rows of the two copies are the masks of the statement
 pub masked : {s : List ℕ} {h : Header} {ws vs masks masks′ : List ℕ} {visits : ℕ} → SolverStart s h ws
     → h .statements * h .arrays ≤ length masks
+    → opaqueHandler (flowOf s) ≡ false
     → solver.RuleResult (flowOf s) ws vs (h .statements) (setWords (h .arrays)) visits
     → masks′ ≡ notedRows masks (h .arrays) (bothCopies vs (h .statements) (setWords (h .arrays))) (h .statements)
     → Masked s h masks masks′ vs visits
 unfolding bothCopies maskLeft
-masked {s} {h} {ws} {vs} {masks} {masks′} {visits} blank room solved e = record {
-  ready = ready-keeps (blank .indexed .ready) (solved .keeps) (omega (arith, area.row-from (h .statements) (h .statements)));
-  left = solved .left;
-  over = solved .over;
-  bytes = λ i a l m.
-      ap (λ v. getD v (i * h .arrays + a) 0) e
-      ∙ rows-at masks (h .arrays) (bothCopies vs (h .statements) (setWords (h .arrays))) (h .statements) i a l m room
-      ∙ joined i a l m;
-  masks-size = ap length e ∙ length-rows masks (h .arrays) (bothCopies vs (h .statements) (setWords (h .arrays))) (h .statements);
-  masks-kept = λ x l. ap (λ v. getD v x 0) e ∙ rows-past masks (h .arrays) (bothCopies vs (h .statements) (setWords (h .arrays))) (h .statements) x l;
+masked {s} {h} {ws} {vs} {masks} {masks′} {visits} blank room clear rule e = record {
+  ready = ready-keeps (blank .indexed .ready) (rule .keeps) (omega (arith, area.row-from (h .statements) (h .statements)));
+  found = record {
+    solved = λ _. record { left = rule .left; over = rule .over; mask-bytes = byte-is s header masks′ bytes };
+    unsolved = λ q. absurd (clash (opaqueHandler (flowOf s)) q clear);
+    masks-size = ap length e ∙ length-rows masks (h .arrays) (bothCopies vs (h .statements) (setWords (h .arrays))) (h .statements);
+    masks-kept = λ x l. ap (λ v. getD v x 0) e ∙ rows-past masks (h .arrays) (bothCopies vs (h .statements) (setWords (h .arrays))) (h .statements) x (byte-past s header l);
+  };
 }
   where
-    sizes : size (flowOf s) ≡ h .statements
-    sizes = size-is s ∙ ap (λ (x : Header). x .statements) (sym (blank .indexed .header))
+    header : h ≡ headerOf s
+    header = blank .indexed .header
 
-    arrays′ : h .arrays ≡ flowOf s .arrays
-    arrays′ = ap (λ (x : Header). x .arrays) (blank .indexed .header) ∙ sym (arrays-is s)
-
-    joined : (i a : ℕ) → i < h .statements → a < h .arrays → bothCopies vs (h .statements) (setWords (h .arrays)) i a ≡ maskLeft (flowOf s) (solved .left) i a
+    joined : (i a : ℕ) → i < h .statements → a < h .arrays → bothCopies vs (h .statements) (setWords (h .arrays)) i a ≡ maskLeft (flowOf s) (rule .left) i a
     joined i a l m =
-        let b : a < flowOf s .arrays = omega (arith, arrays′) in
+        let b : a < flowOf s .arrays = omega (arith, arrays′ s header) in
         ap₂ bitOr
-        (solved .masks i a (omega arith) b ∙ ap (λ d. solved .left .masks d a) (sym (zero-add i)))
-        (solved .masks (h .statements + i) a (omega arith) b ∙ ap (λ k. solved .left .masks (k + i) a) (sym sizes))
+        (rule .masks i a (omega arith) b ∙ ap (λ d. rule .left .masks d a) (sym (zero-add i)))
+        (rule .masks (h .statements + i) a (omega arith) b ∙ ap (λ k. rule .left .masks (k + i) a) (sym (sizes s header)))
+
+    bytes : (i a : ℕ) → i < h .statements → a < h .arrays → getD masks′ (i * h .arrays + a) 0 ≡ maskLeft (flowOf s) (rule .left) i a
+    bytes i a l m =
+        ap (λ v. getD v (i * h .arrays + a) 0) e
+        ∙ rows-at masks (h .arrays) (bothCopies vs (h .statements) (setWords (h .arrays))) (h .statements) i a l m room
+        ∙ joined i a l m
+
+-- all masks alike, without a visit
+pub unvisited : {s : List ℕ} {h : Header} {vs masks masks′ : List ℕ} → Indexed s h vs
+    → h .statements * h .arrays ≤ length masks
+    → opaqueHandler (flowOf s) ≡ true
+    → masks′ ≡ noted masks 0 (h .statements * h .arrays) (λ k. anyState)
+    → Masked s h masks masks′ vs 0
+unvisited {s} {h} {vs} {masks} {masks′} indexed room covered e = record {
+  ready = indexed .ready;
+  found = record {
+    solved = λ q. absurd (clash (opaqueHandler (flowOf s)) covered q);
+    unsolved = λ _. record { no-visits = refl; mask-bytes = byte-is s (indexed .header) masks′ {m = λ i a. anyState} bytes };
+    masks-size = ap length e ∙ length-noted masks 0 (λ k. anyState) (h .statements * h .arrays);
+    masks-kept = λ x l.
+        let past = byte-past s (indexed .header) l in
+        ap (λ v. getD v x 0) e ∙ noted-other masks 0 (λ k. anyState) (h .statements * h .arrays) x 0 (λ i m q. omega (arith, zero-add i));
+  };
+}
+  where
+    bytes : (i a : ℕ) → i < h .statements → a < h .arrays → getD masks′ (i * h .arrays + a) 0 ≡ anyState
+    bytes i a l m =
+        let row = suc-mul i (h .arrays) in
+        let rows = mul-le-mul-right (h .arrays) l in
+        ap (λ v. getD v (i * h .arrays + a) 0) e
+        ∙ ap (λ x. getD (noted masks 0 (h .statements * h .arrays) (λ k. anyState)) x 0) (sym (zero-add (i * h .arrays + a)))
+        ∙ noted-at masks 0 (λ k. anyState) (h .statements * h .arrays) (i * h .arrays + a) 0 (omega arith) (omega (arith, zero-add (h .statements * h .arrays)))
 
 pub wrote : {n : ℕ} {f : ℕ → ℕ} {ws vs : List ℕ} → ((i : ℕ) → i < n → getD vs i 0 ≡ f i) → Keeps 0 n ws vs → Written n f ws vs
 wrote w k = record { size = k .size; written = w; kept = k .above }
@@ -188,17 +241,7 @@ pub solved : {s : List ℕ} {h : Header} {masks masks′ liveIn liveIn′ liveOu
     → Written (h .statements) (liveOutWord (flowOf s)) liveOut liveOut′
     → Findings (flowOf s) masks masks′ liveIn liveIn′ liveOut liveOut′ visits
 solved {s} {h} {masks} {masks′} {liveIn} {liveIn′} {liveOut} {liveOut′} e m i o = record {
-  left = m .left;
-  over = m .over;
-  mask-bytes = λ j a l b. ap (λ k. getD masks′ (j * k + a) 0) arrays′ ∙ m .bytes j a (omega (arith, sizes)) (omega (arith, arrays′));
-  masks-size = m .masks-size;
-  masks-kept = λ x l. m .masks-kept x (subst (λ k. k * h .arrays ≤ x) sizes (subst (λ k. size (flowOf s) * k ≤ x) arrays′ l));
-  live-in = subst (λ k. Written k (liveInWord (flowOf s)) liveIn liveIn′) (sym sizes) i;
-  live-out = subst (λ k. Written k (liveOutWord (flowOf s)) liveOut liveOut′) (sym sizes) o;
+  found = m .found;
+  live-in = subst (λ k. Written k (liveInWord (flowOf s)) liveIn liveIn′) (sym (sizes s e)) i;
+  live-out = subst (λ k. Written k (liveOutWord (flowOf s)) liveOut liveOut′) (sym (sizes s e)) o;
 }
-  where
-    sizes : size (flowOf s) ≡ h .statements
-    sizes = size-is s ∙ ap (λ (x : Header). x .statements) (sym e)
-
-    arrays′ : flowOf s .arrays ≡ h .arrays
-    arrays′ = arrays-is s ∙ ap (λ (x : Header). x .arrays) (sym e)

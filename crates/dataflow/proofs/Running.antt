@@ -1,8 +1,9 @@
 -- The solver goes through the states of the queue rule: it starts at the rule's first, each visit leads to the next, and where nothing waits it has come
 -- to what the rule leaves. A number's masks are then what a visit would pull.
 use Prim.Native.Nat.{ℕ, _+_, _*_, _/_, _%_, _<_, _≤_}
-use mathlib.Core.Bool.{Bool, false, cond}
+use mathlib.Core.Bool.{Bool, true, false, cond}
 use mathlib.Core.List.{List, [], _∷_}
+use mathlib.Core.Option.{none}
 use mathlib.Core.Path.{_≡_, refl, sym, ap, ap₂, subst, _∙_}
 use native.Mathlib.Decide.{decLt, ℕ-discrete}
 use native.Mathlib.Nat.{zero-add}
@@ -11,11 +12,13 @@ use borrow.Author.Tests.{eq-eqb, ne-eqb}
 use lib.Bits.{bitOr, or-zero-r}
 use lib.Dec.{eqb, ltb}
 use lib.ListN.{length, getD}
-use Rattle.masks.specs.declared.Effect.the-variants.{Reset}
+use Rattle.masks.specs.declared.Effect.the-variants.{Reset, Touched}
+use Rattle.masks.specs.Step.{stepOf}
 use Rattle.flow.specs.Flow.{Flow, size}
 use Rattle.theory.specs.Lists.{elem}
-use Rattle.theory.specs.Doubled.{doubled, boundary}
-use Rattle.theory.specs.Queue.{Graph, begins, next-visit, Over, pulled, initial, visit, visitBound}
+use Rattle.theory.specs.Key.{handlerTouches}
+use Rattle.theory.specs.Doubled.{doubled, keyEffects, boundary}
+use Rattle.theory.specs.Queue.{Graph, begins, next-visit, Over, stepAll, pulled, initial, visit, visitBound}
 use Rattle.theory.specs.contracts.WellFormed.{WellFormed}
 use Rattle.theory.proofs.Lists.{clash}
 use Rattle.theory.proofs.Terms.{doubled-well-formed}
@@ -24,12 +27,12 @@ use Rattle.theory.proofs.Exact.{pulled-held}
 use Rattle.theory.proofs.Push.{pulled-first}
 use Rattle.statements.specs.contracts.Layout.{bodiesAt, queueAt}
 use Rattle.statements.specs.contracts.Ready.{Keeps}
-use Rattle.statements.proofs.Keeps.{keeps-refl, keeps-trans, keeps-widen}
+use Rattle.statements.proofs.Keeps.{keeps-refl, keeps-trans, keeps-widen, keeps-word}
 use Rattle.statements.proofs.Members.{zero-has}
 use Rattle.calls.specs.contracts.Held.{Linked}
 use Rattle.solve.specs.declared.Queue.{Queue}
-use Rattle.solve.specs.contracts.Layout.{setRow, outRow, maskRowAt, stateAt, settledIn, sentRowAt, areaEnd}
-use Rattle.solve.specs.contracts.Rows.{maskAt, stepWhere}
+use Rattle.solve.specs.contracts.Layout.{setRow, outRow, maskRowAt, stateAt, settledIn, sentRowAt, areaEnd, keyAt}
+use Rattle.solve.specs.contracts.Rows.{maskAt, RowIs, stepWhere, member}
 use Rattle.solve.specs.contracts.Waiting.{Waits, Enqueued}
 use Rattle.solve.specs.contracts.Pushed.{masksAt}
 use Rattle.solve.proofs.Room.{rows-apart, row-from, row-fits, nodes-within, not-state, sent-from, sent-apart}
@@ -37,7 +40,8 @@ use Rattle.solve.proofs.Masks.{mask-cong}
 use Rattle.solve.proofs.Waiting.{rest-keeps, waits-none}
 use Rattle.dataflow.specs.contracts.Transfer.{RowSteps}
 use Rattle.dataflow.specs.contracts.Sent.{masksBelow}
-use Rattle.dataflow.specs.contracts.Solving.{Underway, VisitsFront, Unused, RuleResult}
+use Rattle.dataflow.specs.contracts.Solving.{Underway, VisitsFront, Unused, Begun, RuleResult}
+use Rattle.dataflow.proofs.Acted.{unkeyed-step, key-step}
 use Rattle.dataflow.proofs.Unions.{cond-zero}
 use Rattle.dataflow.proofs.Visiting.{nodes-are, arrays-are, below-at}
 
@@ -48,8 +52,8 @@ pub record Running (f : Flow) (n w : ℕ) (ws₀ ws : List ℕ) (queue : Queue) 
 
 -- The start
 
-start-is : (f : Flow) (a : ℕ) → doubled f .boundary a ≡ 1
-unfolding doubled boundary
+start-is : (f : Flow) (a : ℕ) → doubled f .boundary a ≡ boundary f a
+unfolding doubled
 start-is f a = refl
 
 -- a row of zeros
@@ -63,11 +67,52 @@ zero-mask ws w row a l h =
       zero-has ws (row + 2 * w) a (h (row + 2 * w + a / 64) (omega arith) (omega arith)),
     )
 
+-- the masks at the entry: NONE for every array, and then the handler's touched step
+module _ (f : Flow) (n w d : ℕ) {count : ℕ} (ws us : List ℕ) (all : count ≡ f .arrays) (below : d < 2 * n) (unused : Unused ws n w)
+    (reset : RowSteps ws us w (setRow n) (maskRowAt n w d) (outRow n w) (λ a. ltb a count) Reset) where
+  reset-masks : (a : ℕ) → a < 64 * w → masksAt us n w d a ≡ masksBelow (f .arrays) (λ b. 1) a
+  unfolding stepWhere masksBelow
+  reset-masks a l =
+      reset .masks a l
+      ∙ ap₂ (λ (k v : ℕ). cond (ltb a k) 1 v) all
+      (zero-mask ws w (outRow n w) a l (λ x lo hi. let least = row-from n w (2 * n) in let end = nodes-within n w in unused x (omega arith) (omega arith)))
+
+  pub reset-keeps : Keeps (queueAt n) (areaEnd n w) ws us
+  reset-keeps =
+      let least = row-from n w d in
+      let fits = row-fits n w below in
+      let end = nodes-within n w in
+      record { size = reset .size; below = λ x l. reset .elsewhere x (λ a b. omega arith) (λ a b. omega arith); above = λ x l. reset .elsewhere x (λ a b. omega arith) (λ a b. omega arith) }
+
+  pub begun-unkeyed : f .handler ≡ none → Begun f ws us n w d
+  unfolding boundary masksBelow
+  begun-unkeyed e = record {
+    masks = λ a l. reset-masks a l ∙ ap (λ (v : ℕ). cond (ltb a (f .arrays)) v 0) (sym (unkeyed-step f a 1 e));
+    size = reset .size;
+    elsewhere = reset .elsewhere;
+  }
+
+  pub begun-keyed : {vs : List ℕ} → RowIs us vs w (maskRowAt n w d) (stepWhere (member us (keyAt n w)) Touched (masksAt us n w d)) → ((a : ℕ) → a < 64 * w → member us (keyAt n w) a ≡ handlerTouches f a)
+      → Begun f ws vs n w d
+  unfolding boundary masksBelow stepWhere
+  begun-keyed y says = record {
+    masks = λ a l. y .masks a l ∙ ap₂ (λ (b : Bool) (v : ℕ). cond b (stepOf Touched v) v) (says a l) (reset-masks a l) ∙ at a (ltb a (f .arrays));
+    size = y .keeps .size ∙ reset .size;
+    elsewhere = λ x p q. keeps-word (y .keeps) x q ∙ reset .elsewhere x p q;
+  }
+    where
+      at : (a : ℕ) (b : Bool) → cond (handlerTouches f a) (stepOf Touched (cond b 1 0)) (cond b 1 0) ≡ cond b (stepAll (keyEffects f a) 1) 0
+      at a true = key-step f a 1
+      at a false = untouched (handlerTouches f a)
+        where
+          untouched : (b : Bool) → cond b (stepOf Touched 0) 0 ≡ 0
+          untouched true = refl
+          untouched false = refl
+
 abbrev pub nothing : Queue
 nothing = record { head = 0; len = 0 }
 
-module _ (f : Flow) (n w : ℕ) (ws us : List ℕ) (entry count : ℕ) (sized : size f ≡ n) (some : 0 < n) (unused : Unused ws n w) (first : entry ≡ f .entry) (below : entry < n)
-    (all : count ≡ f .arrays) (entered : RowSteps ws us w (setRow n) (maskRowAt n w entry) (outRow n w) (λ b. ltb b count) Reset) where
+module _ (f : Flow) (n w : ℕ) (ws us : List ℕ) (entry : ℕ) (sized : size f ≡ n) (some : 0 < n) (unused : Unused ws n w) (first : entry ≡ f .entry) (below : entry < n) (entered : Begun f ws us n w entry) where
   abbrev g : Graph
   g = doubled f
 
@@ -112,26 +157,25 @@ module _ (f : Flow) (n w : ℕ) (ws us : List ℕ) (entry count : ℕ) (sized : 
     same-masks : (d a : ℕ) → d < 2 * n → a < 64 * w → masksAt vs n w d a ≡ masksAt us n w d a
     same-masks d a l m = mask-cong us vs w (maskRowAt n w d) a m (λ x lo hi. kept-word d x lo (omega arith))
 
-    -- at the entry every array below the count is NONE, and elsewhere nothing is
-    first-mask : (d a : ℕ) → masksBelow (f .arrays) (pulled g (initial g) d) a ≡ cond (ltb a count) (cond (eqb d entry) 1 0) 0
+    -- at the entry the masks are the boundary's, and elsewhere nothing is
+    first-mask : (d a : ℕ) → masksBelow (f .arrays) (pulled g (initial g) d) a ≡ masksBelow (f .arrays) (λ b. cond (eqb d entry) (boundary f b) 0) a
     unfolding masksBelow
     first-mask d a =
-        ap₂ (λ (k v : ℕ). cond (ltb a k) v 0) (sym all)
+        ap (λ (v : ℕ). cond (ltb a (f .arrays)) v 0)
         (pulled-first g d a ∙ ap (λ (e : ℕ). cond (eqb d e) (g .boundary a) 0) entry-is ∙ ap (λ (v : ℕ). cond (eqb d entry) v 0) (start-is f a))
 
     masks : (d a : ℕ) → d < 2 * n → a < 64 * w → masksAt vs n w d a ≡ masksBelow (f .arrays) (pulled g (initial g) d) a
-    unfolding stepWhere
+    unfolding masksBelow
     masks d a l m = same-masks d a l m ∙ at (ℕ-discrete d entry) ∙ sym (first-mask d a)
       where
-        at : Dec (d ≡ entry) → masksAt us n w d a ≡ cond (ltb a count) (cond (eqb d entry) 1 0) 0
+        at : Dec (d ≡ entry) → masksAt us n w d a ≡ cond (ltb a (f .arrays)) (cond (eqb d entry) (boundary f a) 0) 0
         at (yes e) =
             ap (λ (y : ℕ). masksAt us n w y a) e ∙ entered .masks a m
-            ∙ ap₂ (λ (v k : ℕ). cond (ltb a count) v k) (sym (ap (λ (b : Bool). cond b 1 0) (eq-eqb d entry e)))
-            (zero-mask ws w (outRow n w) a m (λ x lo hi. let least = row-from n w (2 * n) in let end = nodes-within n w in unused x (omega arith) (omega arith)))
+            ∙ sym (ap (λ (b : Bool). cond (ltb a (f .arrays)) (cond b (boundary f a) 0) 0) (eq-eqb d entry e))
         at (no e) =
             mask-cong ws us w (maskRowAt n w d) a m (λ x lo hi. entered .elsewhere x (λ c b. let least = row-from n w d in omega arith) (λ c b. apart x lo hi c b (decLt d entry)))
             ∙ zero-mask ws w (maskRowAt n w d) a m (λ x lo hi. let least = row-from n w d in let fits = row-fits n w l in let end = nodes-within n w in unused x (omega arith) (omega arith))
-            ∙ cond-zero (ltb a count) ∙ ap (λ (v : ℕ). cond (ltb a count) v 0) (sym (ap (λ (b : Bool). cond b 1 0) (ne-eqb d entry e)))
+            ∙ cond-zero (ltb a (f .arrays)) ∙ ap (λ (v : ℕ). cond (ltb a (f .arrays)) v 0) (sym (ap (λ (b : Bool). cond b (boundary f a) 0) (ne-eqb d entry e)))
           where
             apart : (x : ℕ) → maskRowAt n w d ≤ x → x < maskRowAt n w d + 3 * w → maskRowAt n w entry ≤ x → x < maskRowAt n w entry + 3 * w → Dec (d < entry) → ⊥
             apart x lo hi c b (yes h) = let far = rows-apart n w h in omega arith

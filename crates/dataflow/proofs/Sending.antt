@@ -8,7 +8,7 @@ use mathlib.Core.Path.{_≡_, refl, sym, ap, ap₂, subst, _∙_}
 use native.Mathlib.Decide.{ℕ-discrete}
 use native.Mathlib.Omega.{arith}
 use borrow.Author.Tests.{eq-eqb, ne-eqb}
-use lib.Bits.{bitOr, or-self, or-zero-r}
+use lib.Bits.{bitOr, or-self, or-comm, or-zero-r}
 use lib.Dec.{eqb}
 use Rattle.flow.specs.declared.Base.{Base}
 use Rattle.flow.specs.declared.Base.the-variants.{Zero, N}
@@ -33,7 +33,7 @@ use Rattle.solve.specs.contracts.Pushed.{masksAt, Source, Pushed}
 use Rattle.solve.proofs.Room.{row-first}
 use Rattle.solve.proofs.Masks.{mask-cong, differ-as}
 use Rattle.solve.proofs.Growing.{pushed}
-use Rattle.dataflow.specs.contracts.Sent.{edgeRow, Sources, carried, SettledSet, Sent}
+use Rattle.dataflow.specs.contracts.Sent.{edgeRow, Sources, carried, SettledSet, Grows, Sent}
 use Rattle.dataflow.proofs.Unions.{or-between, differ-self, cond-or}
 
 -- The rows that edges carry
@@ -150,6 +150,26 @@ copy-below n N l = omega arith
 pub back-below : {s ws : List ℕ} {n i : ℕ} {x : Call} → Ready s ws n → CallOf (flowOf s) ws i x → x .continuation .0 < n
 back-below {i = i} {x = x} r c = ready-below r (ready-formed r .continuation i (x .continuation .0) (c .continues))
 
+pub joined-grows : (x c y : ℕ) → y ≡ bitOr x c → bitOr y x ≡ y
+joined-grows x c y e = or-comm y x ∙ ap (bitOr x) e ∙ sym (or-assoc x x c) ∙ ap (λ (v : ℕ). bitOr v c) (or-self x) ∙ sym e
+
+pub grows-then : (ws us vs : List ℕ) (n w : ℕ) → Grows ws us n w → Grows us vs n w → Grows ws vs n w
+grows-then ws us vs n w first second t a l m =
+    ap (λ (v : ℕ). bitOr v (masksAt ws n w t a)) (sym (second t a l m))
+    ∙ or-assoc (masksAt vs n w t a) (masksAt us n w t a) (masksAt ws n w t a)
+    ∙ ap (bitOr (masksAt vs n w t a)) (first t a l m)
+    ∙ second t a l m
+
+-- where masks only grow, a number that is settled through both changes is settled through them together
+pub settled-then : (ws us vs : List ℕ) (n w : ℕ) → SettledSet n w ws us → SettledSet n w us vs → Grows ws us n w → Grows us vs n w → SettledSet n w ws vs
+settled-then ws us vs n w s p first second t l =
+    p t l
+    ∙ ap (cond (differ (64 * w) (masksAt vs n w t) (masksAt us n w t)) 0) (s t l)
+    ∙ cond-or (differ (64 * w) (masksAt us n w t) (masksAt ws n w t)) (differ (64 * w) (masksAt vs n w t) (masksAt us n w t)) 0 (settledIn ws n w t)
+    ∙ sym (ap (λ (b : Bool). cond b 0 (settledIn ws n w t))
+    (differ-chain (64 * w) (masksAt ws n w t) (masksAt us n w t) (masksAt vs n w t) (λ a m.
+    or-between (masksAt ws n w t a) (masksAt us n w t a) (masksAt vs n w t a) (or-comm (masksAt ws n w t a) (masksAt us n w t a) ∙ first t a l m) (or-comm (masksAt us n w t a) (masksAt vs n w t a) ∙ second t a l m))))
+
 -- some edges, and then others
 module _ {f : Flow} {ws us vs : List ℕ} {n w i : ℕ} {from : Bool → ℕ} {first queue r : Queue} {xs ys : List Edge} (s : Sent f ws us n w from first i xs queue) (p : Sent f us vs n w from queue i ys r) where
   both-mask : (t a : ℕ) → t < 2 * n → a < 64 * w → masksAt vs n w t a ≡ bitOr (masksAt ws n w t a) (carried f ws w from (xs ++ ys) t a)
@@ -159,18 +179,6 @@ module _ {f : Flow} {ws us vs : List ℕ} {n w i : ℕ} {from : Bool → ℕ} {f
       ∙ or-assoc (masksAt ws n w t a) (carried f ws w from xs t a) (carried f ws w from ys t a)
       ∙ ap (bitOr (masksAt ws n w t a)) (sym (carried-append f ws w from t a xs ys))
 
-  held : (x c y : ℕ) → y ≡ bitOr x c → bitOr x y ≡ y
-  held x c y e = ap (bitOr x) e ∙ sym (or-assoc x x c) ∙ ap (λ (z : ℕ). bitOr z c) (or-self x) ∙ sym e
-
-  both-settled : SettledSet n w ws vs
-  both-settled t l =
-      p .settled t l
-      ∙ ap (cond (differ (64 * w) (masksAt vs n w t) (masksAt us n w t)) 0) (s .settled t l)
-      ∙ cond-or (differ (64 * w) (masksAt us n w t) (masksAt ws n w t)) (differ (64 * w) (masksAt vs n w t) (masksAt us n w t)) 0 (settledIn ws n w t)
-      ∙ sym (ap (λ (b : Bool). cond b 0 (settledIn ws n w t))
-      (differ-chain (64 * w) (masksAt ws n w t) (masksAt us n w t) (masksAt vs n w t) (λ a m.
-      or-between (masksAt ws n w t a) (masksAt us n w t a) (masksAt vs n w t a) (held (masksAt ws n w t a) _ _ (s .masks t a l m)) (held (masksAt us n w t a) _ _ (p .masks t a l m)))))
-
   pub sent-append : Sent f ws vs n w from first i (xs ++ ys) r
   sent-append = record {
     waits = λ l h.
@@ -178,7 +186,7 @@ module _ {f : Flow} {ws us vs : List ℕ} {n w i : ℕ} {from : Bool → ℕ} {f
         (sym (ap (λ (k : List Arc). enqueue k l) (map-append (toArc f i) xs ys) ∙ enqueue-append (map (toArc f i) xs) (map (toArc f i) ys) l))
         (p .waits (enqueue (map (toArc f i) xs) l) (s .waits l h));
     masks = both-mask;
-    settled = both-settled;
+    settled = settled-then ws us vs n w (s .settled) (p .settled) (λ t a l m. joined-grows (masksAt ws n w t a) _ _ (s .masks t a l m)) (λ t a l m. joined-grows (masksAt us n w t a) _ _ (p .masks t a l m));
     source = λ b a l. p .source b a l ∙ s .source b a l;
     keeps = keeps-trans (s .keeps) (p .keeps);
   }

@@ -38,19 +38,12 @@ use Rattle.solve.proofs.Room.{row-from, row-first, row-fits, nodes-within, sent
 use Rattle.solve.proofs.Masks.{mask-cong, unioned-mask, differ-as}
 use Rattle.solve.proofs.Waiting.{waits-kept}
 use Rattle.solve.proofs.Growing.{source-fits}
-use Rattle.dataflow.specs.contracts.Sent.{carried, Sent, MembersHold, Shared, Goes}
-use Rattle.dataflow.proofs.Sending.{carried-same}
+use Rattle.dataflow.specs.contracts.Sent.{carried, Grows, Sent, MembersHold, Shared, Goes}
+use Rattle.dataflow.proofs.Sending.{carried-same, joined-grows}
 
 -- x is within y, and y within z
 within : (x y z : ℕ) → bitOr y x ≡ y → bitOr z y ≡ z → bitOr z x ≡ z
 within x y z e d = ap (λ (v : ℕ). bitOr v x) (sym d) ∙ or-assoc z y x ∙ ap (bitOr z) e ∙ d
-
--- masks only grow
-abbrev pub Grows : List ℕ → List ℕ → ℕ → ℕ → Type 0
-Grows ws vs n w = (t a : ℕ) → t < 2 * n → a < 64 * w → bitOr (masksAt vs n w t a) (masksAt ws n w t a) ≡ masksAt vs n w t a
-
-pub joined-grows : (x c y : ℕ) → y ≡ bitOr x c → bitOr y x ≡ y
-joined-grows x c y e = or-comm y x ∙ ap (bitOr x) e ∙ sym (or-assoc x x c) ∙ ap (λ (v : ℕ). bitOr v c) (or-self x) ∙ sym e
 
 -- the words that lead, the rows of RETURNs and what was sent stay
 module _ (n w : ℕ) {ws vs : List ℕ} (k : Keeps (queueAt n) (nodesEnd n w) ws vs) where

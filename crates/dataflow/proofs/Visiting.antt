@@ -58,7 +58,7 @@ below-as count x y a h = at (decLt a count)
     at (yes l) = ap (λ (v : ℕ). cond (ltb a count) v 0) (h l)
     at (no l) = rw (le-ltb a count (omega (arith, l)))
 
-below-or : (count : ℕ) (x y : ℕ → ℕ) (a : ℕ) → bitOr (masksBelow count x a) (masksBelow count y a) ≡ masksBelow count (λ b. bitOr (x b) (y b)) a
+pub below-or : (count : ℕ) (x y : ℕ → ℕ) (a : ℕ) → bitOr (masksBelow count x a) (masksBelow count y a) ≡ masksBelow count (λ b. bitOr (x b) (y b)) a
 unfolding masksBelow
 below-or count x y a = at (ltb a count)
   where
@@ -258,7 +258,7 @@ module _ {f : Flow} (wf : WellFormed f) {n k : ℕ} (sized : size f ≡ n) (few 
       }
 
     -- else the masks of the number go on
-    module _ (new : news ≡ true) {os : List ℕ} {r : Queue} (sent : Sends f us os n k (restOf n q) d r) where
+    module _ (new : news ≡ true) {os : List ℕ} {r : Queue} (sent : Sends f us os n k (restOf n q) d (doubled f .arcs d) r) where
       next-masks : (t a : ℕ) → t < 2 * n → a < 64 * k → masksAt os n k t a ≡ masksBelow (f .arrays) (pulled g next t) a
       next-masks t a l m =
           sent .masks (pulled g st x) (λ b h. ap (λ (y : ℕ). masksAt us n k y b) is-front ∙ noted-masks x b front-in h) t a l m

@@ -21,8 +21,9 @@ ghost use Rattle.calls.specs.contracts.Slots.{present, listedSlots, returnSlots
 ghost use Rattle.solve.specs.contracts.Layout.{areaEnd};
 ghost use Rattle.solve.specs.contracts.Waiting.{Waits};
 ghost use Rattle.solve.specs.contracts.Pushed.{Source};
-ghost use Rattle.dataflow.specs.contracts.Sent.{edgeRow, Sent, Shared, MembersHold, Goes, Sends};
-ghost use Rattle.dataflow.specs.contracts.Solving.{Underway, VisitsFront, Unused, RuleResult};
+ghost use Rattle.dataflow.specs.contracts.Sent.{edgeRow, Sent, Shared, MembersHold, Goes, statementArcs, Sends, KeyGrown, KeyJoined};
+ghost use Rattle.dataflow.specs.contracts.Transfer.{KeySet};
+ghost use Rattle.dataflow.specs.contracts.Solving.{Underway, VisitsFront, Unused, Begun, RuleResult};
 use crate::transfer;
 use calls::edges;
 use calls::edges::Call;
@@ -30,6 +31,7 @@ use calls::leaders;
 use calls::orders;
 use calls::orders::Order;
 use flow::Base;
+use flow::Handler;
 use flow::KIND_RETURN;
 use flow::LineEntry;
 use flow::NodeId;
@@ -345,8 +347,8 @@ fn send_call(
     i: StmtId,
     place: usize,
 ) -> Queue
-    requires { ⌜ (width ≡ setWords (h .arrays)) × Indexed (now file) h (now work) × Linked (flowOf (now file)) (now work) (h .statements) × (d .0 < 2 * h .statements) × RecordOf (now file) (i .0) place × (theory.at base (i .0) ≡ theory.node (flowOf (now file)) (d .0)) × (i .0 < h .statements) × (transparentCall (flowOf (now file)) (i .0) ≡ true) × Shared (flowOf (now file)) (now work) (h .statements) width × ((l : List ℕ) × Waits (now work) (h .statements) width first l) ⌝ }
-    ensures { λ r. ⌜ Sends (flowOf (now (file .entry))) (now (work .entry)) (now (work .exit)) (h .statements) width first (d .0) r ⌝ }
+    requires { ⌜ (width ≡ setWords (h .arrays)) × Indexed (now file) h (now work) × Linked (flowOf (now file)) (now work) (h .statements) × KeySet (flowOf (now file)) (now work) (h .statements) width × (d .0 < 2 * h .statements) × RecordOf (now file) (i .0) place × (theory.at base (i .0) ≡ theory.node (flowOf (now file)) (d .0)) × (i .0 < h .statements) × (transparentCall (flowOf (now file)) (i .0) ≡ true) × Shared (flowOf (now file)) (now work) (h .statements) width × ((l : List ℕ) × Waits (now work) (h .statements) width first l) ⌝ }
+    ensures { λ r. ⌜ Sends (flowOf (now (file .entry))) (now (work .entry)) (now (work .exit)) (h .statements) width first (d .0) (statementArcs (flowOf (now (file .entry))) (d .0)) r ⌝ }
 {
     let call = edges::call_of(file, work, h.statements, i, place);
     let again = transfer::enters_again(work, base, call.row, call.continuation);
@@ -379,8 +381,8 @@ fn push_plain(
     }
 }
 
-// The masks of d go on along its edges.
-fn send(
+// The masks of d go on along the edges of its statement.
+fn send_edges(
     file: &[u8],
     h: flow::Header,
     work: &mut [u64],
@@ -388,8 +390,8 @@ fn send(
     first: Queue,
     d: NodeId,
 ) -> Queue
-    requires { ⌜ (width ≡ setWords (h .arrays)) × Indexed (now file) h (now work) × Linked (flowOf (now file)) (now work) (h .statements) × (d .0 < 2 * h .statements) × Shared (flowOf (now file)) (now work) (h .statements) width × ((l : List ℕ) × Waits (now work) (h .statements) width first l) ⌝ }
-    ensures { λ r. ⌜ Sends (flowOf (now (file .entry))) (now (work .entry)) (now (work .exit)) (h .statements) width first (d .0) r ⌝ }
+    requires { ⌜ (width ≡ setWords (h .arrays)) × Indexed (now file) h (now work) × Linked (flowOf (now file)) (now work) (h .statements) × KeySet (flowOf (now file)) (now work) (h .statements) width × (d .0 < 2 * h .statements) × Shared (flowOf (now file)) (now work) (h .statements) width × ((l : List ℕ) × Waits (now work) (h .statements) width first l) ⌝ }
+    ensures { λ r. ⌜ Sends (flowOf (now (file .entry))) (now (work .entry)) (now (work .exit)) (h .statements) width first (d .0) (statementArcs (flowOf (now (file .entry))) (d .0)) r ⌝ }
 {
     let n = h.statements;
     let copy = doubled::copy_of(n, d);
@@ -403,9 +405,57 @@ fn send(
     push_plain(file, work, n, width, first, base, i, place, from)
 }
 
+// The masks of d, as they are, are joined to those of n + the handler, if there is one: before an edge of d to itself makes them grow.
+fn grow_key(file: &[u8], h: flow::Header, work: &mut [u64], width: usize, d: NodeId)
+    requires { ⌜ (width ≡ setWords (h .arrays)) × Indexed (now file) h (now work) × (d .0 < 2 * h .statements) ⌝ }
+    ensures { λ _. ⌜ KeyGrown (flowOf (now (file .entry))) (now (work .entry)) (now (work .exit)) (h .statements) width (d .0) ⌝ }
+{
+    let n = h.statements;
+    let handler = h.handler;
+    if let Handler::At(e) = handler {
+        push::grow(
+            work,
+            n,
+            width,
+            layout::mask_row(n, width, d),
+            node(n, Base::N, e),
+        );
+    }
+}
+
+// That number waits, if there is one.
+fn join_key(file: &[u8], h: flow::Header, work: &mut [u64], width: usize, queue: Queue) -> Queue
+    requires { ⌜ (width ≡ setWords (h .arrays)) × Indexed (now file) h (now work) × ((l : List ℕ) × Waits (now work) (h .statements) width queue l) ⌝ }
+    ensures { λ r. ⌜ KeyJoined (flowOf (now (file .entry))) (now (work .entry)) (now (work .exit)) (h .statements) width queue r ⌝ }
+{
+    let n = h.statements;
+    let handler = h.handler;
+    match handler {
+        Handler::None => queue,
+        Handler::At(e) => nodes::enqueue(work, n, width, queue, node(n, Base::N, e)),
+    }
+}
+
+// The masks of d go on along its edges, of which the last is the key's. The edges of its statement are gone through in one place, which the compiler then makes part of a visit.
+fn send(
+    file: &[u8],
+    h: flow::Header,
+    work: &mut [u64],
+    width: usize,
+    first: Queue,
+    d: NodeId,
+) -> Queue
+    requires { ⌜ (width ≡ setWords (h .arrays)) × Indexed (now file) h (now work) × Linked (flowOf (now file)) (now work) (h .statements) × KeySet (flowOf (now file)) (now work) (h .statements) width × (d .0 < 2 * h .statements) × Shared (flowOf (now file)) (now work) (h .statements) width × ((l : List ℕ) × Waits (now work) (h .statements) width first l) ⌝ }
+    ensures { λ r. ⌜ Sends (flowOf (now (file .entry))) (now (work .entry)) (now (work .exit)) (h .statements) width first (d .0) (theory.doubled (flowOf (now (file .entry))) .arcs (d .0)) r ⌝ }
+{
+    grow_key(file, h, work, width, d);
+    let queue = send_edges(file, h, work, width, first, d);
+    join_key(file, h, work, width, queue)
+}
+
 // One visit: the number's masks are what was pushed to it; at its first visit, or if they grew, they go on along its edges.
 fn visit(file: &[u8], h: flow::Header, work: &mut [u64], width: usize, first: Queue) -> Queue
-    requires { ⌜ (width ≡ setWords (h .arrays)) × Indexed (now file) h (now work) × Linked (flowOf (now file)) (now work) (h .statements) × (0 < h .statements) × (0 < first .len) × Underway (flowOf (now file)) (now work) (h .statements) width first ⌝ }
+    requires { ⌜ (width ≡ setWords (h .arrays)) × Indexed (now file) h (now work) × Linked (flowOf (now file)) (now work) (h .statements) × KeySet (flowOf (now file)) (now work) (h .statements) width × (0 < h .statements) × (0 < first .len) × Underway (flowOf (now file)) (now work) (h .statements) width first ⌝ }
     ensures { λ r. ⌜ ((u : Underway (flowOf (now (file .entry))) (now (work .entry)) (h .statements) width first) → VisitsFront (flowOf (now (file .entry))) (now (work .entry)) (now (work .exit)) (h .statements) width first r u) × Keeps (queueAt (h .statements)) (areaEnd (h .statements) width) (now (work .entry)) (now (work .exit)) ⌝ }
 {
     let n = h.statements;
@@ -417,22 +467,37 @@ fn visit(file: &[u8], h: flow::Header, work: &mut [u64], width: usize, first: Qu
     send(file, h, work, width, queue, d)
 }
 
-// The queue rule. The count of visits comes back.
-pub fn array_states(file: &[u8], h: flow::Header, work: &mut [u64]) -> u64
-    requires { ⌜ Indexed (now file) h (now work) × Linked (flowOf (now file)) (now work) (h .statements) × (0 < h .statements) × Unused (now work) (h .statements) (setWords (h .arrays)) ⌝ }
-    ensures { λ r. ⌜ RuleResult (flowOf (now (file .entry))) (now (work .entry)) (now (work .exit)) (h .statements) (setWords (h .arrays)) r ⌝ }
+// The masks of d become those of the entry: NONE for all arrays, with the touched step of the handler.
+fn begin(file: &[u8], h: flow::Header, work: &mut [u64], width: usize, d: NodeId)
+    requires { ⌜ (width ≡ setWords (h .arrays)) × Indexed (now file) h (now work) × KeySet (flowOf (now file)) (now work) (h .statements) width × (d .0 < 2 * h .statements) × Unused (now work) (h .statements) width ⌝ }
+    ensures { λ _. ⌜ Begun (flowOf (now (file .entry))) (now (work .entry)) (now (work .exit)) (h .statements) width (d .0) ⌝ }
 {
     let n = h.statements;
-    let width = set_words(h.arrays);
-    let entry = node(n, Base::Zero, h.entry);
+    let row = layout::mask_row(n, width, d);
     transfer::reset_row(
         work,
         h.arrays,
         width,
         layout::set_row(n),
-        layout::mask_row(n, width, entry),
+        row,
         layout::out_row(n, width),
     );
+    let handler = h.handler;
+    match handler {
+        Handler::None => {}
+        Handler::At(_) => transfer::step_key(work, n, width, row, row),
+    }
+}
+
+// The queue rule. The count of visits comes back.
+pub fn array_states(file: &[u8], h: flow::Header, work: &mut [u64]) -> u64
+    requires { ⌜ Indexed (now file) h (now work) × Linked (flowOf (now file)) (now work) (h .statements) × KeySet (flowOf (now file)) (now work) (h .statements) (setWords (h .arrays)) × (0 < h .statements) × Unused (now work) (h .statements) (setWords (h .arrays)) ⌝ }
+    ensures { λ r. ⌜ RuleResult (flowOf (now (file .entry))) (now (work .entry)) (now (work .exit)) (h .statements) (setWords (h .arrays)) r ⌝ }
+{
+    let n = h.statements;
+    let width = set_words(h.arrays);
+    let entry = node(n, Base::Zero, h.entry);
+    begin(file, h, work, width, entry);
     let mut queue = nodes::enqueue(work, n, width, Queue { head: 0, len: 0 }, entry);
     let mut visits = 0u64;
     while 0 < queue.len {

@@ -1,17 +1,21 @@
 // The call that answers a flow file: the file is judged, then the areas; only then is anything written.
 ghost use Prim.Native.Nat.{_*_, _<_, _≤_};
+ghost use mathlib.Core.Bool.{false};
 ghost use mathlib.Core.Path.{_≡_};
 ghost use lib.ListN.{length};
 ghost use Rattle.flow.specs.Format.{flowOf};
+ghost use Rattle.theory.specs.Key.{opaqueHandler};
 ghost use Rattle.theory.specs.Live.{liveInWord, liveOutWord};
 ghost use Rattle.flow.specs.Limits.{maxStatements, maxArrays, workWords};
 ghost use Rattle.statements.specs.contracts.Layout.{setWords};
 ghost use Rattle.statements.specs.contracts.Ready.{Ready};
 ghost use Rattle.dataflow.specs.Promise.{Promise, Written};
+ghost use Rattle.dataflow.specs.contracts.Transfer.{KeySet};
 ghost use Rattle.dataflow.specs.contracts.Phases.{edgesEnd, cleared, FitFlow, SummariesMade, SolverStart, Masked, FitAreas, Findings};
 use crate::Answer;
 use crate::arrays;
 use crate::write;
+use flow::Handler;
 use statements::layout;
 
 // Where the words end that finding the edges uses.
@@ -47,10 +51,35 @@ fn summarize(file: &[u8], h: flow::Header, work: &mut [u64])
     calls::summary::summarize_calls(file, h, work);
 }
 
+// Whether the body of the handler, if there is one, is opaque.
+fn opaque_handler(file: &[u8], h: flow::Header, work: &[u64]) -> bool
+    requires { ⌜ SummariesMade (now file) h (now work) ⌝ }
+    ensures { λ r. ⌜ r ≡ opaqueHandler (flowOf (now (file .entry))) ⌝ }
+{
+    let handler = h.handler;
+    match handler {
+        Handler::None => false,
+        Handler::At(e) => work[layout::bodies(h.statements) + e.0] == calls::OPAQUE,
+    }
+}
+
+// The arrays that the handler's body touches are noted for the solver: the words where they stand now serve for the edges.
+fn note_key(file: &[u8], h: flow::Header, work: &mut [u64])
+    requires { ⌜ SummariesMade (now file) h (now work) × (opaqueHandler (flowOf (now file)) ≡ false) ⌝ }
+    ensures { λ _. ⌜ SummariesMade (now (file .entry)) h (now (work .exit)) × KeySet (flowOf (now (file .entry))) (now (work .exit)) (h .statements) (setWords (h .arrays)) ⌝ }
+{
+    let n = h.statements;
+    let handler = h.handler;
+    if let Handler::At(e) = handler {
+        let key = solve::layout::key(n, layout::set_words(h.arrays));
+        work[key] = work[layout::touched(n) + e.0];
+    }
+}
+
 // What the edges are made from. The queue's words served as a stack, and the rows of entered statements and of RETURNs were used: all are zeroed for
 // the solver.
 fn link(file: &[u8], h: flow::Header, work: &mut [u64])
-    requires { ⌜ SummariesMade (now file) h (now work) × (0 < h .statements) ⌝ }
+    requires { ⌜ SummariesMade (now file) h (now work) × KeySet (flowOf (now file)) (now work) (h .statements) (setWords (h .arrays)) × (0 < h .statements) ⌝ }
     ensures { λ _. ⌜ SolverStart (now (file .entry)) h (now (work .exit)) ⌝ }
 {
     let n = h.statements;
@@ -59,8 +88,9 @@ fn link(file: &[u8], h: flow::Header, work: &mut [u64])
     words::zero_row(work, queue, edges_end(n) - queue);
 }
 
+// The masks that the queue rule leaves.
 fn solve_arrays(file: &[u8], h: flow::Header, masks: &mut [u8], work: &mut [u64]) -> u64
-    requires { ⌜ SolverStart (now file) h (now work) × (h .statements * h .arrays ≤ length (now masks)) ⌝ }
+    requires { ⌜ SolverStart (now file) h (now work) × (h .statements * h .arrays ≤ length (now masks)) × (opaqueHandler (flowOf (now file)) ≡ false) ⌝ }
     ensures { λ r. ⌜ Masked (now (file .entry)) h (now (masks .entry)) (now (masks .exit)) (now (work .exit)) r ⌝ }
 {
     let n = h.statements;
@@ -68,6 +98,20 @@ fn solve_arrays(file: &[u8], h: flow::Header, masks: &mut [u8], work: &mut [u64]
     let visits = arrays::array_states(file, h, work);
     write::write_masks(masks, work, n, arrays);
     visits
+}
+
+// The masks. An opaque handler may leave any array in any state before any statement, so there is nothing to solve.
+fn find_masks(file: &[u8], h: flow::Header, masks: &mut [u8], work: &mut [u64]) -> u64
+    requires { ⌜ SummariesMade (now file) h (now work) × (0 < h .statements) × (h .statements * h .arrays ≤ length (now masks)) ⌝ }
+    ensures { λ r. ⌜ Masked (now (file .entry)) h (now (masks .entry)) (now (masks .exit)) (now (work .exit)) r ⌝ }
+{
+    if opaque_handler(file, h, work) {
+        write::write_any(masks, h.statements * h.arrays);
+        return 0;
+    }
+    note_key(file, h, work);
+    link(file, h, work);
+    solve_arrays(file, h, masks, work)
 }
 
 fn solve_names(file: &[u8], n: usize, live_in: &mut [u64], live_out: &mut [u64], work: &mut [u64])
@@ -91,8 +135,7 @@ fn solve_flow(
 {
     let n = h.statements;
     summarize(file, h, work);
-    link(file, h, work);
-    let visits = solve_arrays(file, h, masks, work);
+    let visits = find_masks(file, h, masks, work);
     solve_names(file, n, live_in, live_out, work);
     visits
 }

@@ -15,16 +15,17 @@ ghost use Rattle.flow.specs.contracts.Answers.{FitFile};
 ghost use Rattle.theory.specs.Lists as lists;
 ghost use Rattle.theory.specs.Body.{kind, references};
 ghost use Rattle.theory.specs.Doubled as doubled;
-ghost use Rattle.theory.specs.Doubled.{dims};
+ghost use Rattle.theory.specs.Doubled.{dims, statementEffects, ownEffects, edgeEffects};
 ghost use Rattle.statements.specs.contracts.Layout.{solverAt, setWords, maxWidth};
 ghost use Rattle.statements.specs.contracts.Ready.{Indexed, RecordOf};
 ghost use Rattle.calls.specs.contracts.Held.{Linked};
 ghost use Rattle.calls.specs.contracts.Class.{transparentCall};
-ghost use Rattle.solve.specs.contracts.Layout.{outRow, backRow, maskRowAt, areaEnd};
-ghost use Rattle.solve.specs.contracts.Rows.{RowIs, maskAt, stepWhere, member};
-ghost use Rattle.dataflow.specs.contracts.Transfer.{SetIs, SetGains, RowSteps, RowsApart, entersAgain, Acted};
+ghost use Rattle.solve.specs.contracts.Layout.{outRow, backRow, maskRowAt, areaEnd, keyAt};
+ghost use Rattle.solve.specs.contracts.Rows.{RowIs, Beside, maskAt, stepWhere, member};
+ghost use Rattle.dataflow.specs.contracts.Transfer.{SetIs, SetGains, RowSteps, RowsApart, entersAgain, Acted, plainEffects, KeySet, KeyStepped};
 ghost use Rattle.dataflow.specs.contracts.Sent.{edgeRow, Prepared};
 use flow::Base;
+use flow::Handler;
 use flow::NodeId;
 use flow::StmtId;
 use masks::Effect;
@@ -154,7 +155,7 @@ fn transfer(
     p: usize,
 )
     requires { ⌜ (width ≡ setWords (h .arrays)) × Indexed (now file) h (now work) × (d .0 < 2 * h .statements) × RecordOf (now file) (i .0) p ⌝ }
-    ensures { λ _. ⌜ Acted (flowOf (now (file .entry))) (now (work .entry)) (now (work .exit)) (h .statements) width (d .0) (i .0) (outRow (h .statements) width) ⌝ }
+    ensures { λ _. ⌜ Acted (flowOf (now (file .entry))) (now (work .entry)) (now (work .exit)) (h .statements) width (d .0) (statementEffects (flowOf (now (file .entry))) (i .0)) (outRow (h .statements) width) ⌝ }
 {
     let n = h.statements;
     let set = layout::set_row(n);
@@ -173,9 +174,8 @@ fn transfer(
     dim_row(file, work, i, p, width, set, out, back);
 }
 
-// Where the row stands that goes along all edges of d, whose statement i is no call that is not opaque: where the statement does nothing to masks,
-// it is the number's own.
-pub fn plain_row(
+// Where the act of statement i on the masks of d stands: where the statement does nothing to masks, in the number's own row.
+fn act_row(
     file: &[u8],
     h: flow::Header,
     work: &mut [u64],
@@ -185,7 +185,7 @@ pub fn plain_row(
     p: usize,
 ) -> usize
     requires { ⌜ (width ≡ setWords (h .arrays)) × Indexed (now file) h (now work) × (d .0 < 2 * h .statements) × RecordOf (now file) (i .0) p × (i .0 < h .statements) ⌝ }
-    ensures { λ r. ⌜ Acted (flowOf (now (file .entry))) (now (work .entry)) (now (work .exit)) (h .statements) width (d .0) (i .0) r × ((r ≡ outRow (h .statements) width) ⊎ (r ≡ maskRowAt (h .statements) width (d .0))) ⌝ }
+    ensures { λ r. ⌜ Acted (flowOf (now (file .entry))) (now (work .entry)) (now (work .exit)) (h .statements) width (d .0) (statementEffects (flowOf (now (file .entry))) (i .0)) r × ((r ≡ outRow (h .statements) width) ⊎ (r ≡ maskRowAt (h .statements) width (d .0))) ⌝ }
 {
     let n = h.statements;
     if fields::acts(file, work, n, i) {
@@ -193,6 +193,47 @@ pub fn plain_row(
         return layout::out_row(n, width);
     }
     layout::mask_row(n, width, d)
+}
+
+// The row at `to` becomes the row at `from` with the touched step of the handler. The two may be one row.
+pub fn step_key(work: &mut [u64], n: usize, width: usize, to: usize, from: usize)
+    requires { ⌜ (n ≤ maxStatements) × (width ≤ maxWidth) × (keyAt n width + width ≤ length (now work)) × (to + 3 * width ≤ keyAt n width) × (from + 3 * width ≤ keyAt n width) × Beside width to from ⌝ }
+    ensures { λ _. ⌜ RowIs (now (work .entry)) (now (work .exit)) width to (stepWhere (member (now (work .entry)) (keyAt n width)) Touched (maskAt (now (work .entry)) width from)) ⌝ }
+{
+    rows::step_members(
+        work,
+        width,
+        to,
+        from,
+        layout::key(n, width),
+        Effect::Touched,
+    );
+}
+
+// Where the row stands that goes along all edges of d, whose statement i is no call that is not opaque.
+pub fn plain_row(
+    file: &[u8],
+    h: flow::Header,
+    work: &mut [u64],
+    width: usize,
+    d: NodeId,
+    i: StmtId,
+    p: usize,
+) -> usize
+    requires { ⌜ (width ≡ setWords (h .arrays)) × Indexed (now file) h (now work) × KeySet (flowOf (now file)) (now work) (h .statements) width × (d .0 < 2 * h .statements) × RecordOf (now file) (i .0) p × (i .0 < h .statements) ⌝ }
+    ensures { λ r. ⌜ Acted (flowOf (now (file .entry))) (now (work .entry)) (now (work .exit)) (h .statements) width (d .0) (plainEffects (flowOf (now (file .entry))) (i .0)) r × ((r ≡ outRow (h .statements) width) ⊎ (r ≡ maskRowAt (h .statements) width (d .0))) ⌝ }
+{
+    let n = h.statements;
+    let own = act_row(file, h, work, width, d, i, p);
+    let handler = h.handler;
+    match handler {
+        Handler::None => own,
+        Handler::At(_) => {
+            let out = layout::out_row(n, width);
+            step_key(work, n, width, out, own);
+            out
+        }
+    }
 }
 
 // The row for the edge to the continuation of the call at hand, from the row at `from`, of which the arrays in the set at word `set` take the effect.
@@ -214,10 +255,9 @@ pub fn enters_again(work: &[u64], base: Base, row: usize, k: StmtId) -> bool
     }
 }
 
-// The rows that go along the edges of d, whose statement i is a call that is not opaque: that of its act, and for the edge to the continuation
-// with the touched step and, unless that edge is also one to an entered statement, for sure arrays that of a reference. They are not the number's own, which the edge to the continuation may
-// change while others are still to be sent.
-pub fn call_rows(
+// The rows of d, whose statement i is a call that is not opaque, by the statement alone: that of its act, and for the edge to the continuation
+// with the touched step and, unless that edge is also one to an entered statement, for sure arrays that of a reference.
+fn own_rows(
     file: &[u8],
     h: flow::Header,
     work: &mut [u64],
@@ -228,7 +268,7 @@ pub fn call_rows(
     again: bool,
 )
     requires { ⌜ (width ≡ setWords (h .arrays)) × Indexed (now file) h (now work) × Linked (flowOf (now file)) (now work) (h .statements) × (d .0 < 2 * h .statements) × RecordOf (now file) (i .0) p × (i .0 ≡ doubled.node (flowOf (now file)) (d .0) .stmt) × (i .0 < h .statements) × (transparentCall (flowOf (now file)) (i .0) ≡ true) × (again ≡ entersAgain (flowOf (now file)) (doubled.node (flowOf (now file)) (d .0) .base) (i .0)) ⌝ }
-    ensures { λ _. ⌜ Prepared (flowOf (now (file .entry))) (now (work .entry)) (now (work .exit)) (h .statements) width (d .0) (edgeRow (h .statements) width) ⌝ }
+    ensures { λ _. ⌜ Prepared (flowOf (now (file .entry))) (now (work .entry)) (now (work .exit)) (h .statements) width (d .0) (ownEffects (flowOf (now (file .entry))) (doubled.node (flowOf (now (file .entry))) (d .0) .stmt)) (edgeRow (h .statements) width) ⌝ }
 {
     let n = h.statements;
     transfer(file, h, work, width, d, i, p);
@@ -241,4 +281,38 @@ pub fn call_rows(
     let back = layout::back_row(n, width);
     let sure = statements::layout::sure(n) + i.0;
     step_back(work, n, width, back, sure, Effect::Reference);
+}
+
+// Both rows take the touched step of the handler.
+fn key_rows(work: &mut [u64], n: usize, width: usize)
+    requires { ⌜ (n ≤ maxStatements) × (width ≤ maxWidth) × (keyAt n width + width ≤ length (now work)) ⌝ }
+    ensures { λ _. ⌜ KeyStepped (now (work .entry)) (now (work .exit)) n width ⌝ }
+{
+    let out = layout::out_row(n, width);
+    let back = layout::back_row(n, width);
+    step_key(work, n, width, out, out);
+    step_key(work, n, width, back, back);
+}
+
+// The rows that go along the edges of d, whose statement i is a call that is not opaque. They are not the number's own, which the edge to the continuation may
+// change while others are still to be sent.
+pub fn call_rows(
+    file: &[u8],
+    h: flow::Header,
+    work: &mut [u64],
+    width: usize,
+    d: NodeId,
+    i: StmtId,
+    p: usize,
+    again: bool,
+)
+    requires { ⌜ (width ≡ setWords (h .arrays)) × Indexed (now file) h (now work) × Linked (flowOf (now file)) (now work) (h .statements) × KeySet (flowOf (now file)) (now work) (h .statements) width × (d .0 < 2 * h .statements) × RecordOf (now file) (i .0) p × (i .0 ≡ doubled.node (flowOf (now file)) (d .0) .stmt) × (i .0 < h .statements) × (transparentCall (flowOf (now file)) (i .0) ≡ true) × (again ≡ entersAgain (flowOf (now file)) (doubled.node (flowOf (now file)) (d .0) .base) (i .0)) ⌝ }
+    ensures { λ _. ⌜ Prepared (flowOf (now (file .entry))) (now (work .entry)) (now (work .exit)) (h .statements) width (d .0) (edgeEffects (flowOf (now (file .entry))) (doubled.node (flowOf (now (file .entry))) (d .0) .stmt)) (edgeRow (h .statements) width) ⌝ }
+{
+    own_rows(file, h, work, width, d, i, p, again);
+    let handler = h.handler;
+    match handler {
+        Handler::None => {}
+        Handler::At(_) => key_rows(work, h.statements, width),
+    }
 }

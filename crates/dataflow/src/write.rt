@@ -6,6 +6,7 @@ ghost use Rattle.words.specs.contracts.Byte.{byteOf, bytes};
 ghost use Rattle.words.specs.contracts.Row.{bit};
 ghost use Rattle.words.specs.contracts.Change.{noted};
 ghost use Rattle.flow.specs.Limits.{maxStatements, maxArrays};
+ghost use Rattle.theory.specs.Masks.{anyState};
 ghost use Rattle.statements.specs.contracts.Layout.{setWords};
 ghost use Rattle.solve.specs.contracts.Layout.{areaEnd};
 ghost use Rattle.dataflow.specs.contracts.Bytes.{maskIn, EightMasks, RowsHeld, bothWords, bothCopies, SameSets, Says, RowBefore, notedRows};
@@ -149,5 +150,20 @@ pub fn write_masks(masks: &mut [u8], work: &[u64], n: usize, arrays: usize)
     while i < n {
         write_statement(masks, work, n, arrays, i);
         i += 1;
+    }
+}
+
+// A mask with all states.
+const ANY_STATE: u8 = 7;
+
+// The first `count` bytes leave no state out.
+pub fn write_any(masks: &mut [u8], count: usize)
+    requires { ⌜ count ≤ length (now masks) ⌝ }
+    ensures { λ _. ⌜ now (masks .exit) ≡ noted (now (masks .entry)) 0 count (λ k. anyState) ⌝ }
+{
+    let mut j = 0;
+    while j < count {
+        masks[j] = ANY_STATE;
+        j += 1;
     }
 }

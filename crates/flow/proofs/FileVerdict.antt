@@ -1,4 +1,4 @@
--- The verdict on a file by its parts, header, statements, lines and end: parts before one that is fit are fit, and it begins within the file.
+-- The verdict on a file by its parts, header, statements, lines, key and end: parts before one that is fit are fit, and it begins within the file.
 -- By the laws of verdicts: the checks of a part follow those of all parts before it, and each part that is fit ends within the file.
 use Prim.Native.Nat.{ℕ, zero, suc, _≤_}
 use native.Mathlib.Omega.{arith}
@@ -8,14 +8,15 @@ use borrow.Author.Tests.{leb-true}
 use lib.ListN.{length}
 use Rattle.flow.specs.declared.Refusal.{Refusal}
 use Rattle.flow.specs.declared.Part.{Part}
-use Rattle.flow.specs.declared.Part.the-variants.{Header, Statements, Lines, End}
+use Rattle.flow.specs.declared.Part.the-variants.{Header, Statements, Lines, Key, End}
 use Rattle.flow.specs.declared.Passed.{Passed}
 use Rattle.flow.specs.declared.Passed.the-variants.{To, Unfit}
-use Rattle.flow.specs.Format.{verdict, fit, each, headerChecks, statementChecks, recordChecks, recordPlace, statementsOf, lineRecordChecks, lineCount, linesPlace, endPlace, fileChecks}
+use Rattle.flow.specs.Format.{verdict, fit, each, headerChecks, statementChecks, recordChecks, recordPlace, statementsOf, lineRecordChecks, lineCount, linesPlace, keyPlace, fileChecks}
 use Rattle.flow.specs.contracts.Answers.{passedOf}
 use Rattle.flow.specs.contracts.Parts.{Due, Judged, partStart, partChecks, checksBefore, headerRead, partAnswer, answerThrough, placeAfter}
 use Rattle.flow.proofs.Verdicts.{all-hold, fit-left, fit-right, elements-within}
 use Rattle.flow.proofs.Records.{end-fits}
+use Rattle.flow.proofs.KeyRecord.{key-within}
 use Rattle.flow.proofs.Answers.{verdict-passed, verdict-refused, onward, refused-first}
 
 module _ (s : List ℕ) where
@@ -33,7 +34,7 @@ module _ (s : List ℕ) where
   unfolding statementChecks
   statements-within l h = records-within (statementsOf s) l h
 
-  lines-within : linesPlace s ≤ length s → verdict (each (lineCount s) (lineRecordChecks s)) ≡ fit → endPlace s ≤ length s
+  lines-within : linesPlace s ≤ length s → verdict (each (lineCount s) (lineRecordChecks s)) ≡ fit → keyPlace s ≤ length s
   unfolding lineRecordChecks
   lines-within l h =
       elements-within (lineCount s) (lineRecordChecks s) (length s) (linesPlace s) 6 l
@@ -43,8 +44,9 @@ module _ (s : List ℕ) where
   pub all-parts : checksBefore s End ++ partChecks s End ≡ fileChecks s
   unfolding fileChecks
   all-parts =
-      append-assoc (partChecks s Header ++ partChecks s Statements) (partChecks s Lines) (partChecks s End)
-      ∙ append-assoc (partChecks s Header) (partChecks s Statements) (partChecks s Lines ++ partChecks s End)
+      append-assoc (checksBefore s Key) (partChecks s Key) (partChecks s End)
+      ∙ append-assoc (partChecks s Header ++ partChecks s Statements) (partChecks s Lines) (partChecks s Key ++ partChecks s End)
+      ∙ append-assoc (partChecks s Header) (partChecks s Statements) (partChecks s Lines ++ (partChecks s Key ++ partChecks s End))
 
   -- of a file that is fit, and of a part before which all is fit
 
@@ -57,20 +59,28 @@ module _ (s : List ℕ) where
   to-lines : verdict (checksBefore s Lines) ≡ fit → linesPlace s ≤ length s
   to-lines h = statements-within (header-too h) (fit-right (partChecks s Header) (partChecks s Statements) h)
 
-  pub lines-too : verdict (checksBefore s End) ≡ fit → verdict (checksBefore s Lines) ≡ fit
+  pub lines-too : verdict (checksBefore s Key) ≡ fit → verdict (checksBefore s Lines) ≡ fit
   lines-too h = fit-left (checksBefore s Lines) (partChecks s Lines) h
+
+  to-key : verdict (checksBefore s Key) ≡ fit → keyPlace s ≤ length s
+  to-key h = lines-within (to-lines (lines-too h)) (fit-right (checksBefore s Lines) (partChecks s Lines) h)
+
+  pub key-too : verdict (checksBefore s End) ≡ fit → verdict (checksBefore s Key) ≡ fit
+  key-too h = fit-left (checksBefore s Key) (partChecks s Key) h
 
   pub header-first : (part : Part) → verdict (checksBefore s part) ≡ fit → headerRead part ≤ length s
   header-first Header h = omega arith
   header-first Statements h = header-within h
   header-first Lines h = header-too h
-  header-first End h = header-too (lines-too h)
+  header-first Key h = header-too (lines-too h)
+  header-first End h = header-too (lines-too (key-too h))
 
-  start-within : (part : Part) → verdict (checksBefore s part) ≡ fit → partStart s part ≤ length s
+  pub start-within : (part : Part) → verdict (checksBefore s part) ≡ fit → partStart s part ≤ length s
   start-within Header h = omega arith
   start-within Statements h = header-within h
   start-within Lines h = to-lines h
-  start-within End h = lines-within (to-lines (lines-too h)) (fit-right (checksBefore s Lines) (partChecks s Lines) h)
+  start-within Key h = to-key h
+  start-within End h = key-within s (to-key (key-too h)) (fit-right (checksBefore s Key) (partChecks s Key) h)
 
   -- a reader after an answer, at the part that the answer is for
 

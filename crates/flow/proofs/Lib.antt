@@ -4,8 +4,10 @@ pub mod Answers
 pub mod Tests
 pub mod Records
 pub mod RecordVerdict
+pub mod KeyRecord
 pub mod FileVerdict
 pub mod Reading
+pub mod WithoutKey
 pub mod Cases
 pub mod Held
 pub mod Lent

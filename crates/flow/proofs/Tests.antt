@@ -3,16 +3,16 @@
 use Prim.Native.Nat.{ℕ, _+_, _-_, _≤_, _<_, min}
 use native.Mathlib.Omega.{arith}
 use native.Mathlib.Decide.{decLe}
-use mathlib.Core.Bool.{Bool, true, false, _&&_, _||_}
+use mathlib.Core.Bool.{Bool, true, false, _&&_, _||_, true≢false}
 use mathlib.Core.List.{List}
 use lib.ListN.{length}
-use Rattle.flow.specs.Format.{marked}
+use Rattle.flow.specs.Format.{marked, u8At, letterF}
 use mathlib.Core.Logic.{_⊎_, inl, inr}
 use native.Mathlib.Nat.{add-sub-cancel}
 use native.Mathlib.Numerals.{add-one}
 use mathlib.Core.Path.{_≡_, refl, sym}
 use lib.Dec.{leb, ltb, eqb, leb·zero}
-use borrow.Author.Tests.{le-leb, lt-leb, lt-ltb, le-ltb, eq-eqb, ne-eqb, eqb-false, leb-true}
+use borrow.Author.Tests.{le-leb, lt-leb, lt-ltb, le-ltb, eq-eqb, ne-eqb, eqb-true, eqb-false, leb-true}
 
 -- A rule of `omega` has one premise: this number is 0 where a is b or m is below n, and only there.
 abbrev pub apart : ℕ → ℕ → ℕ → ℕ → ℕ
@@ -53,10 +53,18 @@ rises-first f = record { follows = λ x. sym (leb·zero x) }
 pub rises-next : (f : ℕ → ℕ) (k v : ℕ) → v ≡ f k → Rises f (k + 1) (v + 1)
 rises-next f k v h = record { follows = λ x. rw (ne-eqb (k + 1) 0 (λ z. omega arith), add-sub-cancel k 1, add-one, h) }
 
+and-first : (a b : Bool) → (a && b) ≡ true → a ≡ true
+and-first true b e = refl
+and-first false b e = e
+
+and-second : (a b : Bool) → (a && b) ≡ true → b ≡ true
+and-second true b e = e
+and-second false b e = absurd (true≢false (sym e))
+
 -- a mark that stands at q lies within the file
 pub marked-within : (s : List ℕ) (q x : ℕ) → marked s q x ≡ true → q + 2 ≤ length s
 marked-within s q x h = leb-true (q + 2) (length s) (and-first _ _ h)
-  where
-    and-first : (a b : Bool) → (a && b) ≡ true → a ≡ true
-    and-first true b e = refl
-    and-first false b e = e
+
+-- and its letter is there
+pub marked-letter : (s : List ℕ) (q x : ℕ) → marked s q x ≡ true → u8At s (q + 1) ≡ x
+marked-letter s q x h = eqb-true _ _ (and-second (eqb (u8At s q) letterF) _ (and-second (leb (q + 2) (length s)) _ h))

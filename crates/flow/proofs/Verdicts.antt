@@ -13,7 +13,7 @@ use Rattle.flow.specs.declared.Refusal.{Refusal}
 use Rattle.flow.specs.declared.Refusal.the-variants.{TooLong}
 use Rattle.flow.specs.Format.{Check, Verdict, fit, unfit, first, verdict, each}
 
-fit≢unfit : {r : Refusal} {A : Type 0} → fit ≡ unfit r → A
+pub fit≢unfit : {r : Refusal} {A : Type 0} → fit ≡ unfit r → A
 fit≢unfit {r} e = let z : _≡_ {A = ℕ} 0 1 = cc in absurd (omega arith)
 
 -- each check holds

@@ -3,7 +3,7 @@
 use Prim.Native.Nat.{ℕ, zero, suc, _+_, _/_, _%_, _^_}
 use mathlib.Core.List.{List, [], _∷_, _++_}
 use mathlib.Core.Option.{none, some}
-use lib.ListN.{length}
+use lib.ListN.{length, take}
 use Rattle.flow.specs.declared.Refusal.the-variants.{Record, Header, Kind, Target, Member, ReturnReference, Order, Trailing}
 use Rattle.flow.specs.Flow as F
 use Rattle.flow.specs.Flow.{Flow}
@@ -34,6 +34,9 @@ FN line kind successors references written read =
 abbrev pub FL : ℕ → ℕ → List ℕ
 FL line first = 70 ∷ 76 ∷ u16s (line ∷ first ∷ [])
 
+abbrev pub FK : ℕ → List ℕ
+FK handler = 70 ∷ 75 ∷ u16s (handler ∷ [])
+
 abbrev pub FE : List ℕ
 FE = 70 ∷ 69 ∷ []
 
@@ -60,6 +63,7 @@ calls = record {
       ∷ record { line = 40; kind = F.Kind.other; successors = []; references = []; written = 0; read = 0 }
       ∷ [];
   lines = [];
+  handler = none;
 }
 
 -- numbers of more than one byte, name 63, several references and successors, CLR and RUN
@@ -82,6 +86,24 @@ wide = record {
       ∷ record { line = 65535; kind = F.Kind.run; successors = []; references = []; written = 0; read = 2 ^ 63 + 2 }
       ∷ [];
   lines = record { number = 300; first = 1 } ∷ record { number = 65535; first = 0 } ∷ [];
+  handler = none;
+}
+
+-- two statements, the last line, and a handler, which may be any statement
+abbrev pub keyBytes : ℕ → List ℕ
+keyBytes h = FH 2 0 0 0 ++ FN 10 0 (1 ∷ []) [] 0 0 ++ FN 20 1 [] [] 0 0 ++ FL 20 1 ++ FK h
+
+abbrev pub key : ℕ → Flow
+key h = record {
+  arrays = 0;
+  names = 0;
+  entry = 0;
+  statements =
+      record { line = 10; kind = F.Kind.other; successors = 1 ∷ []; references = []; written = 0; read = 0 }
+      ∷ record { line = 20; kind = F.Kind.return; successors = []; references = []; written = 0; read = 0 }
+      ∷ [];
+  lines = record { number = 20; first = 1 } ∷ [];
+  handler = some h;
 }
 
 -- a flow of one statement of no name, line or successor
@@ -92,6 +114,7 @@ alone arrays kind = record {
   entry = 0;
   statements = record { line = 10; kind = kind; successors = []; references = []; written = 0; read = 0 } ∷ [];
   lines = [];
+  handler = none;
 }
 
 -- The table
@@ -112,18 +135,30 @@ readCases =
     accept callsBytes calls
     ∷ accept wideBytes wide
     -- with no statements the entry is not looked at
-    ∷ accept (FH 0 64 64 9 ++ FE) (record { arrays = 64; names = 64; entry = 9; statements = []; lines = [] })
+    ∷ accept (FH 0 64 64 9 ++ FE) (record { arrays = 64; names = 64; entry = 9; statements = []; lines = []; handler = none })
     -- the other kinds that have data
     ∷ accept (one 2 0 (FN 10 4 [] [] 0 0 ++ (2 ∷ 1 ∷ 0 ∷ 0 ∷ 1 ∷ [])) ++ FE)
     (alone 2 (F.Kind.dim (record { array = 1; flag = 0 } ∷ record { array = 0; flag = 1 } ∷ [])))
     ∷ accept (one 0 0 (FN 10 5 [] [] 0 0 ++ u16s (300 ∷ 65535 ∷ [])) ++ FE) (alone 0 (F.Kind.gosub 300 none))
     ∷ accept (one 0 0 (FN 10 6 [] [] 0 0 ++ (2 ∷ u16s (7 ∷ 300 ∷ 65535 ∷ []))) ++ FE) (alone 0 (F.Kind.onGosub (7 ∷ 300 ∷ []) none))
+    -- the handler: the first statement and the last
+    ∷ accept (keyBytes 0 ++ FE) (key 0)
+    ∷ accept (keyBytes 1 ++ FE) (key 1)
     -- 2: no mark, a wrong mark, a field past the end
     ∷ record { bytes = []; reading = refused (Record 0) }
     ∷ record { bytes = FH 0 0 0 0 ++ (71 ∷ 69 ∷ []); reading = refused (Record 8) }
     ∷ record { bytes = FH 1 0 0 0 ++ FE; reading = refused (Record 8) }
     ∷ record { bytes = one 0 0 (70 ∷ 78 ∷ 10 ∷ []); reading = refused (Record 8) }
     ∷ record { bytes = one 0 0 (FN 10 4 [] [] 0 0); reading = refused (Record 8) }
+    -- FK where FH or FN is due; twice; before FL; where the file ends in its mark, in its number and after it
+    ∷ record { bytes = FK 0; reading = refused (Record 0) }
+    ∷ record { bytes = FH 2 0 0 0 ++ FN 10 0 (1 ∷ []) [] 0 0 ++ FK 0 ++ FE; reading = refused (Record 33) }
+    ∷ record { bytes = keyBytes 1 ++ FK 1 ++ FE; reading = refused (Record 66) }
+    ∷ record { bytes = keyBytes 1 ++ FL 30 0 ++ FE; reading = refused (Record 66) }
+    ∷ record { bytes = take 63 (keyBytes 1); reading = refused (Record 62) }
+    ∷ record { bytes = take 64 (keyBytes 1); reading = refused (Record 62) }
+    ∷ record { bytes = take 65 (keyBytes 1); reading = refused (Record 62) }
+    ∷ record { bytes = keyBytes 1; reading = refused (Record 66) }
     -- 3: 2,049 statements and not 2,048, 65 arrays, 65 names, the entry n, or 256
     ∷ record { bytes = FH 2049 0 0 0; reading = refused (Header 0) }
     ∷ record { bytes = FH 2048 0 0 0; reading = refused (Record 8) }
@@ -141,6 +176,10 @@ readCases =
     ∷ record { bytes = one 0 0 (FN 10 6 [] [] 0 0 ++ (1 ∷ u16s (7 ∷ 256 ∷ []))) ++ FE; reading = refused (Target 8) }
     ∷ record { bytes = FH 0 0 0 0 ++ FL 10 0 ++ FE; reading = refused (Target 8) }
     ∷ record { bytes = one 0 0 (FN 10 0 [] [] 0 0) ++ FL 10 256 ++ FE; reading = refused (Target 31) }
+    -- a handler that is n, or 65535, before what stands behind it; any with no statements
+    ∷ record { bytes = keyBytes 2 ++ FK 1; reading = refused (Target 62) }
+    ∷ record { bytes = keyBytes 65535 ++ FE; reading = refused (Target 62) }
+    ∷ record { bytes = FH 0 0 0 0 ++ FK 0 ++ FE; reading = refused (Target 8) }
     -- 6: the array `arrays`, before the order of the next; the name bit `names`, before a flag; an item's array
     ∷ record { bytes = one 1 0 (FN 10 0 [] (1 ∷ 0 ∷ []) 0 0) ++ FE; reading = refused (Member 8) }
     ∷ record { bytes = one 1 1 (FN 10 4 [] [] 2 0 ++ (1 ∷ 0 ∷ 2 ∷ [])) ++ FE; reading = refused (Member 8) }
@@ -151,6 +190,7 @@ readCases =
     -- 8: references and lines that stay equal; a line before its statement and before the end
     ∷ record { bytes = one 1 0 (FN 10 0 [] (0 ∷ 0 ∷ []) 0 0) ++ FE; reading = refused (Order 8) }
     ∷ record { bytes = one 0 0 (FN 10 0 [] [] 0 0) ++ FL 10 0 ++ FL 10 1; reading = refused (Order 37) }
-    -- 9: a byte after the end
+    -- 9: a byte after the end, and an FK
     ∷ record { bytes = FH 0 0 0 0 ++ FE ++ (0 ∷ []); reading = refused (Trailing 10) }
+    ∷ record { bytes = keyBytes 1 ++ FE ++ FK 1; reading = refused (Trailing 68) }
     ∷ []

@@ -67,6 +67,8 @@ pub record Flow : Type 0 where
   pub entry : ℕ
   pub statements : List Statement
   pub lines : List Line
+  -- request E3: the statement that the interrupt key calls, if there is one
+  pub handler : Option ℕ
 
 -- n, the number of statements
 abbrev pub size : Flow → ℕ

@@ -78,7 +78,7 @@ entryOf s = u16At s 6
 abbrev pub present : List ℕ → ℕ → ℕ → Check
 present s p e = check (leb e (length s)) (Record p)
 
--- the letters of the marks: FH, FN, FL, FE
+-- the letters of the marks: FH, FN, FL, FK, FE
 
 abbrev pub letterF : ℕ
 letterF = 70
@@ -91,6 +91,9 @@ letterN = 78
 
 abbrev pub letterL : ℕ
 letterL = 76
+
+abbrev pub letterK : ℕ
+letterK = 75
 
 abbrev pub letterE : ℕ
 letterE = 69
@@ -290,7 +293,7 @@ recordPlace s (suc i) = recordEnd s (recordPlace s i)
 unfoldable pub statementChecks : List ℕ → List Check
 statementChecks s = each (statementsOf s) (λ i. recordChecks s (recordPlace s i))
 
--- FL, any number: line u16, its first statement u16; then FE, and nothing after it
+-- FL, any number: line u16, its first statement u16
 
 abbrev pub linesPlace : List ℕ → ℕ
 linesPlace s = recordPlace s (statementsOf s)
@@ -320,8 +323,29 @@ lineRecordChecks s k =
     ∷ check (targetFits s (lineFirst s k)) (Target (linePlace s k))
     ∷ []
 
+-- FK, at most one (request E3): the handler u16
+
+abbrev pub keyPlace : List ℕ → ℕ
+keyPlace s = linePlace s (lineCount s)
+
+abbrev pub hasKey : List ℕ → Bool
+hasKey s = marked s (keyPlace s) letterK
+
+abbrev pub handlerAt : List ℕ → ℕ
+handlerAt s = u16At s (keyPlace s + 2)
+
+unfoldable pub keyChecks : List ℕ → List Check
+keyChecks s =
+    cond (hasKey s)
+    (present s (keyPlace s) (keyPlace s + 4)
+    ∷ check (targetFits s (handlerAt s)) (Target (keyPlace s))
+    ∷ [])
+    []
+
+-- FE, and nothing after it
+
 abbrev pub endPlace : List ℕ → ℕ
-endPlace s = linePlace s (lineCount s)
+endPlace s = keyPlace s + cond (hasKey s) 4 0
 
 unfoldable pub endChecks : List ℕ → List Check
 endChecks s =
@@ -331,7 +355,7 @@ endChecks s =
 
 unfoldable pub fileChecks : List ℕ → List Check
 fileChecks s =
-    headerChecks s ++ (statementChecks s ++ (each (lineCount s) (lineRecordChecks s) ++ endChecks s))
+    headerChecks s ++ (statementChecks s ++ (each (lineCount s) (lineRecordChecks s) ++ (keyChecks s ++ endChecks s)))
 
 -- What an accepted file says
 
@@ -367,6 +391,9 @@ statementAt s p = record {
   read = readAt s p;
 }
 
+abbrev pub handlerOf : List ℕ → Option ℕ
+handlerOf s = cond (hasKey s) (some (handlerAt s)) none
+
 unfoldable pub flowOf : List ℕ → Flow
 flowOf s = record {
   arrays = arraysOf s;
@@ -374,6 +401,7 @@ flowOf s = record {
   entry = entryOf s;
   statements = tabulate (statementsOf s) (λ i. statementAt s (recordPlace s i));
   lines = tabulate (lineCount s) (λ k. record { number = lineNumber s k; first = lineFirst s k });
+  handler = handlerOf s;
 }
 
 pub data Reading : Type 0 where

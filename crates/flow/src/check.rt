@@ -5,11 +5,12 @@ ghost use Prim.Native.Nat.{_+_, _≤_, _^_};
 ghost use lib.ListN.{length};
 ghost use lib.Dec.{ltb};
 ghost use Rattle.flow.specs.Format as format;
-ghost use Rattle.flow.specs.Format.{verdict, each, headerChecks, startChecks, referenceCountChecks, referenceChecks, nameChecks, dimChecks, gosubChecks, onGosubChecks, continuationChecks, dataChecks, restChecks, statementChecks, lineRecordChecks, endChecks, fileChecks, successorsPlace, referencesPlace, referenceCount, namesPlace, dataPlace, elementsEnd, recordEnd, linesPlace, lineCount, endPlace};
-ghost use Rattle.flow.specs.contracts.Answers.{Reached, passedOf, checkedOf, headerOf};
+ghost use Rattle.flow.specs.Format.{verdict, each, headerChecks, startChecks, referenceCountChecks, referenceChecks, nameChecks, dimChecks, gosubChecks, onGosubChecks, continuationChecks, dataChecks, restChecks, statementChecks, lineRecordChecks, keyChecks, endChecks, fileChecks, successorsPlace, referencesPlace, referenceCount, namesPlace, dataPlace, elementsEnd, recordEnd, linesPlace, lineCount, keyPlace, endPlace, handlerOf};
+ghost use Rattle.flow.specs.contracts.Answers.{Reached, passedOf, checkedOf, handlerFrom, headerOf};
 ghost use Rattle.flow.specs.contracts.Parts.{Due, Judged, Ended, partAnswer, answerThrough, placeAfter};
 ghost use Rattle.flow.specs.Refusals.{numberOf, placeOf};
 use crate::Checked;
+use crate::Handler;
 use crate::Header;
 use crate::KIND_DIM;
 use crate::KIND_GOSUB;
@@ -31,7 +32,7 @@ use crate::bytes::u64_at;
 use crate::reader::new;
 use crate::reader::next;
 
-// The letters of the marks: FH, FN, FL, FE.
+// The letters of the marks: FH, FN, FL, FK, FE.
 const LETTER_F: usize = 70;
 
 const LETTER_H: usize = 72;
@@ -39,6 +40,8 @@ const LETTER_H: usize = 72;
 const LETTER_N: usize = 78;
 
 const LETTER_L: usize = 76;
+
+const LETTER_K: usize = 75;
 
 const LETTER_E: usize = 69;
 
@@ -331,7 +334,7 @@ fn check_statements(file: &[u8]) -> Passed
 // The FL records, of which the first stands at `at`, if there are any.
 fn check_lines(file: &[u8], at: usize) -> Passed
     requires { ⌜ (8 ≤ length (now file)) × (at ≤ length (now file)) × (at ≡ linesPlace (now file)) ⌝ }
-    ensures { λ r. ⌜ r ≡ passedOf (verdict (each (lineCount (now (file .entry))) (lineRecordChecks (now (file .entry))))) (endPlace (now (file .entry))) ⌝ }
+    ensures { λ r. ⌜ r ≡ passedOf (verdict (each (lineCount (now (file .entry))) (lineRecordChecks (now (file .entry))))) (keyPlace (now (file .entry))) ⌝ }
 {
     let n = u16_at(file, 2);
     let mut least = 0;
@@ -357,6 +360,23 @@ fn check_lines(file: &[u8], at: usize) -> Passed
     Passed::To(at + 6 * k)
 }
 
+// The key's record at `at`, if it is there.
+fn check_key(file: &[u8], at: usize) -> Passed
+    requires { ⌜ (8 ≤ length (now file)) × (at ≤ length (now file)) × (at ≡ keyPlace (now file)) ⌝ }
+    ensures { λ r. ⌜ r ≡ passedOf (verdict (keyChecks (now (file .entry)))) (endPlace (now (file .entry))) ⌝ }
+{
+    if !marked(file, at, LETTER_K) {
+        return Passed::To(at);
+    }
+    if file.len() < at + 4 {
+        return Passed::Unfit(Refusal::Record(at));
+    }
+    if u16_at(file, at + 2) >= u16_at(file, 2) {
+        return Passed::Unfit(Refusal::Target(at));
+    }
+    Passed::To(at + 4)
+}
+
 // The end record at `at`, and nothing after it.
 fn check_end(file: &[u8], at: usize) -> Passed
     requires { ⌜ (at ≤ length (now file)) × (at ≡ endPlace (now file)) ⌝ }
@@ -380,6 +400,7 @@ fn check_part(file: &[u8], part: Part, at: usize) -> Passed
         Part::Header => check_header(file),
         Part::Statements => check_statements(file),
         Part::Lines => check_lines(file, at),
+        Part::Key => check_key(file, at),
         Part::End => check_end(file, at),
     }
 }
@@ -405,10 +426,21 @@ pub fn place_after(passed: Passed, at: usize) -> usize
     }
 }
 
+// The handler of a file that is fit, whose key was looked for at `key_at` and whose end stands at `end_at`.
+fn handler(file: &[u8], key_at: usize, end_at: usize) -> Handler
+    requires { ⌜ («key_at» ≡ keyPlace (now file)) × («end_at» ≡ endPlace (now file)) × («end_at» ≤ length (now file)) ⌝ }
+    ensures { λ r. ⌜ r ≡ handlerFrom (handlerOf (now (file .entry))) ⌝ }
+{
+    if key_at < end_at {
+        return Handler::At(StmtId(u16_at(file, key_at + 2)));
+    }
+    Handler::None
+}
+
 // What is found of a file whose parts were judged, the last with the answer `end`: its header, or why it is refused. The lines were looked
-// for at `lines_at`, and the end at `end_at`.
-fn checked(file: &[u8], lines_at: usize, end_at: usize, end: Passed) -> Checked
-    requires { ⌜ Ended (now file) «lines_at» «end_at» end ⌝ }
+// for at `lines_at`, the key at `key_at`, and the end at `end_at`.
+fn checked(file: &[u8], lines_at: usize, key_at: usize, end_at: usize, end: Passed) -> Checked
+    requires { ⌜ Ended (now file) «lines_at» «key_at» «end_at» end ⌝ }
     ensures { λ c. ⌜ c ≡ checkedOf (verdict (fileChecks (now (file .entry)))) (headerOf (now (file .entry))) ⌝ }
 {
     match end {
@@ -419,7 +451,8 @@ fn checked(file: &[u8], lines_at: usize, end_at: usize, end: Passed) -> Checked
             names: u8_at(file, 5),
             entry: StmtId(u16_at(file, 6)),
             lines_at,
-            lines: (end_at - lines_at) / 6,
+            lines: (key_at - lines_at) / 6,
+            handler: handler(file, key_at, end_at),
         }),
     }
 }
@@ -433,9 +466,11 @@ pub fn check_file(file: &[u8]) -> Checked
     let statements = next(&mut r, header, Part::Statements);
     let lines_at = r.at;
     let lines = next(&mut r, statements, Part::Lines);
+    let key_at = r.at;
+    let key = next(&mut r, lines, Part::Key);
     let end_at = r.at;
-    let end = next(&mut r, lines, Part::End);
-    checked(file, lines_at, end_at, end)
+    let end = next(&mut r, key, Part::End);
+    checked(file, lines_at, key_at, end_at, end)
 }
 
 // The number of a refusal in the refusal table.

@@ -52,7 +52,7 @@ pub enum Refusal {
     Header(usize),
     // A kind or a DIM flag is unknown.
     Kind(usize),
-    // A successor, a continuation or the statement of a line is no statement.
+    // A successor, a continuation, the statement of a line or the handler is no statement.
     Target(usize),
     // An array number or a name bit is out of range.
     Member(usize),
@@ -66,7 +66,13 @@ pub enum Refusal {
     Areas,
 }
 
-// What the header says and where the lines stand, of a file that was found fit.
+// The statement that the interrupt key calls, if there is one.
+pub enum Handler {
+    At(StmtId),
+    None,
+}
+
+// What the header says, where the lines stand, and the handler, of a file that was found fit.
 pub struct Header {
     pub statements: usize,
     pub arrays: usize,
@@ -75,6 +81,7 @@ pub struct Header {
     // The place of the first FL record, and how many there are.
     pub lines_at: usize,
     pub lines: usize,
+    pub handler: Handler,
 }
 
 // How a part of a file was passed: the place after it, or why the file is refused.
@@ -83,11 +90,12 @@ pub enum Passed {
     Unfit(Refusal),
 }
 
-// The parts of a file, in file order: the FH record, the FN records, the FL records and the FE record.
+// The parts of a file, in file order: the FH record, the FN records, the FL records, the FK record, which may be absent, and the FE record.
 pub enum Part {
     Header,
     Statements,
     Lines,
+    Key,
     End,
 }
 

@@ -3,7 +3,7 @@
 use Prim.Native.Nat.{ℕ, _*_, _≤_, _<_}
 use native.Mathlib.Omega.{arith}
 use mathlib.Core.List.{List}
-use mathlib.Core.Path.{_≡_, sym, subst, _∙_}
+use mathlib.Core.Path.{_≡_, sym, subst}
 use lib.ListN.{length}
 use borrow.Author.Tests.{leb-true}
 use Rattle.flow.specs.Limits.{workWords}
@@ -17,8 +17,8 @@ use Rattle.theory.specs.Computed.{maskOf}
 use Rattle.theory.specs.Live.{liveInWord, liveOutWord}
 use Rattle.theory.specs.Listing.{flowText}
 use Rattle.theory.specs.contracts.WellFormed.{WellFormed}
-use Rattle.theory.proofs.Terms.{term-1-masks}
 use Rattle.dataflow.specs.Promise.{Answered, judged}
+use Rattle.dataflow.proofs.Told.{masks-computed}
 use Rattle.listing.specs.Text.{served}
 use Rattle.listing.specs.contracts.Room.{Room, wordIn, maskByte, areasText}
 use Rattle.listing.proofs.MaskField.{same-text}
@@ -56,7 +56,7 @@ pub record Holds (f : Flow) (masks liveIn liveOut : List ℕ) : Type 0 where
 pub holds : {f : Flow} {masks masks′ liveIn liveIn′ liveOut liveOut′ work work′ : List ℕ} {visits : ℕ}
     → WellFormed f → Answered f masks masks′ liveIn liveIn′ liveOut liveOut′ work work′ visits → Holds f masks′ liveIn′ liveOut′
 holds {f} wf d = record {
-  mask = λ i a l m. d .mask-bytes i a l m ∙ term-1-masks f wf (d .over) i a;
+  mask = masks-computed wf d;
   below = d .below;
   live-in = d .live-in .written;
   live-out = d .live-out .written;

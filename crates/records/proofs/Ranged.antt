@@ -1,5 +1,5 @@
 -- The flow that an accepted file stands for has its numbers within their ranges.
--- By the checks of the header, of each record and of the lines, carried over to the flow's lists.
+-- By the checks of the header, of each record, of the lines and of the key, carried over to the flow's lists.
 use Prim.Native.Nat.{ℕ, _^_, _≤_, _<_}
 use native.Mathlib.Omega.{arith}
 use mathlib.Core.List.{List, List·Memᴰ, List·Memᴰ·not-nil}
@@ -11,7 +11,7 @@ use Rattle.flow.specs.Flow.{Flow, Statement, Item, size, statement, enters, ite
 use Rattle.flow.specs.Format.{flowOf, tabulate, statementAt, statementsOf, arraysOf, namesOf, lineCount, lineNumber, lineFirst, successorCount, successorAt, referenceCount, referenceAt, itemAt}
 use Rattle.flow.specs.contracts.Answers.{FitFile, FitRecord}
 use Rattle.records.specs.contracts.Fields.{itemCount}
-use Rattle.records.proofs.Files.{limited, record-fit, line-first}
+use Rattle.records.proofs.Files.{limited, record-fit, line-first, handler-below}
 use Rattle.records.proofs.Values.{in-range, item-in, continuation-in}
 use Rattle.records.proofs.Tabulated.{member-of}
 use Rattle.records.proofs.Statements.{says-at, size-is, every}
@@ -29,6 +29,7 @@ pub record Ranged (f : Flow) : Type 0 where
   pub dimmed : (i : ℕ) (x : Item) → List·Memᴰ x (items (statement f i .kind)) → x .array < f .arrays
   pub written : (i : ℕ) → statement f i .written < 2 ^ f .names
   pub read : (i : ℕ) → statement f i .read < 2 ^ f .names
+  pub handler : (i : ℕ) → f .handler ≡ some i → i < size f
 
 -- the numbers of the statement t of a file's flow
 pub record StatementInRange (s : List ℕ) (t : Statement) : Type 0 where
@@ -88,6 +89,7 @@ ranged {s} h =
       dimmed = λ i. at i .dimmed;
       written = λ i. at i .written;
       read = λ i. at i .read;
+      handler = λ i e. let l = handler-below h i e in omega arith;
     }
   where
     first-in : (e : ℕ) → (k : ℕ) × (k < lineCount s) × (lineFirst s k ≡ e) → e < size (flowOf s)

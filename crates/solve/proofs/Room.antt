@@ -13,7 +13,7 @@ use Rattle.statements.specs.contracts.Layout.{maxWidth, queueAt}
 use Rattle.statements.specs.contracts.Ready.{Ready}
 use Rattle.statements.proofs.Keeps.{ready-most}
 use Rattle.statements.proofs.WorkArea.{queue-place, queue-below}
-use Rattle.solve.specs.contracts.Layout.{backRow, maskRowAt, stateAt, nodesEnd, sentRowAt, areaEnd}
+use Rattle.solve.specs.contracts.Layout.{backRow, maskRowAt, stateAt, nodesEnd, sentRowAt, areaEnd, keyAt}
 
 module _ (n w : ℕ) where
   -- the words of a number end where those of a later one begin, or before
@@ -63,6 +63,10 @@ solver-fits {n} {w} p h l = omega (arith, queue-place p h, mul-le-mul-right (2 *
 
 pub solver-room : {s ws : List ℕ} {n w : ℕ} → Ready s ws n → 0 < n → w ≤ maxWidth → areaEnd n w ≤ length ws
 solver-room r p l = let room = r .room in omega (arith, solver-fits p (ready-most r) l)
+
+-- and the handler's set behind its words
+pub key-room : {s ws : List ℕ} {n w : ℕ} → Ready s ws n → 0 < n → w ≤ maxWidth → keyAt n w + w ≤ length ws
+key-room {n = n} {w = w} r p l = let room = r .room in omega (arith, queue-place p (ready-most r), mul-le-mul-right (2 * n) l, mul-le-mul-right n l)
 
 pub nodes-room : {s ws : List ℕ} {n w : ℕ} → Ready s ws n → 0 < n → w ≤ maxWidth → nodesEnd n w ≤ length ws
 nodes-room {n = n} {w = w} r p l = omega (arith, solver-room r p l, nodes-within n w)

@@ -3,7 +3,7 @@
 use Prim.Native.Nat.{ℕ, _+_, _*_, _/_, _%_, _≤_, _<_, zero-le}
 use mathlib.Core.Bool.{Bool, true, false, cond}
 use mathlib.Core.List.{List}
-use mathlib.Core.Logic.{_⊎_, inl, inr, _≢_}
+use mathlib.Core.Logic.{_⊎_, inl, inr, ⊎-elim, _≢_}
 use mathlib.Core.Path.{_≡_, refl, sym, ap, ap₂, subst, _∙_}
 use native.Mathlib.Decide.{decLt}
 use native.Mathlib.Nat.{add-zero, le-refl}
@@ -20,8 +20,8 @@ use Rattle.masks.proofs.Laws.{step-lt}
 use Rattle.words.specs.contracts.Change.{Chosen}
 use Rattle.words.proofs.Bit.{bit-lt}
 use Rattle.statements.specs.contracts.Ready.{Keeps}
-use Rattle.statements.proofs.Keeps.{keeps-refl, keeps-trans, keeps-set}
-use Rattle.solve.specs.contracts.Rows.{maskAt, RowIs, Beside, stepWhere, member, wordsSet, WordStepped}
+use Rattle.statements.proofs.Keeps.{keeps-refl, keeps-trans, keeps-word, keeps-set}
+use Rattle.solve.specs.contracts.Rows.{maskAt, RowIs, Beside, Aside, stepWhere, member, wordsSet, WordStepped}
 use Rattle.solve.proofs.Masks.{mask-words}
 
 module _ (ws : List ℕ) (w row k x y z : ℕ) (l : k < w) where
@@ -111,10 +111,10 @@ pub record Stepping (ws₀ : List ℕ) (w to from set : ℕ) (e : Effect) (ws : 
 pub stepping-none : {ws : List ℕ} {w to from set : ℕ} {e : Effect} → Stepping ws w to from set e ws 0
 stepping-none = record { some = zero-le; keeps = keeps-refl; masks = λ a l. absurd (omega arith); unread = λ b q p l m. refl }
 
-pub stepping-more : {ws₀ ws vs : List ℕ} {w to from set k : ℕ} {e : Effect} → Stepping ws₀ w to from set e ws k → k < w → set + w ≤ to → to + 3 * w ≤ length ws₀
+pub stepping-more : {ws₀ ws vs : List ℕ} {w to from set k : ℕ} {e : Effect} → Stepping ws₀ w to from set e ws k → k < w → Aside w set to → to + 3 * w ≤ length ws₀
     → Beside w to from → WordStepped ws vs w to from k (getD ws (set + k) 0) e → Stepping ws₀ w to from set e vs (k + 1)
 unfolding maskAt stepWhere member has
-stepping-more {ws₀} {ws} {vs} {w} {to} {from} {set} {k} {e} s l below fits apart x = record {
+stepping-more {ws₀} {ws} {vs} {w} {to} {from} {set} {k} {e} s l aside fits apart x = record {
   some = omega arith;
   keeps = keeps-trans (s .keeps) (subst (Keeps to (to + 3 * w) ws) (sym (x .slice)) (words-keeps ws w to k (x .none) (x .auto) (x .dimmed) l));
   masks = λ a m. at a m (decLt a (64 * k));
@@ -133,7 +133,7 @@ stepping-more {ws₀} {ws} {vs} {w} {to} {from} {set} {k} {e} s l below fits apa
     written p v h = ap (λ (us : List ℕ). getD us p 0) (x .slice) ∙ h
 
     chosen : getD ws (set + k) 0 ≡ getD ws₀ (set + k) 0
-    chosen = s .keeps .below (set + k) (omega arith)
+    chosen = keeps-word (s .keeps) (set + k) (λ p q. ⊎-elim (λ d. omega arith) (λ d. omega arith) aside)
 
     at : (a : ℕ) → a < 64 * (k + 1) → Dec (a < 64 * k) → maskAt vs w to a ≡ stepWhere (member ws₀ set) e (maskAt ws₀ w from) a
     at a m (yes b) =

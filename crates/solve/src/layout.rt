@@ -89,10 +89,18 @@ pub fn sent_row(n: usize, width: usize, i: StmtId) -> usize
     sent_rows_end(n, width, i.0)
 }
 
-// Where the words end that are used.
+// Where the words end that the solver writes.
 pub fn end(n: usize, width: usize) -> usize
     requires { ⌜ (n ≤ maxStatements) × (width ≤ maxWidth) ⌝ }
     ensures { λ r. ⌜ r ≡ at.areaEnd n width ⌝ }
 {
     sent_rows_end(n, width, n)
+}
+
+// The arrays that the handler's body touches, behind all words that the solver writes.
+pub fn key(n: usize, width: usize) -> usize
+    requires { ⌜ (n ≤ maxStatements) × (width ≤ maxWidth) ⌝ }
+    ensures { λ r. ⌜ r ≡ at.keyAt n width ⌝ }
+{
+    end(n, width)
 }

@@ -6,7 +6,7 @@ ghost use Rattle.flow.specs.Limits.{maxStatements};
 ghost use Rattle.statements.specs.contracts.Layout.{maxWidth};
 ghost use Rattle.solve.specs.contracts.Layout.{nodesEnd};
 ghost use Rattle.solve.specs.contracts.Waiting.{Waits};
-ghost use Rattle.solve.specs.contracts.Pushed.{Source, Pushed};
+ghost use Rattle.solve.specs.contracts.Pushed.{Source, Grown, Pushed};
 use crate::Queue;
 use crate::layout;
 use crate::ring;
@@ -19,4 +19,15 @@ pub fn push(work: &mut [u64], n: usize, width: usize, queue: Queue, from: usize,
 {
     let grew = words::union(work, layout::mask_row(n, width, d), from, 3 * width);
     ring::enqueue(work, n, width, queue, d.0, grew)
+}
+
+// The row at `from` is joined to the masks of d, which does not wait for it.
+pub fn grow(work: &mut [u64], n: usize, width: usize, from: usize, d: NodeId)
+    requires { ⌜ (n ≤ maxStatements) × (width ≤ maxWidth) × (nodesEnd n width ≤ length (now work)) × (d .0 < 2 * n) × Source n width from ⌝ }
+    ensures { λ _. ⌜ Grown (now (work .entry)) (now (work .exit)) n width from (d .0) ⌝ }
+{
+    if words::union(work, layout::mask_row(n, width, d), from, 3 * width) {
+        let at = layout::state(n, width, d.0);
+        work[at] = work[at] % 2;
+    }
 }

@@ -2,7 +2,7 @@
 ghost use Prim.Native.Nat.{_+_, _*_, _<_, _≤_};
 ghost use lib.ListN.{length};
 ghost use Rattle.statements.specs.contracts.Layout.{maxWidth};
-ghost use Rattle.solve.specs.contracts.Rows.{maskAt, RowIs, Beside, WordStepped, stepWhere, member};
+ghost use Rattle.solve.specs.contracts.Rows.{maskAt, RowIs, Beside, Aside, WordStepped, stepWhere, member};
 
 // Word k of the row at `to` becomes that of the row at `from`, of which the arrays in the word `chosen` take the effect.
 fn step_word(
@@ -42,7 +42,7 @@ pub fn step_members(
     set: usize,
     effect: masks::Effect,
 )
-    requires { ⌜ (width ≤ maxWidth) × (set + width ≤ to) × (to + 3 * width ≤ length (now work)) × (from + 3 * width ≤ length (now work)) × Beside width to from ⌝ }
+    requires { ⌜ (width ≤ maxWidth) × Aside width set to × (set + width ≤ length (now work)) × (to + 3 * width ≤ length (now work)) × (from + 3 * width ≤ length (now work)) × Beside width to from ⌝ }
     ensures { λ _. ⌜ RowIs (now (work .entry)) (now (work .exit)) width to (stepWhere (member (now (work .entry)) set) effect (maskAt (now (work .entry)) width from)) ⌝ }
 {
     // Up to 64 arrays take one word, and no loop.

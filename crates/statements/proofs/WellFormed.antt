@@ -34,4 +34,5 @@ well-formed h =
       first = r .first;
       reference = r .reference;
       dimmed = λ i is x e m. r .dimmed i x (subst (λ l. In x l) (sym (ap items e)) m);
+      handler = r .handler;
     }

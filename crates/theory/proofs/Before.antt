@@ -1,8 +1,10 @@
 -- Masks before request E2 and with it. A flow without sure arrays has the doubled graph, masks and visits that it had; in any flow a mask holds no state that it did not hold before,
--- since what the step of a reference makes of a sure array, which is touched, the touched step makes of it too; and P5 shows that they are not always the same. Assumes nothing.
+-- since what the step of a reference makes of a sure array, which is touched, the touched step makes of it too; and P5 shows that they are not always the same. All of it also with a handler
+-- (request E3). Assumes nothing.
 use Prim.Native.Nat.{ℕ, _+_, _<_}
 use mathlib.Core.Bool.{Bool, true, false, cond, not, _&&_}
-use mathlib.Core.List.{List, [], _∷_, _++_, map}
+use mathlib.Core.List.{List, [], _∷_, _++_, map, List·Memᴰ·append-cases, Memᴰ·append-left, Memᴰ·append-right}
+use mathlib.Core.Logic.{_⊎_, inl, inr, ⊎-elim}
 use mathlib.Core.Path.{_≡_, refl, sym, _∙_, ap, subst, fun-ext}
 use native.Mathlib.Omega.{arith}
 use Rattle.masks.specs.declared.Effect.{Effect}
@@ -11,14 +13,15 @@ use Rattle.masks.specs.State.{State, holds, same, referenced}
 use Rattle.flow.specs.declared.Base.the-variants.{Zero}
 use Rattle.flow.specs.Flow.{Flow, size, firstOf}
 use Rattle.flow.specs.Format.{leAt, tabulate, countLines, recordEnd, recordPlace, kindOf, statementAt, flowOf}
-use Rattle.theory.specs.Lists.{any, elem, select, concatMap, optionList, upTo, sumBelow, allBelow, upd}
+use Rattle.theory.specs.Lists.{In, any, elem, select, concatMap, optionList, upTo, sumBelow, allBelow, upd}
 use Rattle.theory.specs.Reach.{closure, closureFuel, reached}
 use Rattle.theory.specs.Body.{entered, callees, walkNext, walked, called, bodies, touches, onCycle, opaque, opaqueCall, callTouches}
+use Rattle.theory.specs.Key.{opaqueHandler, handlerTouches}
 use Rattle.theory.specs.Sure.{gosubBody, canReturn, returning, missedFrom, missedAfter, missed, sure}
 use Rattle.theory.specs.contracts.WellFormed.{WellFormed}
 use Rattle.theory.specs.Queue.{Arc, Graph, Solver, Over, stepAll, arcCount, brings, unionBelow, pulled, changed, enqueue, visit, initial}
 use Rattle.theory.specs.Walks.{Turns, Brings}
-use Rattle.theory.specs.Doubled.{Edge, at, number, node, returnsTo, returnEdges, once, callEdges, listedEdges, edgesOf, edges, kindEffects, statementEffects, entering, continuationEffects, edgeEffects, boundary, arcsOf, doubled}
+use Rattle.theory.specs.Doubled.{Edge, at, number, node, returnsTo, returnEdges, once, callEdges, listedEdges, edgesOf, edges, kindEffects, statementEffects, entering, continuationEffects, ownEffects, keyEffects, edgeEffects, boundary, keyArcs, arcsOf, doubled}
 use Rattle.theory.specs.Masks.{maskLeft}
 use Rattle.theory.specs.Computed.{Progress, visitFront, visitTimes, solved, maskOf}
 use Rattle.theory.specs.Cases.{p5}
@@ -27,6 +30,7 @@ use Rattle.theory.proofs.Sure.{sure-touched, sure-array, sure-statement
 use Rattle.theory.proofs.Invariant.{WellFormedGraph}
 use Rattle.theory.proofs.Computed.{over-unique}
 use Rattle.theory.proofs.Exact.{over-brought, over-holds}
+use Rattle.theory.proofs.Acts.{turns-append}
 use Rattle.theory.proofs.Term3.{copy-held, held-copy}
 use Rattle.theory.proofs.Terms.{doubled-well-formed}
 
@@ -44,7 +48,7 @@ doubledWith f E = record {
   arrays = f .arrays;
   entry = number f (at Zero (f .entry));
   boundary = boundary f;
-  arcs = λ d. map (arcWith f E d) (edges f (node f d));
+  arcs = λ d. map (arcWith f E d) (edges f (node f d)) ++ keyArcs f;
 }
 
 pub doubled-with : (f : Flow) → doubled f ≡ doubledWith f (edgeEffects f)
@@ -53,7 +57,7 @@ doubled-with f = refl
 
 -- the effect before: on the edge to base + continuation every touched array takes the touched step
 unfoldable pub edgeEffectsBefore : Flow → Effects
-edgeEffectsBefore f i e a = statementEffects f i a ++ cond ((e .continues) && callTouches f i a) (Touched ∷ []) []
+edgeEffectsBefore f i e a = (statementEffects f i a ++ cond ((e .continues) && callTouches f i a) (Touched ∷ []) []) ++ keyEffects f a
 
 unfoldable pub doubledBefore : Flow → Graph
 doubledBefore f = doubledWith f (edgeEffectsBefore f)
@@ -65,8 +69,8 @@ module _ {f : Flow} (wf : WellFormed f) (no-sure : (c a : ℕ) → c < size f �
   unsure c a = not-so (sure f c a) (λ h. clash (sure f c a) h (no-sure c a (sure-statement wf c a h) (sure-array wf c a h)))
 
   same-effects : (i : ℕ) (x : Edge) (a : ℕ) → edgeEffects f i x a ≡ edgeEffectsBefore f i x a
-  unfolding edgeEffects edgeEffectsBefore continuationEffects
-  same-effects i x a = ap (λ (es : List Effect). statementEffects f i a ++ es) (go (x .continues))
+  unfolding edgeEffects ownEffects edgeEffectsBefore continuationEffects
+  same-effects i x a = ap (λ (es : List Effect). (statementEffects f i a ++ es) ++ keyEffects f a) (go (x .continues))
     where
       go : (t : Bool) → cond t (continuationEffects f i x a) [] ≡ cond (t && callTouches f i a) (Touched ∷ []) []
       go true = rw (unsure i a)
@@ -93,9 +97,15 @@ module _ {f : Flow} (wf : WellFormed f) (no-sure : (c a : ℕ) → c < size f �
 
 -- Within
 
+turns-split : (es : List Effect) {fs : List Effect} {s u : State} → Turns (es ++ fs) s u → (t : State) × Turns es s t × Turns fs t u
+turns-split [] {s = s} q = (s, Turns.same, q)
+turns-split (e ∷ es) (Turns.then p q) = let r = turns-split es q in (r .0, Turns.then p (r .1), r .2)
+
 turns-after : (es : List Effect) {fs gs : List Effect} {s u : State} → ((t u : State) → Turns fs t u → Turns gs t u) → Turns (es ++ fs) s u → Turns (es ++ gs) s u
-turns-after [] {s = s} {u = u} h q = h s u q
-turns-after (e ∷ es) h (Turns.then p q) = Turns.then p (turns-after es h q)
+turns-after es {u = u} h q = let r = turns-split es q in turns-append (r .1) (h (r .0) u (r .2))
+
+turns-first : {es fs : List Effect} (gs : List Effect) {s u : State} → ((s t : State) → Turns es s t → Turns fs s t) → Turns (es ++ gs) s u → Turns (fs ++ gs) s u
+turns-first {es} gs {s} {u} h q = let r = turns-split es q in turns-append (h s (r .0) (r .1)) (r .2)
 
 -- where the step of a reference brings a state, so does the touched step
 reference-touched : {s t : State} → Turns (Reference ∷ []) s t → Turns (Touched ∷ []) s t
@@ -103,8 +113,9 @@ reference-touched {s} (Turns.then {t = t} p q) = Turns.then (or-right (same s t)
 
 module _ {f : Flow} (wf : WellFormed f) where
   turns-before : (i : ℕ) (x : Edge) (a : ℕ) (s t : State) → Turns (edgeEffects f i x a) s t → Turns (edgeEffectsBefore f i x a) s t
-  unfolding edgeEffects edgeEffectsBefore continuationEffects
-  turns-before i x a s t = turns-after (statementEffects f i a) (λ s t. go (x .continues) (sure f i a) refl (not (entering f i x)))
+  unfolding edgeEffects ownEffects edgeEffectsBefore continuationEffects
+  turns-before i x a s t =
+      turns-first (keyEffects f a) (λ s t. turns-after (statementEffects f i a) (λ s t. go (x .continues) (sure f i a) refl (not (entering f i x))))
     where
       go : {s t : State} (c b : Bool) → sure f i a ≡ b → (n : Bool)
           → Turns (cond c (cond (b && n) (Reference ∷ []) (cond (callTouches f i a) (Touched ∷ []) [])) []) s t → Turns (cond (c && callTouches f i a) (Touched ∷ []) []) s t
@@ -118,10 +129,16 @@ brings-with : (f : Flow) (E E′ : Effects) {a d : ℕ} {s : State} → ((i : �
     → Brings (doubledWith f E) a d s → Brings (doubledWith f E′) a d s
 unfolding doubledWith
 brings-with f E E′ h (Brings.empty q) = Brings.empty q
-brings-with f E E′ {a} h (Brings.along {d = d} {s = s} {t = t} w m q) =
-    let r = In-map (arcWith f E d) (edges f (node f d)) m in
-    let step : Turns (E′ (node f d .stmt) (r .0) a) s t = h (node f d .stmt) (r .0) s t (subst (λ y. Turns (y .effects a) s t) (r .2) q) in
-    subst (λ (n : ℕ). Brings (doubledWith f E′) a n t) (sym (ap (λ (y : Arc). y .to) (r .2))) (Brings.along (brings-with f E E′ h w) (map-In (arcWith f E′ d) (r .1)) step)
+brings-with f E E′ {a} h (Brings.along {d = d} {s = s} {t = t} {e = e} w m q) =
+    go (brings-with f E E′ h w) (List·Memᴰ·append-cases (map (arcWith f E d) (edges f (node f d))) m)
+  where
+    go : Brings (doubledWith f E′) a d s → In e (map (arcWith f E d) (edges f (node f d))) ⊎ In e (keyArcs f) → Brings (doubledWith f E′) a (e .to) t
+    go w (inl m) =
+        let r = In-map (arcWith f E d) (edges f (node f d)) m in
+        let step : Turns (E′ (node f d .stmt) (r .0) a) s t = h (node f d .stmt) (r .0) s t (subst (λ y. Turns (y .effects a) s t) (r .2) q) in
+        subst (λ (n : ℕ). Brings (doubledWith f E′) a n t) (sym (ap (λ (y : Arc). y .to) (r .2)))
+        (Brings.along w (Memᴰ·append-left (keyArcs f) (map-In (arcWith f E′ d) (r .1))) step)
+    go w (inr m) = Brings.along w (Memᴰ·append-right (map (arcWith f E′ d) (edges f (node f d))) m) q
 
 with-well-formed : {f : Flow} (E : Effects) → WellFormed f → WellFormedGraph (doubledWith f E)
 unfolding doubledWith doubled arcsOf
@@ -130,9 +147,13 @@ with-well-formed {f} E wf =
     record {
       entry = g .entry;
       target = λ d e m.
+          ⊎-elim
+          (λ m.
           let r = In-map (arcWith f E d) (edges f (node f d)) m in
           subst (λ (n : ℕ). n < size f + size f) (sym (ap (λ (y : Arc). y .to) (r .2)))
-          (g .target d (arcWith f (edgeEffects f) d (r .0)) (map-In (arcWith f (edgeEffects f) d) (r .1)));
+          (g .target d (arcWith f (edgeEffects f) d (r .0)) (Memᴰ·append-left (keyArcs f) (map-In (arcWith f (edgeEffects f) d) (r .1)))))
+          (λ m. g .target d e (Memᴰ·append-right (map (arcWith f (edgeEffects f) d) (edges f (node f d))) m))
+          (List·Memᴰ·append-cases (map (arcWith f E d) (edges f (node f d))) m);
       boundary = g .boundary;
     }
 
@@ -149,5 +170,5 @@ within-before {f} wf {st = st} {st′ = st′} over before i a h l s m =
 
 -- P5: the mask at statement 1 is AUTO, and held NONE too before
 pub p5-masks : (maskOf (flowOf p5) 1 0 ≡ 2) × (maskLeft (flowOf p5) (solved (doubledBefore (flowOf p5)) .state) 1 0 ≡ 3)
-unfolding leAt tabulate countLines recordEnd recordPlace kindOf statementAt flowOf firstOf any elem select concatMap optionList upTo sumBelow allBelow upd closure closureFuel reached entered callees walkNext walked called bodies touches onCycle opaque opaqueCall callTouches gosubBody canReturn returning missedFrom missedAfter missed sure stepAll arcCount brings unionBelow pulled changed enqueue visit visitFront visitTimes initial solved returnsTo returnEdges once callEdges listedEdges edgesOf edges kindEffects statementEffects entering continuationEffects edgeEffects boundary arcsOf doubled maskLeft maskOf edgeEffectsBefore doubledWith doubledBefore
+unfolding leAt tabulate countLines recordEnd recordPlace kindOf statementAt flowOf firstOf any elem select concatMap optionList upTo sumBelow allBelow upd closure closureFuel reached entered callees walkNext walked called bodies touches onCycle opaque opaqueCall callTouches gosubBody canReturn returning missedFrom missedAfter missed sure stepAll arcCount brings unionBelow pulled changed enqueue visit visitFront visitTimes initial solved returnsTo returnEdges once callEdges listedEdges edgesOf edges kindEffects statementEffects entering continuationEffects ownEffects keyEffects edgeEffects boundary keyArcs arcsOf doubled opaqueHandler handlerTouches maskLeft maskOf edgeEffectsBefore doubledWith doubledBefore
 p5-masks = (refl, refl)

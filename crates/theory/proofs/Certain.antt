@@ -1,8 +1,9 @@
 -- Names certainly written are decided exactly: the closure over successors lists what is reached, and the closure that stops at a write of the name what a walk comes to
--- unwritten. That no walk does so says that each walk has a write earlier, by cases on the walk's statements. Assumes nothing.
+-- unwritten. That no walk does so says that each walk has a write earlier, by cases on the walk's statements. With a handler no name is certain. Assumes nothing.
 use Prim.Native.Nat.{ℕ, _^_, _<_}
-use mathlib.Core.Bool.{Bool, true, false, not, _&&_, _||_}
+use mathlib.Core.Bool.{Bool, true, false, not, _&&_, _||_, and-false}
 use mathlib.Core.Logic.{_⊎_, inl, inr, ⊎-elim}
+use mathlib.Core.Option.{Option, none, some}
 use mathlib.Core.Path.{_≡_, refl, sym, _∙_, ap}
 use native.Mathlib.Nat.{zero-div}
 use native.Mathlib.Omega.{arith}
@@ -12,6 +13,7 @@ use Rattle.flow.specs.Flow.{Flow, size}
 use Rattle.theory.specs.Lists.{any, upTo, allBelow}
 use Rattle.theory.specs.Reach.{Reach, reached}
 use Rattle.theory.specs.Body.{successors}
+use Rattle.theory.specs.Key.{byHandler}
 use Rattle.theory.specs.contracts.WellFormed.{WellFormed}
 use Rattle.theory.specs.Live.{member, reads, writes, unwritten}
 use Rattle.theory.specs.Certain.{Reached, Unwritten, Certain, reachedAt, unwrittenAt, certain, certainWord}
@@ -37,8 +39,8 @@ unwritten-reached (Unwritten.on u e m) = Reach.on (unwritten-reached u) m
 
 -- the other way where no statement writes the name
 pub unwritten-free : {f : Flow} {x : ℕ} → ((i : ℕ) → writes f i x ≡ false) → {i : ℕ} → Reached f i → Unwritten f x i
-unwritten-free none Reach.here = Unwritten.entry
-unwritten-free none (Reach.on {i = i} r m) = Unwritten.on (unwritten-free none r) (none i) m
+unwritten-free never Reach.here = Unwritten.entry
+unwritten-free never (Reach.on {i = i} r m) = Unwritten.on (unwritten-free never r) (never i) m
 
 -- a statement of the walk, before the one that it comes to, writes the name
 unfoldable pub WrittenOn : (f : Flow) (x : ℕ) {i : ℕ} → Reached f i → Type 0
@@ -89,6 +91,11 @@ unwrittenAt-sound f x i h =
 passes : Flow → ℕ → ℕ → Bool
 passes f x i = not (reads f i x) || (reachedAt f i && not (unwrittenAt f x i))
 
+-- the test of the handler
+free : (o : Option ℕ) → byHandler o true (λ h. false) ≡ true → o ≡ none
+free none q = refl
+free (some h) q = clash false q refl
+
 module _ {f : Flow} (w : WellFormed f) where
   pub reachedAt-complete : {i : ℕ} → 0 < size f → Reached f i → reachedAt f i ≡ true
   unfolding reachedAt
@@ -102,9 +109,11 @@ module _ {f : Flow} (w : WellFormed f) where
   pub certain-sound : (x : ℕ) → certain f x ≡ true → Certain f x
   unfolding certain passes
   certain-sound x h =
-      let both = and-both (any (λ i. writes f i x) (upTo (size f))) (allBelow (size f) (passes f x)) h in
+      let outer = and-both (byHandler (f .handler) true (λ h. false)) (any (λ i. writes f i x) (upTo (size f)) && allBelow (size f) (passes f x)) h in
+      let both = and-both (any (λ i. writes f i x) (upTo (size f))) (allBelow (size f) (passes f x)) (outer .1) in
       let found = any-find (λ i. writes f i x) (upTo (size f)) (both .0) in
       record {
+        no-handler = free (f .handler) (outer .0);
         writer = (found .0, In-upTo (size f) (found .1), found .2);
         readers = λ i l r.
             go i l (or-cases (not (reads f i x)) (reachedAt f i && not (unwrittenAt f x i)) (allBelow-at (size f) (passes f x) (both .1) i l)) r;
@@ -119,9 +128,11 @@ module _ {f : Flow} (w : WellFormed f) where
   pub certain-complete : {x : ℕ} → Certain f x → certain f x ≡ true
   unfolding certain passes
   certain-complete {x} c =
-      and-true (any (λ i. writes f i x) (upTo (size f))) (allBelow (size f) (passes f x))
+      and-true (byHandler (f .handler) true (λ h. false)) (any (λ i. writes f i x) (upTo (size f)) && allBelow (size f) (passes f x))
+      (ap (λ (o : Option ℕ). byHandler o true (λ h. false)) (c .no-handler))
+      (and-true (any (λ i. writes f i x) (upTo (size f))) (allBelow (size f) (passes f x))
       (any-In (λ i. writes f i x) (upTo-In (size f) (c .writer .0) (c .writer .1)) (c .writer .2))
-      (allBelow-all (size f) (passes f x) (λ i l. go i l (reads f i x) refl))
+      (allBelow-all (size f) (passes f x) (λ i l. go i l (reads f i x) refl)))
     where
       go : (i : ℕ) → i < size f → (b : Bool) → reads f i x ≡ b → (not b || (reachedAt f i && not (unwrittenAt f x i))) ≡ true
       go i l false e = refl
@@ -146,14 +157,23 @@ certainWord-sound {f} w x l h = certain-sound w x (sym (certainWord-member f x l
 pub certainWord-complete : {f : Flow} → WellFormed f → {x : ℕ} → x < f .names → Certain f x → member (certainWord f) x ≡ true
 certainWord-complete {f} w {x} l c = certainWord-member f x l ∙ certain-complete w c
 
--- with no statements no name is written
-certain-none : (f : Flow) → size f ≡ 0 → (x : ℕ) → certain f x ≡ false
-unfolding certain any upTo
-certain-none f e x = rw e refl
-
-pub certainWord-none : (f : Flow) → size f ≡ 0 → certainWord f ≡ 0
+-- a word with no names
+word-empty : (f : Flow) → ((x : ℕ) → certain f x ≡ false) → certainWord f ≡ 0
 unfolding certainWord
-certainWord-none f e = sym (namesWord-unique f (certain f) 0 (pow-pos (f .names)) (λ x l. none x ∙ sym (certain-none f e x)))
+word-empty f h = sym (namesWord-unique f (certain f) 0 (pow-pos (f .names)) (λ x l. absent x ∙ sym (h x)))
   where
-    none : (x : ℕ) → member 0 x ≡ false
-    none x = simp zero-div
+    absent : (x : ℕ) → member 0 x ≡ false
+    absent x = simp zero-div
+
+-- with no statements no name is written
+pub certainWord-none : (f : Flow) → size f ≡ 0 → certainWord f ≡ 0
+unfolding certain any upTo
+certainWord-none f e = word-empty f (λ x. rw e (and-false (byHandler (f .handler) true (λ h. false))))
+
+-- with a handler no name is certain
+pub certainWord-handler : (f : Flow) {h : ℕ} → f .handler ≡ some h → certainWord f ≡ 0
+unfolding certain
+certainWord-handler f {h} e = word-empty f (λ x. fails (f .handler) _ e)
+  where
+    fails : (o : Option ℕ) (b : Bool) → o ≡ some h → (byHandler o true (λ h. false) && b) ≡ false
+    fails o b e = rw e refl

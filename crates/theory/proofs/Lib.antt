@@ -1,6 +1,7 @@
 pub mod Lists
 pub mod Reach
 pub mod Body
+pub mod Handler
 pub mod Transparent
 pub mod Rounds
 pub mod Sure
@@ -23,5 +24,6 @@ pub mod Runs
 pub mod Term3
 pub mod Terms
 pub mod Before
+pub mod WithoutKey
 pub mod RunCases
 pub mod Listing

@@ -4,6 +4,7 @@ use Prim.Native.Nat.{ℕ, zero, suc, _<_}
 use mathlib.Core.Bool.{Bool, true, false, cond, not, _&&_, _||_}
 use mathlib.Core.List.{[], _∷_, List·Memᴰ·not-nil}
 use mathlib.Core.Logic.{_⊎_, inl, inr}
+use mathlib.Core.Option.{none}
 use mathlib.Core.Path.{_≡_, refl, _∙_, ap}
 use native.Mathlib.Nat.{zero-div}
 use native.Mathlib.Omega.{arith}
@@ -105,6 +106,7 @@ selfLoop = record {
   entry = 0;
   statements = record { line = 10; kind = Kind.other; successors = 0 ∷ []; references = []; written = 0; read = 0 } ∷ [];
   lines = [];
+  handler = none;
 }
 
 pub not-live : liveIn selfLoop 0 0 ≡ false

@@ -363,7 +363,7 @@ module _ {f : Flow} (w : WellFormed f) where
       let t = callee-transparent w c (call-not-opaque f c (m .not-opaque)) e in
       callTouches-complete w (CallTouches.enters-touching e (met-touched t a (u .0) (u .1) (u .2)))
 
-  touched-below : {a e : ℕ} → Touches f a e → a < f .arrays
+  pub touched-below : {a e : ℕ} → Touches f a e → a < f .arrays
   touched-below {a} (Touches.own {i = i} v m) = w .reference i a m
   touched-below (Touches.nested k t) = touched-below t
 

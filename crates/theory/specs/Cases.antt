@@ -1,13 +1,13 @@
 -- Document 01, "Flows worked through", as one table: P1 to P10 and the line "Also", then a file for each point of "Where a port goes astray" and for each rule, those of
--- requests E1 and E2 too, that a wrong definition would fail. A case is a step, or a file as bytes with the verdict on it and what is known of it: masks, visits, term 1's bound,
+-- requests E1 to E3 too, that a wrong definition would fail. A case is a step, or a file as bytes with the verdict on it and what is known of it: masks, visits, term 1's bound,
 -- live sets, listing, certain names, sure arrays.
-use Prim.Native.Nat.{ℕ, _*_, _/_, _^_}
+use Prim.Native.Nat.{ℕ, _-_, _*_, _/_, _^_}
 use Prim.Native.Char.{code}
 use Prim.Native.String.{String, [] as []ˢ, _∷_ as _∷ˢ_}
 use mathlib.Core.Bool.{Bool, true, false, _&&_}
 use mathlib.Core.List.{List, [], _∷_, _++_, map}
 use lib.Dec.{eqb}
-use lib.ListN.{length, replicate}
+use lib.ListN.{length, replicate, take}
 use Rattle.masks.specs.declared.Effect.{Effect}
 use Rattle.masks.specs.declared.Effect.the-variants.{Reference, Touched}
 use Rattle.masks.specs.Step.{stepOf}
@@ -15,7 +15,7 @@ use Rattle.flow.specs.Flow.{Flow, size}
 use Rattle.flow.specs.Limits.{noContinuation, workWords}
 use Rattle.flow.specs.Format.{Verdict, verdict, fileChecks, areaCheck, areaChecks, flowOf}
 use Rattle.flow.specs.Format.{verdictNumber, verdictPlace}
-use Rattle.flow.specs.Cases.{u16s, FH, FN, FL, FE}
+use Rattle.flow.specs.Cases.{u16s, FH, FN, FL, FK, FE}
 use Rattle.theory.specs.Lists.{concatMap, upTo, sumBelow}
 use Rattle.theory.specs.Sure.{sure}
 use Rattle.theory.specs.Queue.{visitBound}
@@ -407,6 +407,50 @@ continuationEntered =
     ++ FL 40 3
     ++ FE
 
+-- Request E3
+
+-- the file with a key: its record stands right before FE, which has two bytes
+abbrev pub withKey : ℕ → List ℕ → List ℕ
+withKey handler s = take (length s - 2) s ++ FK handler ++ FE
+
+-- the entry refers to the array and goes to itself; 1 is a RETURN. The key's edge takes NONE to it, and comes after the self loop
+abbrev pub selfReference : List ℕ
+selfReference = FH 2 1 0 0 ++ other 10 (0 ∷ []) (0 ∷ []) ++ returns 20 [] ++ FE
+
+-- only the key's edge leaves the RETURN at 1, and takes DIMMED with it
+abbrev pub returnOut : List ℕ
+returnOut = FH 3 1 0 0 ++ dim 10 (0 ∷ 1 ∷ []) (1 ∷ []) [] ++ returns 20 [] ++ returns 30 [] ++ FE
+
+-- the same of the RETURN at 5, in base n: a listed successor of the call at 1 that is not on its body's walk leads there
+abbrev pub returnInCopy : List ℕ
+returnInCopy =
+    FH 6 1 0 0
+    ++ other 10 [] []
+    ++ gosub 20 40 2 (3 ∷ 4 ∷ []) []
+    ++ returns 30 []
+    ++ returns 40 []
+    ++ dim 50 (0 ∷ 1 ∷ []) (5 ∷ []) []
+    ++ returns 60 []
+    ++ FL 40 3
+    ++ FE
+
+-- CLR at the entry, and a handler at 2 that refers to the array: its touched step comes after the CLR
+abbrev pub wipedFirst : List ℕ
+wipedFirst = FH 4 1 0 0 ++ clr 10 (1 ∷ []) [] ++ other 20 [] [] ++ other 30 (3 ∷ []) (0 ∷ []) ++ returns 40 [] ++ FE
+
+-- a handler at 2 that calls this body, of two arrays
+abbrev pub callingHandler : List ℕ → List ℕ
+callingHandler body =
+    FH 6 2 0 0
+    ++ other 10 (1 ∷ []) []
+    ++ other 20 [] []
+    ++ gosub 30 50 3 (4 ∷ []) []
+    ++ returns 40 []
+    ++ body
+    ++ returns 60 []
+    ++ FL 50 4
+    ++ FE
+
 abbrev pub cases : List Case
 cases =
     -- P1 to P4
@@ -502,6 +546,30 @@ cases =
     ∷ accepted passedBy (masks (1 ∷ 1 ∷ 3 ∷ 2 ∷ 1 ∷ 1 ∷ 3 ∷ 1 ∷ 3 ∷ 2 ∷ 3 ∷ 1 ∷ []) ∷ visits 8 ∷ bound 61 ∷ sure-arrays (2 ∷ 0 ∷ 0 ∷ 0 ∷ 0 ∷ 0 ∷ []) ∷ [])
     ∷ accepted ordinaryInside (masks (1 ∷ 1 ∷ 3 ∷ 2 ∷ 1 ∷ 1 ∷ 1 ∷ 1 ∷ 1 ∷ 1 ∷ 3 ∷ 2 ∷ []) ∷ visits 6 ∷ bound 61 ∷ sure-arrays (2 ∷ 0 ∷ 0 ∷ 0 ∷ 0 ∷ 0 ∷ []) ∷ [])
     ∷ accepted continuationEntered (masks (1 ∷ 1 ∷ 1 ∷ 3 ∷ 2 ∷ 1 ∷ []) ∷ visits 10 ∷ bound 40 ∷ sure-arrays (0 ∷ 1 ∷ 0 ∷ 0 ∷ 0 ∷ 0 ∷ []) ∷ [])
+    -- request E3: P5 with the subroutine as handler, then with its RETURN; with the ON GOSUB
+    ∷ accepted (withKey 2 p5)
+    (masks (3 ∷ 2 ∷ 3 ∷ 2 ∷ []) ∷ visits 5 ∷ bound 43 ∷ sure-arrays (1 ∷ 0 ∷ 0 ∷ 0 ∷ []) ∷ live-in (0 ∷ 1 ∷ 0 ∷ 0 ∷ []) ∷ live-out (0 ∷ 0 ∷ 0 ∷ 0 ∷ []) ∷ [])
+    ∷ accepted (withKey 3 p5) (masks (1 ∷ 2 ∷ 1 ∷ 3 ∷ []) ∷ visits 5 ∷ bound 43 ∷ [])
+    ∷ accepted (withKey 2 p5On) (masks (3 ∷ 3 ∷ 3 ∷ 2 ∷ []) ∷ visits 5 ∷ bound 43 ∷ [])
+    -- the RETURN of an opaque body is the handler, and goes back from base 0 only
+    ∷ accepted (withKey 3 p6) (masks (1 ∷ 4 ∷ 1 ∷ 5 ∷ []) ∷ visits 7 ∷ bound 40 ∷ [])
+    ∷ accepted selfReference (masks (3 ∷ 0 ∷ []) ∷ visits 3 ∷ bound 7 ∷ [])
+    ∷ accepted (withKey 1 selfReference) (masks (3 ∷ 3 ∷ []) ∷ visits 5 ∷ bound 19 ∷ [])
+    ∷ accepted (withKey 2 returnOut) (masks (1 ∷ 4 ∷ 5 ∷ []) ∷ visits 4 ∷ bound 25 ∷ [])
+    ∷ accepted (withKey 1 returnInCopy) (masks (1 ∷ 5 ∷ 5 ∷ 5 ∷ 5 ∷ 4 ∷ []) ∷ visits 13 ∷ bound 61 ∷ [])
+    ∷ accepted (withKey 2 wipedFirst) (masks (3 ∷ 3 ∷ 3 ∷ 2 ∷ []) ∷ visits 5 ∷ bound 37 ∷ [])
+    ∷ accepted (withKey 2 (callingHandler (other 50 (5 ∷ []) (1 ∷ []))))
+    (masks (1 ∷ 3 ∷ 1 ∷ 3 ∷ 1 ∷ 3 ∷ 1 ∷ 2 ∷ 1 ∷ 3 ∷ 1 ∷ 2 ∷ []) ∷ visits 8 ∷ bound 101 ∷ [])
+    -- opaque handlers: by CLR, by a DIM that nothing reaches, by a cycle of calls, by a body that it calls
+    ∷ accepted (withKey 2 p8) (masks (replicate 4 7) ∷ visits 0 ∷ live-in (0 ∷ 1 ∷ 0 ∷ 0 ∷ []) ∷ [])
+    ∷ accepted (withKey 2 unvisited) (masks (replicate 3 7) ∷ visits 0 ∷ [])
+    ∷ accepted (withKey 0 p9) (masks (replicate 2 7) ∷ visits 0 ∷ [])
+    ∷ accepted (withKey 2 (callingHandler (run 50 (5 ∷ []) (1 ∷ [])))) (masks (replicate 12 7) ∷ visits 0 ∷ [])
+    -- no certain names, and live sets as without a key
+    ∷ accepted (withKey 3 twoNames) (visits 13 ∷ bound 19 ∷ live-in (2 ∷ 3 ∷ 1 ∷ 3 ∷ []) ∷ live-out (3 ∷ 3 ∷ 1 ∷ 3 ∷ []) ∷ certain 0 ∷ [])
+    -- a handler that is no statement
+    ∷ refused (withKey 4 p5) 5 134 (prints ("R 5 134" ∷ []) ∷ [])
+    ∷ refused (withKey 0 p10) 5 8 []
     ∷ []
 
 -- Whether a case is right

@@ -12,8 +12,9 @@ use Rattle.flow.specs.declared.Base.the-variants.{Zero, N}
 use Rattle.flow.specs.Flow.{Flow, Kind, Item, size}
 use Rattle.theory.specs.Lists.{any, elem, select, upTo}
 use Rattle.theory.specs.Body.{kind, successors, references, continuationOf, entered, callees, isReturn, walked, opaqueCall, callTouches}
+use Rattle.theory.specs.Key.{byHandler, handlerTouches}
 use Rattle.theory.specs.Sure.{sure}
-use Rattle.theory.specs.Queue.{Arc, Graph}
+use Rattle.theory.specs.Queue.{Arc, Graph, stepAll}
 
 -- a doubled number: a statement in base 0 or in base n. A statement number is no doubled number
 pub record Node : Type 0 where
@@ -133,16 +134,29 @@ entering f i e = any (λ b. sameNode (e .to) (at N b)) (entered f i)
 unfoldable pub continuationEffects : Flow → ℕ → Edge → ℕ → List Effect
 continuationEffects f i e a = cond (sure f i a && not (entering f i e)) (Reference ∷ []) (cond (callTouches f i a) (Touched ∷ []) [])
 
--- the effect of an edge of statement i on array a: the statement's, then on the edge to base + continuation that of the call
+-- what statement i has done to array a where an edge leaves it: the statement's effect, then on the edge to base + continuation that of the call
+unfoldable pub ownEffects : Flow → ℕ → Edge → ℕ → List Effect
+ownEffects f i e a = statementEffects f i a ++ cond (e .continues) (continuationEffects f i e a) []
+
+-- Request E3: the handler may have run in between, and may have touched what its body touches
+unfoldable pub keyEffects : Flow → ℕ → List Effect
+keyEffects f a = cond (handlerTouches f a) (Touched ∷ []) []
+
+-- the effect of an edge of statement i on array a: its own, and last the handler's touched step
 unfoldable pub edgeEffects : Flow → ℕ → Edge → ℕ → List Effect
-edgeEffects f i e a = statementEffects f i a ++ cond (e .continues) (continuationEffects f i e a) []
+edgeEffects f i e a = ownEffects f i e a ++ keyEffects f a
 
--- every array is NONE at the entry
+-- every array is NONE at the entry, and takes the handler's touched step
 unfoldable pub boundary : Flow → ℕ → ℕ
-boundary f a = 1
+boundary f a = stepAll (keyEffects f a) 1
 
+-- the key's edge: to n + handler, with the mask as it is, neither by the statement nor by the touched step
+unfoldable pub keyArcs : Flow → List Arc
+keyArcs f = byHandler (f .handler) [] (λ h. record { to = number f (at N h); effects = λ a. [] } ∷ [])
+
+-- a doubled number's edges: its statement's, and the key's, which is the last
 unfoldable pub arcsOf : Flow → ℕ → List Arc
-arcsOf f d = map (λ e. record { to = number f (e .to); effects = edgeEffects f (node f d .stmt) e }) (edges f (node f d))
+arcsOf f d = map (λ e. record { to = number f (e .to); effects = edgeEffects f (node f d .stmt) e }) (edges f (node f d)) ++ keyArcs f
 
 unfoldable pub doubled : Flow → Graph
 doubled f = record {

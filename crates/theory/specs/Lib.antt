@@ -1,6 +1,7 @@
 pub mod Lists
 pub mod Reach
 pub mod Body
+pub mod Key
 pub mod Sure
 pub mod Doubled
 pub mod Queue

@@ -10,6 +10,10 @@ use Rattle.theory.specs.Queue.{Solver}
 use Rattle.theory.specs.Walks.{Brings}
 use Rattle.theory.specs.Doubled.{doubled, number, at}
 
+-- the mask that leaves no state out
+abbrev pub anyState : ℕ
+anyState = 7
+
 -- the mask of array a at statement i, where the queue rule leaves this state
 unfoldable pub maskLeft : Flow → Solver → ℕ → ℕ → ℕ
 maskLeft f st i a = bitOr (st .masks (number f (at Zero i)) a) (st .masks (number f (at N i)) a)

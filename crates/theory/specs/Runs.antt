@@ -1,4 +1,4 @@
--- Document 01, "Runs": a configuration, one move, a list of moves, and what a run finds at a statement. A statement acts on the arrays, then moves.
+-- Document 01, "Runs": a configuration, one move, a list of moves, and what a run finds at a statement. A statement acts on the arrays, then moves. Request E3: before any statement a key may call the handler.
 -- The premise of term 3: the statements that a call can enter, and the one after an ON GOSUB, are among its listed successors.
 use Prim.Native.Nat.{ℕ, _<_}
 use mathlib.Core.Bool.{Bool, true, false}
@@ -13,23 +13,25 @@ use Rattle.theory.specs.Lists.{In}
 use Rattle.theory.specs.Body.{kind, successors, entered}
 use Rattle.theory.specs.Doubled.{statementEffects}
 
--- what a call pushes: its continuation, or "end"
+-- what a call pushes: its continuation, or "end"; what a key pushes: the statement before which it came
 pub data Frame : Type 0 where
   back : ℕ → Frame
   end : Frame
+  key : ℕ → Frame
 
 abbrev pub frameOf : Option ℕ → Frame
 frameOf none = end
 frameOf (some k) = back k
 
--- where a run has come, each array's state there, before the statement acts, and the stack
+-- where a run has come, each array's state there, before the statement acts, the stack, and whether a key counts
 pub record Config : Type 0 where
   pub stmt : ℕ
   pub states : ℕ → State
   pub stack : List Frame
+  pub counts : Bool
 
-abbrev pub config : ℕ → (ℕ → State) → List Frame → Config
-config i s k = record { stmt = i; states = s; stack = k }
+abbrev pub config : ℕ → (ℕ → State) → List Frame → Bool → Config
+config i s k c = record { stmt = i; states = s; stack = k; counts = c }
 
 -- a statement's effect on a state; the touched step belongs to masks only
 abbrev pub become : Effect → State → State
@@ -67,24 +69,29 @@ empties (Kind.dim items) = false
 empties (Kind.gosub l c) = false
 empties (Kind.onGosub ls c) = false
 
--- one move, with the statement's act before it. RETURN on an empty stack or on "end" offers none
+-- one move, with the statement's act before it. RETURN on an empty stack or on "end" offers none. A key moves to the handler before the statement acts, and no other counts until the RETURN that takes its
+-- frame; where CLR or RUN has taken the frame, none does
 pub data Move (f : Flow) : Config → Config → Type 0 where
-  next : {i j : ℕ} {s : ℕ → State} {k : List Frame} → goesOn (kind f i) ≡ true → In j (successors f i)
-      → Move f (config i s k) (config j (act f i s) k)
-  reset : {i j : ℕ} {s : ℕ → State} {k : List Frame} → empties (kind f i) ≡ true → In j (successors f i)
-      → Move f (config i s k) (config j (act f i s) [])
-  gosub : {i e l : ℕ} {c : Option ℕ} {s : ℕ → State} {k : List Frame} → kind f i ≡ Kind.gosub l c → In e (entered f i)
-      → Move f (config i s k) (config e (act f i s) (frameOf c ∷ k))
-  on-gosub : {i e : ℕ} {ls : List ℕ} {c : Option ℕ} {s : ℕ → State} {k : List Frame} → kind f i ≡ Kind.onGosub ls c → In e (entered f i)
-      → Move f (config i s k) (config e (act f i s) (frameOf c ∷ k))
-  skip : {i j : ℕ} {ls : List ℕ} {s : ℕ → State} {k : List Frame} → kind f i ≡ Kind.onGosub ls (some j)
-      → Move f (config i s k) (config j (act f i s) k)
-  return : {i j : ℕ} {s : ℕ → State} {k : List Frame} → kind f i ≡ Kind.return
-      → Move f (config i s (back j ∷ k)) (config j (act f i s) k)
+  next : {i j : ℕ} {s : ℕ → State} {k : List Frame} {u : Bool} → goesOn (kind f i) ≡ true → In j (successors f i)
+      → Move f (config i s k u) (config j (act f i s) k u)
+  reset : {i j : ℕ} {s : ℕ → State} {k : List Frame} {u : Bool} → empties (kind f i) ≡ true → In j (successors f i)
+      → Move f (config i s k u) (config j (act f i s) [] u)
+  gosub : {i e l : ℕ} {c : Option ℕ} {s : ℕ → State} {k : List Frame} {u : Bool} → kind f i ≡ Kind.gosub l c → In e (entered f i)
+      → Move f (config i s k u) (config e (act f i s) (frameOf c ∷ k) u)
+  on-gosub : {i e : ℕ} {ls : List ℕ} {c : Option ℕ} {s : ℕ → State} {k : List Frame} {u : Bool} → kind f i ≡ Kind.onGosub ls c → In e (entered f i)
+      → Move f (config i s k u) (config e (act f i s) (frameOf c ∷ k) u)
+  skip : {i j : ℕ} {ls : List ℕ} {s : ℕ → State} {k : List Frame} {u : Bool} → kind f i ≡ Kind.onGosub ls (some j)
+      → Move f (config i s k u) (config j (act f i s) k u)
+  return : {i j : ℕ} {s : ℕ → State} {k : List Frame} {u : Bool} → kind f i ≡ Kind.return
+      → Move f (config i s (back j ∷ k) u) (config j (act f i s) k u)
+  press : {i h : ℕ} {s : ℕ → State} {k : List Frame} → f .handler ≡ some h
+      → Move f (config i s k true) (config h s (key i ∷ k) false)
+  resume : {i j : ℕ} {s : ℕ → State} {k : List Frame} {u : Bool} → kind f i ≡ Kind.return
+      → Move f (config i s (key j ∷ k) u) (config j (act f i s) k true)
 
--- a run starts at the entry with all arrays NONE and an empty stack
+-- a run starts at the entry with all arrays NONE and an empty stack, and a key counts
 abbrev pub begin : Flow → Config
-begin f = config (f .entry) (λ a. State.none) []
+begin f = config (f .entry) (λ a. State.none) [] true
 
 -- a run is a finite list of moves, the empty list too; with n 0 there is no run. Its index is where it has come
 pub data Run (f : Flow) : Config → Type 0 where

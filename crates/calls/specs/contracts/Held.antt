@@ -11,10 +11,11 @@ use Rattle.flow.specs.Flow.{Flow, size}
 use Rattle.flow.specs.Limits.{maxStatements, workWords}
 use Rattle.theory.specs.Lists as lists
 use Rattle.theory.specs.Lists.{In, any, upTo}
-use Rattle.theory.specs.Body.{kind, continuationOf, isReturn, callees, entered, Walks, opaqueCall, callTouches}
+use Rattle.theory.specs.Body as theory
+use Rattle.theory.specs.Body.{kind, continuationOf, isReturn, callees, entered, Walks, touches, opaqueCall, callTouches}
 use Rattle.theory.specs.Sure.{sure}
 use Rattle.theory.specs.Doubled.{returnsTo}
-use Rattle.statements.specs.contracts.Layout.{sureAt, callsAt, callTouchedAt, bodiesAt, matrixAt, rowAt, rowWords, queueAt, enteredRowAt}
+use Rattle.statements.specs.contracts.Layout.{sureAt, callsAt, callTouchedAt, bodiesAt, touchedAt, matrixAt, rowAt, rowWords, queueAt, enteredRowAt}
 use Rattle.statements.specs.contracts.Ready.{MembersWord}
 use Rattle.calls.specs.contracts.Orders.{several, OrderOf}
 
@@ -72,9 +73,15 @@ pub record CallSummaries (f : Flow) (ws : List ℕ) (n : ℕ) : Type 0 where
   pub touched : (c : ℕ) → c < n → getD ws (callsAt n + c) 0 ≡ transparent → MembersWord (getD ws (callTouchedAt n + c) 0) (callTouches f c)
   pub sure : (c : ℕ) → c < n → getD ws (callsAt n + c) 0 ≡ transparent → MembersWord (getD ws (sureAt n + c) 0) (sure f c)
 
+-- the summary of the handler's body, if there is a handler
+pub record HandlerSummary (f : Flow) (ws : List ℕ) (n : ℕ) : Type 0 where
+  pub body : (e : ℕ) → f .handler ≡ some e → getD ws (bodiesAt n + e) 0 ≡ cond (theory.opaque f e) opaque transparent
+  pub touched : (e : ℕ) → f .handler ≡ some e → theory.opaque f e ≡ false → MembersWord (getD ws (touchedAt n + e) 0) (touches f e)
+
 -- the summaries, and the walks of the bodies that the calls enter
 pub record Summarized (f : Flow) (ws : List ℕ) (n : ℕ) : Type 0 where
   pub calls : CallSummaries f ws n
+  pub handler : HandlerSummary f ws n
   pub walks : (c b : ℕ) → c < n → In b (callees f c) → isReturn (kind f b) ≡ false → WalkRow f ws n b
 
 -- l leads statement r: their rows are the same

@@ -1,5 +1,5 @@
 -- The edges of a doubled number as slots, one for each that is gone through: an edge, or nothing where a line enters no statement or a successor is left out.
--- Up to repeats, the present slots are the edges of the doubled graph.
+-- Up to repeats, the present slots are the edges of the doubled graph, but for the key's.
 use Prim.Native.Nat.{ℕ}
 use mathlib.Core.Bool.{cond, not, _||_}
 use mathlib.Core.List.{List, [], _∷_, _++_, map}

@@ -137,3 +137,9 @@ pub record CallSummed (f : Flow) (ws vs : List ℕ) (n c : ℕ) : Type 0 where
   pub summing : Summing f vs n
   pub onward : Onward ws vs n
   pub done : (k : ℕ) → continuationOf (kind f c) ≡ some k → call vs n c ≢ unentered
+
+-- the handler's body has a summary, if there is a handler
+pub record HandlerSummed (f : Flow) (ws vs : List ℕ) (n : ℕ) : Type 0 where
+  pub summing : Summing f vs n
+  pub onward : Onward ws vs n
+  pub done : (e : ℕ) → f .handler ≡ some e → body vs n e ≢ unentered

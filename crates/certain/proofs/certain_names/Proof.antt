@@ -16,7 +16,7 @@ same-length : tie.Need-same-length
 same-length c = search needs
 
 returns : tie.Need-returns
-returns c = apart (c .before .before .before .before .before .pre .ready) (c .before .gather-uses .ensures) (c .if1 .taken)
+returns c = apart (c .before .before .before .before .before .pre .ready) (c .before .before .before .before .before .pre .no-handler) (c .before .gather-uses .ensures) (c .if1 .taken)
 
 solve-requires : tie.Need-solve-requires
 solve-requires c κs = search needs
@@ -31,7 +31,7 @@ same-length-2 : tie.Need-same-length-2
 same-length-2 c = search needs
 
 returns-2 : tie.Need-returns-2
-returns-2 c = c .difference .ensures ∙ without-early (c .before .before .before .before .before .before .before .before .before .before .before .before .pre .ready) (c .before .before .before .before .before .before .before .before .gather-uses .ensures) (c .before .early .ensures)
+returns-2 c = c .difference .ensures ∙ without-early (c .before .before .before .before .before .before .before .before .before .before .before .before .pre .ready) (c .before .before .before .before .before .before .before .before .before .before .before .before .pre .no-handler) (c .before .before .before .before .before .before .before .before .gather-uses .ensures) (c .before .early .ensures)
 
 pub certain-names-spec : {M : Type 1} → statement M
 certain-names-spec =

@@ -2,6 +2,7 @@
 use Prim.Native.Nat.{ℕ, _<_}
 use mathlib.Core.Bool.{true}
 use mathlib.Core.List.{List}
+use mathlib.Core.Option.{none}
 use mathlib.Core.Path.{_≡_}
 use Rattle.words.specs.contracts.Row.{bit}
 use Rattle.flow.specs.Flow.{Flow}
@@ -12,6 +13,7 @@ use Rattle.statements.specs.contracts.Ready.{Ready}
 
 pub record CertainStart (s ws : List ℕ) (n entry : ℕ) : Type 0 where
   pub ready : Ready s ws n
+  pub no-handler : flowOf s .handler ≡ none
   pub entry-is : entry ≡ flowOf s .entry
   pub small : entry < n
 

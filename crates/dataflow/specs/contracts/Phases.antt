@@ -1,6 +1,7 @@
 -- What the phases start from, and what they leave together: the file is fit, its header is known, the areas have room and the work area is zero as far as it is used; after them the masks, the
 -- live words are those of the definitions, and the count is that of the queue rule's course.
 use Prim.Native.Nat.{ℕ, _*_, _+_, _-_, _<_, _≤_}
+use mathlib.Core.Bool.{true, false}
 use mathlib.Core.List.{List}
 use mathlib.Core.Path.{_≡_}
 use lib.ListN.{length, getD}
@@ -10,16 +11,15 @@ use Rattle.flow.specs.Flow.{Flow, size}
 use Rattle.flow.specs.Limits.{workWords}
 use Rattle.flow.specs.contracts.Answers.{FitFile}
 use Rattle.flow.specs.contracts.Answers.{headerOf}
-use Rattle.theory.specs.Doubled.{doubled}
-use Rattle.theory.specs.Queue.{Solver, Over}
-use Rattle.theory.specs.Masks.{maskLeft}
+use Rattle.theory.specs.Key.{opaqueHandler}
 use Rattle.theory.specs.Live.{liveInWord, liveOutWord}
 use Rattle.statements.specs.contracts.Layout.{linesAt, matrixAt, rowWords, queueAt, returnsRowAt, setWords}
 use Rattle.statements.specs.contracts.Ready.{Ready, Indexed}
 use Rattle.solve.specs.contracts.Layout.{areaEnd}
 use Rattle.flow.specs.Format.{flowOf}
 use Rattle.calls.specs.contracts.Held.{Summarized, Linked}
-use Rattle.dataflow.specs.Promise.{Written}
+use Rattle.dataflow.specs.Promise.{Written, Solved, Unsolved}
+use Rattle.dataflow.specs.contracts.Transfer.{KeySet}
 
 -- where the words end that finding the edges uses
 abbrev pub edgesEnd : ℕ → ℕ
@@ -43,12 +43,15 @@ pub record FitAreas (s : List ℕ) (h : Header) (masks liveIn liveOut work : Lis
   pub in-room : h .statements ≤ length liveIn
   pub out-room : h .statements ≤ length liveOut
 
-pub record Findings (f : Flow) (masks masks′ liveIn liveIn′ liveOut liveOut′ : List ℕ) (visits : ℕ) : Type 0 where
-  pub left : Solver
-  pub over : Over (doubled f) visits left
-  pub mask-bytes : (i a : ℕ) → i < size f → a < f .arrays → getD masks′ (i * (f .arrays) + a) 0 ≡ maskLeft f left i a
+-- the masks as the queue rule leaves them or, where the handler's body is opaque, as they are without a visit
+pub record MasksFound (f : Flow) (masks masks′ : List ℕ) (visits : ℕ) : Type 0 where
+  pub solved : opaqueHandler f ≡ false → Solved f masks′ visits
+  pub unsolved : opaqueHandler f ≡ true → Unsolved f masks′ visits
   pub masks-size : length masks′ ≡ length masks
   pub masks-kept : (x : ℕ) → size f * (f .arrays) ≤ x → getD masks′ x 0 ≡ getD masks x 0
+
+pub record Findings (f : Flow) (masks masks′ liveIn liveIn′ liveOut liveOut′ : List ℕ) (visits : ℕ) : Type 0 where
+  pub found : MasksFound f masks masks′ visits
   pub live-in : Written (size f) (liveInWord f) liveIn liveIn′
   pub live-out : Written (size f) (liveOutWord f) liveOut liveOut′
 
@@ -62,14 +65,11 @@ pub record SummariesMade (s : List ℕ) (h : Header) (ws : List ℕ) : Type 0 wh
 pub record SolverStart (s : List ℕ) (h : Header) (ws : List ℕ) : Type 0 where
   pub indexed : Indexed s h ws
   pub linked : Linked (flowOf s) ws (h .statements)
+  pub key : KeySet (flowOf s) ws (h .statements) (setWords (h .arrays))
   pub some : 0 < h .statements
   pub zero : (x : ℕ) → queueAt (h .statements) ≤ x → x < areaEnd (h .statements) (setWords (h .arrays)) → getD ws x 0 ≡ 0
 
 -- the masks are written
 pub record Masked (s : List ℕ) (h : Header) (masks masks′ vs : List ℕ) (visits : ℕ) : Type 0 where
   pub ready : Ready s vs (h .statements)
-  pub left : Solver
-  pub over : Over (doubled (flowOf s)) visits left
-  pub bytes : (i a : ℕ) → i < h .statements → a < h .arrays → getD masks′ (i * (h .arrays) + a) 0 ≡ maskLeft (flowOf s) left i a
-  pub masks-size : length masks′ ≡ length masks
-  pub masks-kept : (x : ℕ) → h .statements * (h .arrays) ≤ x → getD masks′ x 0 ≡ getD masks x 0
+  pub found : MasksFound (flowOf s) masks masks′ visits

@@ -4,24 +4,27 @@ use Prim.Native.Nat.{ℕ, _+_, _*_, _<_, _≤_}
 use mathlib.Core.Bool.{Bool, true, cond}
 use mathlib.Core.List.{List, [], _∷_, map}
 use mathlib.Core.Logic.{_⊎_}
+use mathlib.Core.Option.{none, some}
 use mathlib.Core.Path.{_≡_}
 use lib.Bits.{bitOr}
 use lib.Dec.{eqb, ltb}
 use lib.ListN.{getD}
 use Rattle.words.specs.contracts.Row.{has}
+use Rattle.masks.specs.declared.Effect.{Effect}
+use Rattle.flow.specs.declared.Base.the-variants.{N}
 use Rattle.flow.specs.Flow.{Flow}
 use Rattle.theory.specs.Lists.{In, differ}
 use Rattle.theory.specs.Body.{kind, isReturn}
-use Rattle.theory.specs.Doubled.{Edge, node, number, edges, edgeEffects, doubled}
-use Rattle.theory.specs.Queue.{enqueue, brings, stepAll}
+use Rattle.theory.specs.Doubled.{Edge, at, node, number, edges}
+use Rattle.theory.specs.Queue.{Arc, enqueue, brings, stepAll}
 use Rattle.statements.specs.contracts.Layout.{bodiesAt, rowAt, queueAt}
 use Rattle.statements.specs.contracts.Ready.{Keeps}
 use Rattle.calls.specs.contracts.Slots.{toArc}
 use Rattle.solve.specs.declared.Queue.{Queue}
 use Rattle.solve.specs.contracts.Layout.{setRow, outRow, backRow, maskRowAt, settledIn, nodesEnd, sentRowAt, areaEnd}
 use Rattle.solve.specs.contracts.Rows.{maskAt}
-use Rattle.solve.specs.contracts.Waiting.{Waits}
-use Rattle.solve.specs.contracts.Pushed.{masksAt}
+use Rattle.solve.specs.contracts.Waiting.{Waits, Enqueued}
+use Rattle.solve.specs.contracts.Pushed.{masksAt, Grown}
 
 -- where the row of a call's edge stands: that of the statement's act, or the one with the call's own step as well
 abbrev pub edgeRow : ℕ → ℕ → Bool → ℕ
@@ -35,11 +38,11 @@ Sources n w from = ((b : Bool) → (outRow n w ≤ from b) × (from b + 3 * w �
 unfoldable pub masksBelow : ℕ → (ℕ → ℕ) → ℕ → ℕ
 masksBelow count m a = cond (ltb a count) (m a) 0
 
--- the rows of d's edges are made
-pub record Prepared (f : Flow) (ws vs : List ℕ) (n w d : ℕ) (from : Bool → ℕ) : Type 0 where
+-- the rows of d's edges are made, with these effects
+pub record Prepared (f : Flow) (ws vs : List ℕ) (n w d : ℕ) (effects : Edge → ℕ → List Effect) (from : Bool → ℕ) : Type 0 where
   pub keeps : Keeps (setRow n) (maskRowAt n w 0) ws vs
   pub rows : (m : ℕ → ℕ) → ((a : ℕ) → a < 64 * w → masksAt ws n w d a ≡ masksBelow (f .arrays) m a) → (x : Edge) → In x (edges f (node f d)) → (a : ℕ) → a < 64 * w
-      → maskAt vs w (from (x .continues)) a ≡ masksBelow (f .arrays) (λ b. stepAll (edgeEffects f (node f d .stmt) x b) (m b)) a
+      → maskAt vs w (from (x .continues)) a ≡ masksBelow (f .arrays) (λ b. stepAll (effects x b) (m b)) a
 
 -- what the rows of the edges bring to t
 unfoldable pub carried : Flow → List ℕ → ℕ → (Bool → ℕ) → List Edge → ℕ → ℕ → ℕ
@@ -50,6 +53,10 @@ carried f ws w from (x ∷ xs) t a = bitOr (cond (eqb (number f (x .to)) t) (mas
 abbrev pub SettledSet : ℕ → ℕ → List ℕ → List ℕ → Type 0
 SettledSet n w ws vs = (t : ℕ) → t < 2 * n
     → settledIn vs n w t ≡ cond (differ (64 * w) (masksAt vs n w t) (masksAt ws n w t)) 0 (settledIn ws n w t)
+
+-- masks only grow
+abbrev pub Grows : List ℕ → List ℕ → ℕ → ℕ → Type 0
+Grows ws vs n w = (t a : ℕ) → t < 2 * n → a < 64 * w → bitOr (masksAt vs n w t a) (masksAt ws n w t a) ≡ masksAt vs n w t a
 
 -- the rows of the edges xs of statement i are pushed along them
 pub record Sent (f : Flow) (ws vs : List ℕ) (n w : ℕ) (from : Bool → ℕ) (queue : Queue) (i : ℕ) (xs : List Edge) (r : Queue) : Type 0 where
@@ -75,11 +82,26 @@ pub record Goes (f : Flow) (ws vs : List ℕ) (n w : ℕ) (from : Bool → ℕ) 
   pub shared : Shared f vs n w
   pub keeps : Keeps (queueAt n) (areaEnd n w) ws vs
 
--- what d's edges bring of its masks m is joined to every number's
-pub record Sends (f : Flow) (ws vs : List ℕ) (n w : ℕ) (queue : Queue) (d : ℕ) (r : Queue) : Type 0 where
-  pub waits : (l : List ℕ) → Waits ws n w queue l → Waits vs n w r (enqueue (doubled f .arcs d) l)
+-- the edges of d's statement: all that d has, but for the key's
+abbrev pub statementArcs : Flow → ℕ → List Arc
+statementArcs f d = map (toArc f (node f d .stmt)) (edges f (node f d))
+
+-- what these edges of d bring of its masks m is joined to every number's
+pub record Sends (f : Flow) (ws vs : List ℕ) (n w : ℕ) (queue : Queue) (d : ℕ) (arcs : List Arc) (r : Queue) : Type 0 where
+  pub waits : (l : List ℕ) → Waits ws n w queue l → Waits vs n w r (enqueue arcs l)
   pub masks : (m : ℕ → ℕ) → ((a : ℕ) → a < 64 * w → masksAt ws n w d a ≡ masksBelow (f .arrays) m a) → (t a : ℕ) → t < 2 * n → a < 64 * w
-      → masksAt vs n w t a ≡ bitOr (masksAt ws n w t a) (masksBelow (f .arrays) (λ b. brings t b (m b) (doubled f .arcs d)) a)
+      → masksAt vs n w t a ≡ bitOr (masksAt ws n w t a) (masksBelow (f .arrays) (λ b. brings t b (m b) arcs) a)
+  pub grows : Grows ws vs n w
   pub settled : SettledSet n w ws vs
   pub shared : Shared f vs n w
   pub keeps : Keeps (queueAt n) (areaEnd n w) ws vs
+
+-- the masks of d are joined to those of n + the handler, if there is one
+pub data KeyGrown (f : Flow) (ws vs : List ℕ) (n w d : ℕ) : Type 0 where
+  unkeyed : f .handler ≡ none → vs ≡ ws → KeyGrown f ws vs n w d
+  keyed : {e : ℕ} → f .handler ≡ some e → Grown ws vs n w (maskRowAt n w d) (number f (at N e)) → KeyGrown f ws vs n w d
+
+-- that number waits, if there is one
+pub data KeyJoined (f : Flow) (ws vs : List ℕ) (n w : ℕ) (queue r : Queue) : Type 0 where
+  unkeyed : f .handler ≡ none → vs ≡ ws → r ≡ queue → KeyJoined f ws vs n w queue r
+  keyed : {e : ℕ} → f .handler ≡ some e → Enqueued ws vs n w queue (number f (at N e)) r → KeyJoined f ws vs n w queue r

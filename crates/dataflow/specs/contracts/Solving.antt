@@ -4,14 +4,14 @@ use Prim.Native.Nat.{ℕ, _+_, _*_, _<_, _≤_}
 use mathlib.Core.Bool.{cond, not, _&&_}
 use mathlib.Core.List.{List, _∷_}
 use mathlib.Core.Path.{_≡_}
-use lib.ListN.{getD}
+use lib.ListN.{length, getD}
 use Rattle.flow.specs.Flow.{Flow}
-use Rattle.theory.specs.Doubled.{doubled}
+use Rattle.theory.specs.Doubled.{boundary, doubled}
 use Rattle.theory.specs.Queue.{Solver, Course, Over, pulled, changed, visit}
 use Rattle.statements.specs.contracts.Layout.{queueAt}
 use Rattle.statements.specs.contracts.Ready.{Keeps}
 use Rattle.solve.specs.declared.Queue.{Queue}
-use Rattle.solve.specs.contracts.Layout.{settledIn, areaEnd}
+use Rattle.solve.specs.contracts.Layout.{setRow, maskRowAt, settledIn, areaEnd}
 use Rattle.solve.specs.contracts.Waiting.{Waits}
 use Rattle.solve.specs.contracts.Pushed.{masksAt}
 use Rattle.dataflow.specs.contracts.Sent.{masksBelow, Shared}
@@ -39,6 +39,12 @@ pub record VisitsFront (f : Flow) (ws vs : List ℕ) (n w : ℕ) (queue r : Queu
 -- the words from the queue on are zero
 abbrev pub Unused : List ℕ → ℕ → ℕ → Type 0
 Unused ws n w = (x : ℕ) → queueAt n ≤ x → x < areaEnd n w → getD ws x 0 ≡ 0
+
+-- the masks of d are those of the entry; besides them only the set at hand is written
+pub record Begun (f : Flow) (ws vs : List ℕ) (n w d : ℕ) : Type 0 where
+  pub masks : (a : ℕ) → a < 64 * w → masksAt vs n w d a ≡ masksBelow (f .arrays) (boundary f) a
+  pub size : length vs ≡ length ws
+  pub elsewhere : (x : ℕ) → (setRow n ≤ x → x < setRow n + w → ⊥) → (maskRowAt n w d ≤ x → x < maskRowAt n w d + 3 * w → ⊥) → getD vs x 0 ≡ getD ws x 0
 
 -- from an area that is zero from the queue on: the queue rule's course is over after so many visits, and every number has the masks that it leaves
 pub record RuleResult (f : Flow) (ws vs : List ℕ) (n w visits : ℕ) : Type 0 where

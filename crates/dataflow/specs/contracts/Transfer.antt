@@ -2,7 +2,7 @@
 -- what the masks of a row become, array by array, and the sets of arrays by which a row steps. Assumes nothing.
 use Prim.Native.Nat.{ℕ, _+_, _*_, _<_, _≤_, max}
 use mathlib.Core.Bool.{Bool, false, cond, _&&_}
-use mathlib.Core.List.{List}
+use mathlib.Core.List.{List, _++_}
 use mathlib.Core.Logic.{_⊎_}
 use mathlib.Core.Option.{Option, none, some}
 use mathlib.Core.Path.{_≡_}
@@ -10,16 +10,18 @@ use lib.Dec.{ltb}
 use lib.ListN.{length, getD}
 use Rattle.words.specs.contracts.Row.{has}
 use Rattle.masks.specs.declared.Effect.{Effect}
+use Rattle.masks.specs.declared.Effect.the-variants.{Touched}
 use Rattle.flow.specs.declared.Base.{Base}
 use Rattle.flow.specs.declared.Base.the-variants.{N}
 use Rattle.flow.specs.Flow.{Flow}
 use Rattle.theory.specs.Lists.{elem}
 use Rattle.theory.specs.Body.{kind, continuationOf, entered}
-use Rattle.theory.specs.Doubled.{sameBase, statementEffects}
+use Rattle.theory.specs.Key.{handlerTouches}
+use Rattle.theory.specs.Doubled.{sameBase, statementEffects, keyEffects}
 use Rattle.theory.specs.Queue.{stepAll}
 use Rattle.statements.specs.contracts.Ready.{Keeps}
-use Rattle.solve.specs.contracts.Layout.{setRow, maskRowAt}
-use Rattle.solve.specs.contracts.Rows.{maskAt, stepWhere}
+use Rattle.solve.specs.contracts.Layout.{setRow, outRow, backRow, maskRowAt, keyAt}
+use Rattle.solve.specs.contracts.Rows.{maskAt, stepWhere, member as inSet}
 use Rattle.solve.specs.contracts.Pushed.{masksAt}
 
 -- vs is ws with the arrays that pass the test as the set at word `set`, of w words
@@ -59,7 +61,21 @@ isEntered f i (some k) = elem k (entered f i)
 abbrev pub entersAgain : Flow → Base → ℕ → Bool
 entersAgain f b i = sameBase b N && isEntered f i (continuationOf (kind f i))
 
--- the act of statement i on the masks of d is in the row at `row`
-pub record Acted (f : Flow) (ws vs : List ℕ) (n w d i row : ℕ) : Type 0 where
+-- the masks of d with these effects are in the row at `row`
+pub record Acted (f : Flow) (ws vs : List ℕ) (n w d : ℕ) (effects : ℕ → List Effect) (row : ℕ) : Type 0 where
   pub keeps : Keeps (setRow n) (maskRowAt n w 0) ws vs
-  pub masks : (a : ℕ) → a < 64 * w → maskAt vs w row a ≡ acted (f .arrays) (statementEffects f i) (masksAt ws n w d) a
+  pub masks : (a : ℕ) → a < 64 * w → maskAt vs w row a ≡ acted (f .arrays) effects (masksAt ws n w d) a
+
+-- the effects of statement i, and last the handler's touched step
+abbrev pub plainEffects : Flow → ℕ → ℕ → List Effect
+plainEffects f i a = statementEffects f i a ++ keyEffects f a
+
+-- where there is a handler, the arrays that its body touches stand behind the solver's words
+pub record KeySet (f : Flow) (ws : List ℕ) (n w : ℕ) : Type 0 where
+  pub member : (e : ℕ) → f .handler ≡ some e → (a : ℕ) → a < 64 * w → has ws (keyAt n w) a ≡ cond (handlerTouches f a) 1 0
+
+-- both rows of the statement at hand have taken the handler's touched step
+pub record KeyStepped (ws vs : List ℕ) (n w : ℕ) : Type 0 where
+  pub keeps : Keeps (outRow n w) (maskRowAt n w 0) ws vs
+  pub out : (a : ℕ) → a < 64 * w → maskAt vs w (outRow n w) a ≡ stepWhere (inSet ws (keyAt n w)) Touched (maskAt ws w (outRow n w)) a
+  pub back : (a : ℕ) → a < 64 * w → maskAt vs w (backRow n w) a ≡ stepWhere (inSet ws (keyAt n w)) Touched (maskAt ws w (backRow n w)) a

@@ -4,13 +4,20 @@ use Prim.Native.Nat.{ℕ, _+_, _≤_}
 use mathlib.Core.Bool.{Bool, true, false}
 use mathlib.Core.Path.{_≡_}
 use mathlib.Core.List.{List}
+use mathlib.Core.Option.{Option, none, some}
 use lib.ListN.{length}
+use Rattle.flow.specs.declared.Handler.{Handler}
+use Rattle.flow.specs.declared.Handler as H
 use Rattle.flow.specs.declared.Header.{Header}
 use Rattle.flow.specs.declared.Checked.{Checked}
 use Rattle.flow.specs.declared.Checked as C
 use Rattle.flow.specs.declared.Passed.{Passed}
 use Rattle.flow.specs.declared.Passed as P
-use Rattle.flow.specs.Format.{Verdict, fit, unfit, verdict, fileChecks, recordChecks, statementsOf, arraysOf, namesOf, entryOf, linesPlace, lineCount}
+use Rattle.flow.specs.Format.{Verdict, fit, unfit, verdict, fileChecks, recordChecks, statementsOf, arraysOf, namesOf, entryOf, linesPlace, lineCount, handlerOf}
+
+abbrev pub handlerFrom : Option ℕ → Handler
+handlerFrom none = H.the-variants.None
+handlerFrom (some i) = H.the-variants.At (record { 0 = i })
 
 abbrev pub headerOf : List ℕ → Header
 headerOf s = record {
@@ -20,6 +27,7 @@ headerOf s = record {
   entry = record { 0 = entryOf s };
   «lines_at» = linesPlace s;
   lines = lineCount s;
+  handler = handlerFrom (handlerOf s);
 }
 
 abbrev pub passedOf : Verdict → ℕ → Passed

@@ -1,5 +1,5 @@
 -- The words of the solver in the work area of a flow of n statements whose sets of arrays have w words: a set of arrays and two rows of masks for the statement at hand; then for each doubled
--- number a row of masks and a word of state, which says whether the number waits and whether it is settled; then a row of masks for each statement, of what the RETURNs that it leads have sent.
+-- number a row of masks and a word of state, which says whether the number waits and whether it is settled; then a row of masks for each statement, of what the RETURNs that it leads have sent; then the handler's set of arrays.
 -- A row of masks is three sets of arrays.
 use Prim.Native.Nat.{ℕ, _+_, _*_, _/_, _%_}
 use mathlib.Core.List.{List}
@@ -46,6 +46,10 @@ nodesEnd n w = maskRowsEnd n w (2 * n)
 abbrev pub sentRowAt : ℕ → ℕ → ℕ → ℕ
 sentRowAt n w i = nodesEnd n w + 3 * (w * i)
 
--- the words that are used
+-- the words that the solver writes
 abbrev pub areaEnd : ℕ → ℕ → ℕ
 areaEnd n w = sentRowAt n w n
+
+-- behind them stand the arrays that the handler's body touches: w words, which the solver only reads
+abbrev pub keyAt : ℕ → ℕ → ℕ
+keyAt n w = areaEnd n w

@@ -26,6 +26,10 @@ pub record RowIs (ws vs : List ℕ) (w row : ℕ) (m : ℕ → ℕ) : Type 0 whe
 abbrev pub Beside : ℕ → ℕ → ℕ → Type 0
 Beside w to from = ((to + 3 * w ≤ from) ⊎ (from + 3 * w ≤ to)) ⊎ (to ≡ from)
 
+-- a set of w words lies before the row, or behind it
+abbrev pub Aside : ℕ → ℕ → ℕ → Type 0
+Aside w set to = (set + w ≤ to) ⊎ (to + 3 * w ≤ set)
+
 -- the arrays that pass the test take the effect
 unfoldable pub stepWhere : (ℕ → Bool) → Effect → (ℕ → ℕ) → ℕ → ℕ
 stepWhere p e m a = cond (p a) (stepOf e (m a)) (m a)

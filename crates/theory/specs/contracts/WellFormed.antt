@@ -15,3 +15,4 @@ pub record WellFormed (f : Flow) : Type 0 where
   pub first : (l e : ℕ) → enters f l ≡ some e → e < size f
   pub reference : (i a : ℕ) → In a (references f i) → a < f .arrays
   pub dimmed : (i : ℕ) (items : List Item) (x : Item) → kind f i ≡ Kind.dim items → In x items → x .array < f .arrays
+  pub handler : (h : ℕ) → f .handler ≡ some h → h < size f

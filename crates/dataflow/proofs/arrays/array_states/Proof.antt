@@ -15,14 +15,11 @@ use Rattle.statements.specs.contracts.Layout.{queueAt, setWords, maxWidth}
 use Rattle.statements.specs.contracts.Ready.{Keeps}
 use Rattle.statements.proofs.Keeps.{ready-most, keeps-trans, ready-size}
 use Rattle.statements.proofs.WellFormed.{well-formed, arrays-is, entry-is}
-use lib.Dec.{ltb}
-use Rattle.masks.specs.declared.Effect.the-variants.{Reset}
-use Rattle.solve.specs.contracts.Layout.{setRow, outRow, maskRowAt, areaEnd}
+use Rattle.solve.specs.contracts.Layout.{areaEnd}
 use Rattle.solve.proofs.Room.{nodes-within, solver-room}
-use Rattle.dataflow.specs.contracts.Transfer.{RowSteps}
+use Rattle.dataflow.specs.contracts.Transfer.{KeySet}
 use Rattle.dataflow.specs.contracts.Solving.{Unused, RuleResult}
-use Rattle.dataflow.proofs.Sets.{steps-at, entry-apart}
-use Rattle.dataflow.proofs.Kept.{indexed-stays, linked-stays}
+use Rattle.dataflow.proofs.Kept.{indexed-stays, linked-stays, key-stays}
 use Rattle.dataflow.proofs.Few.{visits-few}
 use Rattle.dataflow.proofs.Running.{first-waits, starts, starts-keeps, Running, running-on, running-bound, running-ends}
 use borrow.Author.Needs.{needs}
@@ -60,7 +57,7 @@ entry c =
 within : (c : tie.Start Inv-loop μ-loop) → c .args .h .entry .0 < c .args .h .statements
 within c =
     let size = ready-size (c .pre .0 .ready) in
-    let h = well-formed (c .pre .0 .ready .fit) .entry (subst (λ (k : ℕ). 0 < k) (sym size) (c .pre .2)) in
+    let h = well-formed (c .pre .0 .ready .fit) .entry (subst (λ (k : ℕ). 0 < k) (sym size) (c .pre .3)) in
     omega (arith, ap (λ h. h .entry .0) (c .pre .0 .header) ∙ sym (entry-is (now (c .args .file))))
 
 below : (c : tie.After-node Inv-loop μ-loop) → c .node .result .0 < c .before .before .before .before .args .h .statements
@@ -76,94 +73,74 @@ node-requires c κs =
     let s = c .before .before .before in
     (ready-most (s .pre .0 .ready), within s)
 
-set-row-requires : tie.Need-set-row-requires Inv-loop μ-loop
-set-row-requires c κs = ready-most (c .before .before .before .before .before .pre .0 .ready)
-
-mask-row-requires : tie.Need-mask-row-requires Inv-loop μ-loop
-mask-row-requires c κs = (ready-most (c .before .before .before .before .before .before .pre .0 .ready), narrow (c .before .before .before), omega (arith, below (c .before .before)))
-
-out-row-requires : tie.Need-out-row-requires Inv-loop μ-loop
-out-row-requires c κs = (ready-most (c .before .before .before .before .before .before .before .pre .0 .ready), narrow (c .before .before .before .before))
-
-reset-row-requires : tie.Need-reset-row-requires Inv-loop μ-loop
-reset-row-requires c κs =
-    let s = c .before .before .before .before .before .before .before .before in (
-      limit s,
-      narrow (c .before .before .before .before .before),
-      entry-apart (now (s .args .work)) (s .args .h .statements) (c .before .before .before .before .before .set-words .result) (c .before .before .before .before .node .result .0)
-          (solver-room (s .pre .0 .ready) (s .pre .2) (narrow (c .before .before .before .before .before))) (omega (arith, below (c .before .before .before .before))) (c .before .before .set-row .ensures) (c .before .mask-row .ensures) (c .out-row .ensures),
-    )
-
--- the row of the entry, by the places that were found
-entered : (c : tie.After-reset-row Inv-loop μ-loop) → let a = c .before .before .before .before .before .before .before .before .before .args in
-    RowSteps (now (a .work)) (c .reset-row .last .0) (c .before .before .before .before .before .before .set-words .result) (setRow (a .h .statements)) (maskRowAt (a .h .statements) (c .before .before .before .before .before .before .set-words .result) (c .before .before .before .before .before .node .result .0))
-    (outRow (a .h .statements) (c .before .before .before .before .before .before .set-words .result)) (λ b. ltb b (a .h .arrays)) Reset
-entered c = steps-at (c .before .before .before .set-row .ensures) (c .before .before .mask-row .ensures) (c .before .out-row .ensures) (c .reset-row .ensures)
-
 -- the solver's words are zero, as wide as they are found to be
 unused : (c : tie.After-set-words Inv-loop μ-loop) → Unused (now (c .before .before .before .args .work)) (c .before .before .before .args .h .statements) (c .set-words .result)
-unused c = let s = c .before .before .before in subst (Unused (now (s .args .work)) (s .args .h .statements)) (sym (c .set-words .ensures)) (s .pre .3)
+unused c = let s = c .before .before .before in subst (Unused (now (s .args .work)) (s .args .h .statements)) (sym (c .set-words .ensures)) (s .pre .4)
+
+-- and so is the handler's set
+keyed : (c : tie.After-set-words Inv-loop μ-loop) → KeySet (flowOf (now (c .before .before .before .args .file))) (now (c .before .before .before .args .work)) (c .before .before .before .args .h .statements) (c .set-words .result)
+keyed c = let s = c .before .before .before in subst (KeySet (flowOf (now (s .args .file))) (now (s .args .work)) (s .args .h .statements)) (sym (c .set-words .ensures)) (s .pre .2)
+
+begin-requires : tie.Need-begin-requires Inv-loop μ-loop
+begin-requires c κs =
+    let s = c .before .before .before .before .before in
+    (c .before .before .set-words .ensures, s .pre .0, keyed (c .before .before), omega (arith, below (c .before)), unused (c .before .before))
 
 enqueue-requires : tie.Need-enqueue-requires Inv-loop μ-loop
 enqueue-requires c κs =
-    let s = c .before .before .before .before .before .before .before .before .before .before .before .before in
-    let m = c .before .before .before .before .before .before .before .before in
+    let s = c .before .before .before .before .before .before .before .before .before in
+    let m = c .before .before .before .before .before in
     let n : ℕ = s .args .h .statements in
-    let room = solver-room (s .pre .0 .ready) (s .pre .2) (narrow (c .before .before .before .before .before .before .before .before .before)) in
-    let end = nodes-within n (c .before .before .before .before .before .before .before .before .before .set-words .result) in
-    let size = c .before .before .before .reset-row .ensures .size in (
+    let room = solver-room (s .pre .0 .ready) (s .pre .3) (narrow (c .before .before .before .before .before .before)) in
+    let end = nodes-within n (c .before .before .before .before .before .before .set-words .result) in
+    let size = c .before .before .before .begin .ensures .size in (
       ready-most (s .pre .0 .ready),
-      narrow (c .before .before .before .before .before .before .before .before .before),
+      narrow (c .before .before .before .before .before .before),
       omega arith,
       omega (arith, below m),
-      (
-        [],
-        first-waits (flowOf (now (s .args .file))) n (c .before .before .before .before .before .before .before .before .before .set-words .result) _ _ (m .node .result .0) (s .args .h .arrays) (ready-size (s .pre .0 .ready)) (s .pre .2) (unused (c .before .before .before .before .before .before .before .before .before))
-            (entry m) (below m) (count s) (entered (c .before .before .before)),
-      ),
+      ([], first-waits (flowOf (now (s .args .file))) n (c .before .before .before .before .before .before .set-words .result) _ _ (m .node .result .0) (ready-size (s .pre .0 .ready)) (s .pre .3) (unused (c .before .before .before .before .before .before)) (entry m) (below m) (c .before .before .before .begin .ensures)),
     )
 
 -- the area where the visits begin
 
-beside : (c : tie.After-enqueue Inv-loop μ-loop) → let a = c .before .before .before .before .before .before .before .before .before .before .before .before .before .args in Keeps (queueAt (a .h .statements)) (areaEnd (a .h .statements) (c .before .before .before .before .before .before .before .before .before .before .set-words .result)) (now (a .work)) (c .enqueue .last .0)
+beside : (c : tie.After-enqueue Inv-loop μ-loop) → let a = c .before .before .before .before .before .before .before .before .before .before .args in Keeps (queueAt (a .h .statements)) (areaEnd (a .h .statements) (c .before .before .before .before .before .before .before .set-words .result)) (now (a .work)) (c .enqueue .last .0)
 beside c =
-    let s = c .before .before .before .before .before .before .before .before .before .before .before .before .before in
-    let m = c .before .before .before .before .before .before .before .before .before in
-    starts-keeps (flowOf (now (s .args .file))) (s .args .h .statements) (c .before .before .before .before .before .before .before .before .before .before .set-words .result) _ _ (m .node .result .0) (s .args .h .arrays) (ready-size (s .pre .0 .ready)) (s .pre .2) (unused (c .before .before .before .before .before .before .before .before .before .before))
-    (entry m) (below m) (count s) (entered (c .before .before .before .before)) _ _ (c .enqueue .ensures)
+    let s = c .before .before .before .before .before .before .before .before .before .before in
+    let m = c .before .before .before .before .before .before in
+    starts-keeps (flowOf (now (s .args .file))) (s .args .h .statements) (c .before .before .before .before .before .before .before .set-words .result) _ _ (m .node .result .0) (ready-size (s .pre .0 .ready)) (s .pre .3) (unused (c .before .before .before .before .before .before .before)) (entry m) (below m) (c .before .before .before .before .begin .ensures) _ _ (c .enqueue .ensures)
 
-begins : (c : tie.After-enqueue Inv-loop μ-loop) → let a = c .before .before .before .before .before .before .before .before .before .before .before .before .before .args in Running (flowOf (now (a .file))) (a .h .statements) (c .before .before .before .before .before .before .before .before .before .before .set-words .result) (c .enqueue .last .0) (c .enqueue .last .0) (c .enqueue .result) 0
+begins : (c : tie.After-enqueue Inv-loop μ-loop) → let a = c .before .before .before .before .before .before .before .before .before .before .args in Running (flowOf (now (a .file))) (a .h .statements) (c .before .before .before .before .before .before .before .set-words .result) (c .enqueue .last .0) (c .enqueue .last .0) (c .enqueue .result) 0
 begins c =
-    let s = c .before .before .before .before .before .before .before .before .before .before .before .before .before in
-    let m = c .before .before .before .before .before .before .before .before .before in
-    starts (flowOf (now (s .args .file))) (s .args .h .statements) (c .before .before .before .before .before .before .before .before .before .before .set-words .result) _ _ (m .node .result .0) (s .args .h .arrays) (ready-size (s .pre .0 .ready)) (s .pre .2) (unused (c .before .before .before .before .before .before .before .before .before .before))
-    (entry m) (below m) (count s) (entered (c .before .before .before .before)) _ _ (c .enqueue .ensures) (linked-stays (beside c) (s .pre .1))
+    let s = c .before .before .before .before .before .before .before .before .before .before in
+    let m = c .before .before .before .before .before .before in
+    starts (flowOf (now (s .args .file))) (s .args .h .statements) (c .before .before .before .before .before .before .before .set-words .result) _ _ (m .node .result .0) (ready-size (s .pre .0 .ready)) (s .pre .3) (unused (c .before .before .before .before .before .before .before)) (entry m) (below m) (c .before .before .before .before .begin .ensures) _ _ (c .enqueue .ensures)
+    (linked-stays (beside c) (s .pre .1))
 
 loop-holds : tie.Need-loop-holds Inv-loop μ-loop
 loop-holds c = begins (c .before .before)
 
 visit-requires : tie.Need-visit-requires Inv-loop μ-loop
 visit-requires c κs =
-    let s = c .before .before .before .before .before .before .before .before .before .before .before .before .before .before .before .before .before .before .before in
+    let s = c .before .before .before .before .before .before .before .before .before .before .before .before .before .before .before .before in
     let x = c .before .before .before .loop .inv in
     let keeps = keeps-trans (beside (c .before .before .before .before .before .before)) (x .keeps) in
-    (c .before .before .before .before .before .before .before .before .before .before .before .before .before .before .before .before .set-words .ensures, indexed-stays keeps (s .pre .0), linked-stays keeps (s .pre .1), s .pre .2, c .before .if1 .taken, x .underway)
+    (c .before .before .before .before .before .before .before .before .before .before .before .before .before .set-words .ensures, indexed-stays keeps (s .pre .0), linked-stays keeps (s .pre .1), key-stays keeps (keyed (c .before .before .before .before .before .before .before .before .before .before .before .before .before)), s .pre .3, c .before .if1 .taken, x .underway)
 
 -- every array of the flow has its place in a set of that width
 wide : (c : tie.After-set-words Inv-loop μ-loop) → flowOf (now (c .before .before .before .args .file)) .arrays ≤ 64 * c .set-words .result
 wide c = let all = few (c .before .before .before) in omega (arith, c .set-words .ensures)
 
-bound : (c : tie.Then1 Inv-loop μ-loop) → c .before .before .loop .visits < visitBound (doubled (flowOf (now (c .before .before .before .before .before .before .before .before .before .before .before .before .before .before .before .before .before .before .args .file))))
+bound : (c : tie.Then1 Inv-loop μ-loop) → c .before .before .loop .visits < visitBound (doubled (flowOf (now (c .before .before .before .before .before .before .before .before .before .before .before .before .before .before .before .args .file))))
 bound c =
-    let s = c .before .before .before .before .before .before .before .before .before .before .before .before .before .before .before .before .before .before in
-    let h = running-bound (well-formed (s .pre .0 .ready .fit)) (ready-size (s .pre .0 .ready)) (s .pre .2) (wide (c .before .before .before .before .before .before .before .before .before .before .before .before .before .before .before)) (c .before .before .loop .visits) (c .before .before .loop .inv) in
+    let s = c .before .before .before .before .before .before .before .before .before .before .before .before .before .before .before in
+    let h = running-bound (well-formed (s .pre .0 .ready .fit)) (ready-size (s .pre .0 .ready)) (s .pre .3) (wide (c .before .before .before .before .before .before .before .before .before .before .before .before)) (c .before .before .loop .visits) (c .before .before .loop .inv) in
     let some = c .if1 .taken in
     omega (arith, h, some)
 
 add-visits : tie.Need-add-visits Inv-loop μ-loop
 add-visits c =
     let h = bound (c .before .before .before .before) in
-    let k = visits-few (c .before .before .before .before .before .before .before .before .before .before .before .before .before .before .before .before .before .before .before .before .before .before .pre .0 .ready) in
+    let k = visits-few (c .before .before .before .before .before .before .before .before .before .before .before .before .before .before .before .before .before .before .before .pre .0 .ready) in
     omega (arith, h, k)
 
 loop-less : tie.Need-loop-less Inv-loop μ-loop
@@ -179,10 +156,10 @@ same-length c = c .before .before .loop .inv .keeps .size ∙ beside (c .before 
 
 returns : tie.Need-returns Inv-loop μ-loop
 returns c =
-    let s = c .before .before .before .before .before .before .before .before .before .before .before .before .before .before .before .before .before .before in
+    let s = c .before .before .before .before .before .before .before .before .before .before .before .before .before .before .before in
     let none = c .if1 .left in
-    let x = running-ends (well-formed (s .pre .0 .ready .fit)) (ready-size (s .pre .0 .ready)) (s .pre .2) (wide (c .before .before .before .before .before .before .before .before .before .before .before .before .before .before .before)) (c .before .before .loop .visits) (c .before .before .loop .inv) (omega (arith, none)) in
-    subst (λ (w : ℕ). RuleResult (flowOf (now (s .args .file))) (now (s .args .work)) (c .before .before .loop .work) (s .args .h .statements) w (c .before .before .loop .visits)) (c .before .before .before .before .before .before .before .before .before .before .before .before .before .before .before .set-words .ensures)
+    let x = running-ends (well-formed (s .pre .0 .ready .fit)) (ready-size (s .pre .0 .ready)) (s .pre .3) (wide (c .before .before .before .before .before .before .before .before .before .before .before .before)) (c .before .before .loop .visits) (c .before .before .loop .inv) (omega (arith, none)) in
+    subst (λ (w : ℕ). RuleResult (flowOf (now (s .args .file))) (now (s .args .work)) (c .before .before .loop .work) (s .args .h .statements) w (c .before .before .loop .visits)) (c .before .before .before .before .before .before .before .before .before .before .before .before .set-words .ensures)
     (record { left = x .left; over = x .over; masks = x .masks; keeps = keeps-trans (beside (c .before .before .before .before .before)) (x .keeps) })
 
 pub array-states-spec : {M : Type 1} → statement M
@@ -193,10 +170,7 @@ array-states-spec =
     μ-loop
     set-words-requires
     node-requires
-    set-row-requires
-    mask-row-requires
-    out-row-requires
-    reset-row-requires
+    begin-requires
     enqueue-requires
     loop-holds
     visit-requires

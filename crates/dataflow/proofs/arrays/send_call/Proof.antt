@@ -46,7 +46,7 @@ enters-again-requires : tie.Need-enters-again-requires
 enters-again-requires c κs = let call = c .before .call-of .ensures in in-row (c .before .call-of .result .row) (continuation-in (c .before .before .before .before .before) (call .continues)) (call .room)
 
 call-rows-requires : tie.Need-call-rows-requires
-call-rows-requires c κs = let s = c .before .before .before .before .before .before .before in (s .pre .0, s .pre .1, s .pre .2, s .pre .3, s .pre .4, ap (λ (v : Node). v .stmt) (s .pre .5), s .pre .6, s .pre .7, c .before .enters-again .ensures ∙ again-is (s .args .base) (c .before .before .before .call-of .ensures) (continuation-in s (c .before .before .before .call-of .ensures .continues)) ∙ ap (λ (v : Node). entersAgain (flowOf (now (s .args .file))) (v .base) (s .args .i .0)) (s .pre .5))
+call-rows-requires c κs = let s = c .before .before .before .before .before .before .before in (s .pre .0, s .pre .1, s .pre .2, s .pre .3, s .pre .4, s .pre .5, ap (λ (v : Node). v .stmt) (s .pre .6), s .pre .7, s .pre .8, c .before .enters-again .ensures ∙ again-is (s .args .base) (c .before .before .before .call-of .ensures) (continuation-in s (c .before .before .before .call-of .ensures .continues)) ∙ ap (λ (v : Node). entersAgain (flowOf (now (s .args .file))) (v .base) (s .args .i .0)) (s .pre .6))
 
 -- while the rows are made, only words behind the queue are written
 beside : (c : tie.After-call-rows) → let a = c .before .before .before .before .before .before .before .before .args in Keeps (queueAt (a .h .statements)) (maskRowAt (a .h .statements) (a .width) 0) (now (a .work)) (c .call-rows .last .1 .1 .0)
@@ -58,17 +58,17 @@ push-call-requires c κs =
     let rows = c .before .before .before .call-rows in
     let keeps = beside (c .before .before .before) in
     let linked = linked-stays keeps (s .pre .2) in
-    let call = call-stays keeps (ready-size (s .pre .1 .ready)) (s .pre .6) (c .before .before .before .before .before .before .before .call-of .ensures) in
+    let call = call-stays keeps (ready-size (s .pre .1 .ready)) (s .pre .7) (c .before .before .before .before .before .before .before .call-of .ensures) in
     let f = flowOf (now (s .args .file)) in
     let i = s .args .i .0 in
     let most = limited (s .pre .1 .ready .fit) .arrays in (
       omega (arith, s .pre .0, ap (λ h. h .arrays) (s .pre .1 .header)),
       indexed-stays keeps (s .pre .1),
-      s .pre .4,
-      s .pre .6,
+      s .pre .5,
+      s .pre .7,
       call,
-      λ many. linked .orders i (s .pre .6) (and-true (transparentCall f i) (ltb 1 (length (callLines (kind f i)))) (s .pre .7) (lt-ltb 1 (length (callLines (kind f i))) (omega (arith, call .lines)))),
-      (_, beside-waits (now (s .args .work)) (rows .last .1 .1 .0) (s .args .h .statements) (s .args .width) (rows .ensures .keeps) (s .pre .9 .1)),
+      λ many. linked .orders i (s .pre .7) (and-true (transparentCall f i) (ltb 1 (length (callLines (kind f i)))) (s .pre .8) (lt-ltb 1 (length (callLines (kind f i))) (omega (arith, call .lines)))),
+      (_, beside-waits (now (s .args .work)) (rows .last .1 .1 .0) (s .args .h .statements) (s .args .width) (rows .ensures .keeps) (s .pre .10 .1)),
     )
 
 same-length : tie.Need-same-length
@@ -79,10 +79,10 @@ returns c =
     let s = c .before .before .before .before .before .before .before .before .before .before .before .before .before .before in
     let f = flowOf (now (s .args .file)) in
     let n = s .args .h .statements in
-    let says = call-says f (s .args .i .0) (s .pre .7) in
+    let says = call-says f (s .args .i .0) (s .pre .8) in
     let rows = c .before .before .before .before .before .before .call-rows in
-    let shared = beside-shared (now (s .args .work)) (rows .last .1 .1 .0) n (s .args .width) (rows .ensures .keeps) (s .pre .8) in
-    sends (s .pre .5) refl (rows .ensures)
+    let shared = beside-shared (now (s .args .work)) (rows .last .1 .1 .0) n (s .args .width) (rows .ensures .keeps) (s .pre .9) in
+    sends (s .pre .6) refl (rows .ensures)
     (goes-sent shared
     (subst (λ (xs : List (Option Edge)). Sent f (rows .last .1 .1 .0) (c .before .before .push-call .last .1 .1 .0) n (s .args .width) (edgeRow n (s .args .width)) (s .args .first) (s .args .i .0) (present xs) (c .before .before .push-call .result))
     (sym (slots-call f (s .args .base) (s .args .i .0) (c .before .before .before .before .before .before .before .before .before .before .call-of .result .continuation .0) (c .before .before .before .before .before .before .before .before .before .before .call-of .ensures .continues) (says .2))) (c .before .before .push-call .ensures)))

@@ -8,6 +8,7 @@ use denote.Ref.{now}
 use lib.ListN.{length}
 use Rattle.flow.specs.Format.{flowOf}
 use Rattle.records.proofs.Files.{limited}
+use Rattle.theory.specs.Doubled.{doubled}
 use Rattle.statements.specs.contracts.Layout.{queueAt, maxWidth}
 use Rattle.statements.specs.contracts.Ready.{Keeps}
 use Rattle.statements.proofs.Keeps.{ready-most, keeps-trans, keeps-widen, ready-size}
@@ -18,7 +19,7 @@ use Rattle.solve.proofs.Room.{row-from, row-fits, nodes-room, nodes-within}
 use Rattle.solve.proofs.Waiting.{rest-keeps}
 use Rattle.dataflow.specs.contracts.Sent.{Sends}
 use Rattle.dataflow.specs.contracts.Solving.{VisitsFront}
-use Rattle.dataflow.proofs.Kept.{indexed-stays, linked-stays}
+use Rattle.dataflow.proofs.Kept.{indexed-stays, linked-stays, key-stays}
 use Rattle.dataflow.proofs.Visiting.{underway-front, is-front, front-in, settled-at, note-keeps, noted-waits, noted-shared, visits-settled, visits-sent}
 use borrow.Author.Needs.{needs}
 use Rattle.dataflow.proofs.arrays.visit.Statement.{statement}
@@ -30,16 +31,16 @@ narrow : (c : tie.Start) → c .args .width ≤ maxWidth
 narrow c = let most = limited (c .pre .1 .ready .fit) .arrays in omega (arith, c .pre .0, ap (λ h. h .arrays) (c .pre .1 .header))
 
 room : (c : tie.Start) → nodesEnd (c .args .h .statements) (c .args .width) ≤ length (now (c .args .work))
-room c = nodes-room (c .pre .1 .ready) (c .pre .3) (narrow c)
+room c = nodes-room (c .pre .1 .ready) (c .pre .4) (narrow c)
 
 few : (c : tie.Start) → flowOf (now (c .args .file)) .arrays ≤ 64 * c .args .width
 few c = omega (arith, c .pre .0, ap (λ h. h .arrays) (c .pre .1 .header), arrays-is (now (c .args .file)))
 
 take-requires : tie.Need-take-requires
-take-requires c κs = let s = c .before .before .before in (ready-most (s .pre .1 .ready), narrow s, room s, s .pre .4, (s .pre .5 .state .waiting, s .pre .5 .solving .waits))
+take-requires c κs = let s = c .before .before .before in (ready-most (s .pre .1 .ready), narrow s, room s, s .pre .5, (s .pre .6 .state .waiting, s .pre .6 .solving .waits))
 
 rest-requires : tie.Need-rest-requires
-rest-requires c κs = let s = c .before .before .before .before .before .before in (ready-most (s .pre .1 .ready), s .pre .4, s .pre .5 .solving .waits .front)
+rest-requires c κs = let s = c .before .before .before .before .before .before in (ready-most (s .pre .1 .ready), s .pre .5, s .pre .6 .solving .waits .front)
 
 -- the front of a state that is under way is the number taken
 
@@ -49,8 +50,8 @@ taken-room c = let size = c .take .ensures .kept .size in omega (arith, room (c 
 below : (c : tie.After-take) → c .take .result .0 < 2 * c .before .before .before .before .args .h .statements
 below c =
     let s = c .before .before .before .before in
-    let u = s .pre .5 in
-    let front = underway-front u (s .pre .4) in
+    let u = s .pre .6 in
+    let front = underway-front u (s .pre .5) in
     let wf = well-formed (s .pre .1 .ready .fit) in
     subst (λ (d : ℕ). d < 2 * s .args .h .statements)
     (sym (is-front wf (ready-size (s .pre .1 .ready)) (few s) u (front .0) (front .1) (front .2) (c .take .ensures)))
@@ -63,8 +64,8 @@ settle-requires c κs = let s = c .before .before .before .before .before .befor
 beside : (c : tie.After-settle) → let a = c .before .before .before .before .before .before .before .before .before .args in Keeps (queueAt (a .h .statements)) (nodesEnd (a .h .statements) (a .width)) (now (a .work)) (c .settle .last .0)
 beside c =
     let s = c .before .before .before .before .before .before .before .before .before in
-    let u = s .pre .5 in
-    let front = underway-front u (s .pre .4) in
+    let u = s .pre .6 in
+    let front = underway-front u (s .pre .5) in
     let wf = well-formed (s .pre .1 .ready .fit) in
     let low = row-from (s .args .h .statements) (s .args .width) (c .before .before .before .before .before .take .result .0) in
     let fits = row-fits (s .args .h .statements) (s .args .width) (below (c .before .before .before .before .before)) in
@@ -82,7 +83,7 @@ returns c =
     let s = c .before .before .before .before .before .before .before .before .before .before .before .before in
     let taken = c .before .before .before .before .before .before .before .before .take .ensures in (
       λ u.
-          let front = underway-front u (s .pre .4) in
+          let front = underway-front u (s .pre .5) in
           let wf = well-formed (s .pre .1 .ready .fit) in
           let still = not-true _ (sym (settled-at wf (ready-size (s .pre .1 .ready)) (few s) u (front .0) (front .1) (front .2) taken (c .before .before .before .settle .ensures .0)) ∙ c .if1 .taken) in
           subst (λ r. VisitsFront (flowOf (now (s .args .file))) (now (s .args .work)) (c .before .before .before .settle .last .0) (s .args .h .statements) (s .args .width) (s .args .first) r u)
@@ -94,13 +95,14 @@ returns c =
 send-requires : tie.Need-send-requires
 send-requires c κs =
     let s = c .before .before .before .before .before .before .before .before .before .before .before .before .before in
-    let u = s .pre .5 in
-    let front = underway-front u (s .pre .4) in
+    let u = s .pre .6 in
+    let front = underway-front u (s .pre .5) in
     let wf = well-formed (s .pre .1 .ready .fit) in
     let keeps = beside (c .before .before .before .before) in (
       s .pre .0,
       indexed-stays keeps (s .pre .1),
       linked-stays keeps (s .pre .2),
+      key-stays (wide (c .before .before .before .before)) (s .pre .3),
       below (c .before .before .before .before .before .before .before .before .before),
       noted-shared wf (ready-size (s .pre .1 .ready)) (few s) u (front .0) (front .1) (front .2) (c .before .before .before .before .before .before .before .before .before .take .ensures) (c .before .before .before .before .settle .ensures .1) (taken-room (c .before .before .before .before .before .before .before .before .before)),
       (
@@ -121,9 +123,9 @@ returns-2 c =
     let taken = c .before .before .before .before .before .before .before .before .before .before .before .before .take .ensures in
     let wf = well-formed (s .pre .1 .ready .fit) in
     let end = nodes-within n (s .args .width) in
-    let sent = subst (λ r. Sends f (c .before .before .before .before .before .before .before .settle .last .0) (c .before .before .send .last .1 .1 .0) n (s .args .width) r (c .before .before .before .before .before .before .before .before .before .before .before .before .take .result .0) (c .before .before .send .result)) (c .before .before .before .before .before .before .before .before .before .rest .ensures) (c .before .before .send .ensures) in (
+    let sent = subst (λ r. Sends f (c .before .before .before .before .before .before .before .settle .last .0) (c .before .before .send .last .1 .1 .0) n (s .args .width) r (c .before .before .before .before .before .before .before .before .before .before .before .before .take .result .0) (doubled f .arcs (c .before .before .before .before .before .before .before .before .before .before .before .before .take .result .0)) (c .before .before .send .result)) (c .before .before .before .before .before .before .before .before .before .rest .ensures) (c .before .before .send .ensures) in (
       λ u.
-          let front = underway-front u (s .pre .4) in
+          let front = underway-front u (s .pre .5) in
           let new = not-false _ (sym (settled-at wf (ready-size (s .pre .1 .ready)) (few s) u (front .0) (front .1) (front .2) taken (c .before .before .before .before .before .before .before .settle .ensures .0)) ∙ c .before .before .before .before .if1 .left) in
           visits-sent wf (ready-size (s .pre .1 .ready)) (few s) u (front .0) (front .1) (front .2) taken (c .before .before .before .before .before .before .before .settle .ensures .1) (taken-room (c .before .before .before .before .before .before .before .before .before .before .before .before)) new sent,
       keeps-trans (wide (c .before .before .before .before .before .before .before)) (c .before .before .send .ensures .keeps),

@@ -25,7 +25,7 @@ sub-zero-row c = omega (arith, c .before .before .queue .ensures, c .edges-end .
 zero-row-requires : tie.Need-zero-row-requires
 zero-row-requires c κs =
     let p = c .before .before .before .before .before .before .before .before .before .pre in
-    omega (arith, c .before .before .queue .ensures, c .edges-end .ensures, c .before .before .before .before .before .note-edges .kept .1 .1 .0, used-room (p .0 .indexed .ready) (p .1))
+    omega (arith, c .before .before .queue .ensures, c .edges-end .ensures, c .before .before .before .before .before .note-edges .kept .1 .1 .0, used-room (p .0 .indexed .ready) (p .2))
 
 same-length : tie.Need-same-length
 same-length c = search needs
@@ -35,7 +35,7 @@ returns c =
     let d = c .before .before .before in
     let p = d .before .before .before .before .before .before .before .before .before .pre in
     let noted = d .before .before .before .before .before .note-edges in
-    linked (p .0) (p .1) (noted .ensures .0) (noted .ensures .1)
+    linked (p .0) (p .1) (p .2) (noted .ensures .0) (noted .ensures .1)
     (c .before .before .zero-row .ensures ∙ ap₂ (λ q e. zeroed (noted .last .1 .1 .0) q (e - q)) (d .before .before .queue .ensures) (d .edges-end .ensures))
 
 pub link-spec : {M : Type 1} → statement M

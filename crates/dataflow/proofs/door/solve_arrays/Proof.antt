@@ -18,7 +18,7 @@ use Rattle.dataflow.proofs.door.solve_arrays.Tie as tie
 array-states-requires : tie.Need-array-states-requires
 array-states-requires c κs =
     let blank = c .before .before .before .before .pre .0 in
-    (blank .indexed, blank .linked, blank .some, blank .zero)
+    (blank .indexed, blank .linked, blank .key, blank .some, blank .zero)
 
 write-masks-requires : tie.Need-write-masks-requires
 write-masks-requires c κs =
@@ -40,7 +40,7 @@ same-length-2 c = search needs
 returns : tie.Need-returns
 returns c =
     let start = c .before .before .before .before .before .before .before .before .before .before .before .before in
-    masked (start .pre .0) (start .pre .1) (c .before .before .before .before .before .before .before .array-states .ensures) (c .before .before .write-masks .ensures)
+    masked (start .pre .0) (start .pre .1) (start .pre .2) (c .before .before .before .before .before .before .before .array-states .ensures) (c .before .before .write-masks .ensures)
 
 pub solve-arrays-spec : {M : Type 1} → statement M
 solve-arrays-spec =

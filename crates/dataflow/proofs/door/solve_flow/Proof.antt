@@ -8,11 +8,8 @@ use Rattle.dataflow.proofs.door.solve_flow.Tie as tie
 summarize-requires : tie.Need-summarize-requires
 summarize-requires c κs = search needs
 
-link-requires : tie.Need-link-requires
-link-requires c κs = search needs
-
-solve-arrays-requires : tie.Need-solve-arrays-requires
-solve-arrays-requires c κs = search needs
+find-masks-requires : tie.Need-find-masks-requires
+find-masks-requires c κs = search needs
 
 solve-names-requires : tie.Need-solve-names-requires
 solve-names-requires c κs = search needs
@@ -32,15 +29,14 @@ same-length-4 c = search needs
 returns : tie.Need-returns
 returns c =
     let names = c .before .before .before .before .before .before .solve-names .ensures in
-    solved (c .before .before .before .before .before .before .before .before .before .before .before .before .before .before .before .before .before .before .before .before .before .before .before .before .before .before .before .before .before .before .pre .flow-fit .header) (c .before .before .before .before .before .before .before .before .before .before .before .before .before .before .solve-arrays .ensures) (names .0) (names .1)
+    solved (c .before .before .before .before .before .before .before .before .before .before .before .before .before .before .before .before .before .before .before .before .before .before .before .before .before .before .pre .flow-fit .header) (c .before .before .before .before .before .before .before .before .before .before .before .before .before .before .find-masks .ensures) (names .0) (names .1)
 
 pub solve-flow-spec : {M : Type 1} → statement M
 solve-flow-spec =
     tie.close
     (tie.spec
     summarize-requires
-    link-requires
-    solve-arrays-requires
+    find-masks-requires
     solve-names-requires
     same-length
     same-length-2

@@ -14,7 +14,7 @@ note-items-requires : tie.Need-note-items-requires
 note-items-requires c κs = search needs
 
 step-members-requires : tie.Need-step-members-requires
-step-members-requires c κs = let r = apart-again _ (c .before .before .before .note-items .last .1 .0) (c .before .before .before .note-items .ensures .keeps .size) (c .before .before .before .before .before .before .before .pre .3) in (omega (arith, c .before .before .before .before .before .before .before .pre .2, limited (c .before .before .before .before .before .before .before .pre .0) .arrays, arrays-is (now (c .before .before .before .before .before .before .before .args .file))), r .below-to, r .to-fits, r .from-fits, inl (r .apart))
+step-members-requires c κs = let r = apart-again _ (c .before .before .before .note-items .last .1 .0) (c .before .before .before .note-items .ensures .keeps .size) (c .before .before .before .before .before .before .before .pre .3) in (omega (arith, c .before .before .before .before .before .before .before .pre .2, limited (c .before .before .before .before .before .before .before .pre .0) .arrays, arrays-is (now (c .before .before .before .before .before .before .before .args .file))), inl (r .below-to), omega (arith, r .below-to, r .to-fits), r .to-fits, r .from-fits, inl (r .apart))
 
 same-length : tie.Need-same-length
 same-length c = search needs

@@ -22,7 +22,8 @@ step-members-requires c κs =
     let back = c .back-row .ensures in
     let high = row-from n (s .args .width) (2 * n) in (
       s .pre .1,
-      omega arith,
+      inl (omega arith),
+      omega (arith, s .pre .2),
       omega (arith, s .pre .2),
       ⊎-elim (λ e. omega (arith, s .pre .2)) (λ e. omega (arith, s .pre .2)) (s .pre .4),
       ⊎-elim (λ e. inl (inr (omega arith))) (λ e. inr (back ∙ sym e)) (s .pre .4),

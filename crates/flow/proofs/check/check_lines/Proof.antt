@@ -14,7 +14,7 @@ use Rattle.flow.specs.declared.Passed.the-variants.{To, Unfit}
 use Rattle.flow.specs.declared.Refusal.{Refusal}
 use Rattle.flow.specs.declared.Refusal.the-variants.{Record, Order, Target}
 use Rattle.flow.specs.Format as format
-use Rattle.flow.specs.Format.{verdict, fit, each, u16At, letterL, lineRecordChecks, lineCount, countLines, linesPlace, linePlace, lineNumber, lineFirst, endPlace}
+use Rattle.flow.specs.Format.{verdict, fit, each, u16At, letterL, lineRecordChecks, lineCount, countLines, linesPlace, linePlace, lineNumber, lineFirst, keyPlace}
 use Rattle.flow.specs.contracts.Answers.{passedOf}
 use Rattle.flow.proofs.Numbers.{leAt-lt}
 use Rattle.flow.proofs.Tests.{tests, Rises, rises-first, rises-next, marked-within}
@@ -81,7 +81,7 @@ in-file c = marked-within (file c) (linePlace (file c) (index c)) letterL (has-m
 -- FL record k is one of the file's, and it is unfit by its check j
 refuse : (c : tie.Then1 Inv-loop μ-loop) (j : ℕ) (R : ℕ → Refusal) → refusalAt j (lineRecordChecks (file c) (index c)) ≡ R (linePlace (file c) (index c))
     → StopsAt j (lineRecordChecks (file c) (index c))
-    → Unfit (R (c .before .before .before .before .before .args .at + 6 * index c)) ≡ passedOf (verdict (each (lineCount (file c)) (lineRecordChecks (file c)))) (endPlace (file c))
+    → Unfit (R (c .before .before .before .before .before .args .at + 6 * index c)) ≡ passedOf (verdict (each (lineCount (file c)) (lineRecordChecks (file c)))) (keyPlace (file c))
 refuse c j R e u =
     let inv = c .before .before .loop .inv in
     let more = one-counted (file c) (index c) (inv .counted) (has-mark c) (omega (arith, in-file c)) in
@@ -207,7 +207,7 @@ returns-5 c =
     let unmarked = ap (λ at. format.marked s (at + 6 * k) letterL) (sym place) ∙ sym ((c .before) .marked .ensures) ∙ c .if1 .left in
     let all : k ≡ lineCount s = omega (arith, count-none (length s - k) s (linePlace s k) unmarked) in
     ap (λ at. To (at + 6 * k)) place ∙ ap (λ n. To (linePlace s n)) all
-    ∙ passed-by (each (lineCount s) (lineRecordChecks s)) (endPlace s)
+    ∙ passed-by (each (lineCount s) (lineRecordChecks s)) (keyPlace s)
     (subst (λ n. verdict (each n (lineRecordChecks s)) ≡ fit) all (inv .fits))
 
 pub check-lines-spec : {M : Type 1} → statement M

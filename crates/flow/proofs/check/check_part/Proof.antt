@@ -4,7 +4,7 @@ use mathlib.Core.Path.{_≡_, sym, _∙_, ap, subst}
 use borrow.Author.Needs.{needs}
 use denote.Ref.{now}
 use Rattle.flow.specs.declared.Part.{Part}
-use Rattle.flow.specs.declared.Part.the-variants.{Statements, Lines, End}
+use Rattle.flow.specs.declared.Part.the-variants.{Statements, Lines, Key, End}
 use Rattle.flow.specs.contracts.Parts.{Due, partAnswer}
 use Rattle.flow.proofs.check.check_part.Statement.{statement}
 use Rattle.flow.proofs.check.check_part.Tie as tie
@@ -40,9 +40,17 @@ check-lines-requires c κs =
 enum-told-4 : tie.Need-enum-told-4
 enum-told-4 c = search needs
 
+check-key-requires : tie.Need-check-key-requires
+check-key-requires c κs =
+    let due = known (c .before .before .before) {p = Key} (c .enum-told4 .given .1) in
+    (due .header, due .within, due .there)
+
+enum-told-5 : tie.Need-enum-told-5
+enum-told-5 c = search needs
+
 check-end-requires : tie.Need-check-end-requires
 check-end-requires c κs =
-    let due = known (c .before .before .before) {p = End} (c .enum-told4 .given .1) in
+    let due = known (c .before .before .before) {p = End} (c .enum-told5 .given .1) in
     (due .within, due .there)
 
 returns : tie.Need-returns
@@ -55,7 +63,10 @@ returns-3 : tie.Need-returns-3
 returns-3 c = c .check-lines .ensures ∙ answer (c .before .before .before .before) (c .before .enum-told3 .given .1)
 
 returns-4 : tie.Need-returns-4
-returns-4 c = c .check-end .ensures ∙ answer (c .before .before .before .before) (c .before .enum-told4 .given .1)
+returns-4 c = c .check-key .ensures ∙ answer (c .before .before .before .before) (c .before .enum-told4 .given .1)
+
+returns-5 : tie.Need-returns-5
+returns-5 c = c .check-end .ensures ∙ answer (c .before .before .before .before) (c .before .enum-told5 .given .1)
 
 pub check-part-spec : {M : Type 1} → statement M
 check-part-spec =
@@ -68,8 +79,11 @@ check-part-spec =
     enum-told-3
     check-lines-requires
     enum-told-4
+    check-key-requires
+    enum-told-5
     check-end-requires
     returns
     returns-2
     returns-3
-    returns-4)
+    returns-4
+    returns-5)

@@ -1,5 +1,5 @@
--- `checked` meets its contract: the answer for all parts tells the file's verdict, and of a fit file the places are those of the lines and the end.
--- By the laws of answers; the line records are as many as six bytes each fill from the lines to the end.
+-- `checked` meets its contract: the answer for all parts tells the file's verdict, and of a fit file the places are those of the lines, the key and the end.
+-- By the laws of answers; the line records are as many as six bytes each fill from the lines to the key.
 use native.Mathlib.Omega.{arith}
 use Prim.Native.Nat.{ℕ, _≤_, _-_, _/_}
 use mathlib.Core.List.{List}
@@ -11,10 +11,10 @@ use Rattle.flow.specs.declared.Refusal.{Refusal}
 use Rattle.flow.specs.declared.Part.the-variants.{End}
 use Rattle.flow.specs.declared.Header.{Header}
 use Rattle.flow.specs.declared.Checked.the-variants.{Fit, Unfit}
-use Rattle.flow.specs.Format.{verdict, fit, unfit, lineCount, linesPlace, endPlace, fileChecks}
+use Rattle.flow.specs.Format.{verdict, fit, unfit, lineCount, linesPlace, keyPlace, endPlace, fileChecks}
 use Rattle.flow.specs.contracts.Answers.{checkedOf, headerOf}
 use Rattle.flow.proofs.Answers.{verdict-passed, verdict-refused}
-use Rattle.flow.proofs.FileVerdict.{before-end, header-first}
+use Rattle.flow.proofs.FileVerdict.{before-end, header-first, start-within}
 use Rattle.flow.proofs.check.checked.Statement.{statement}
 use Rattle.flow.proofs.check.checked.Tie as tie
 
@@ -31,8 +31,14 @@ module _ (c : tie.After-enum-told) where
   from : c .before .before .before .args .lines-at ≡ linesPlace bytes
   from = c .before .before .before .pre .lines fits
 
-  to : c .before .before .before .args .end-at ≡ endPlace bytes
-  to = c .before .before .before .pre .ends fits
+  to : c .before .before .before .args .key-at ≡ keyPlace bytes
+  to = c .before .before .before .pre .key fits
+
+  last : c .before .before .before .args .end-at ≡ endPlace bytes
+  last = c .before .before .before .pre .ends fits
+
+  end-within : endPlace bytes ≤ length bytes
+  end-within = start-within bytes End (before-end bytes fits)
 
 refuse : (s : List ℕ) {r : Refusal} → verdict (fileChecks s) ≡ unfit r → Unfit r ≡ checkedOf (verdict (fileChecks s)) (headerOf s)
 refuse s h = ap (λ v. checkedOf v (headerOf s)) (sym h)
@@ -58,8 +64,13 @@ u8-at-requires-2 c κs = omega (arith, within (c .before .before))
 u16-at-requires-2 : tie.Need-u16-at-requires-2
 u16-at-requires-2 c κs = omega (arith, within (c .before .before .before))
 
-sub-t12 : tie.Need-sub-t12
-sub-t12 c = omega (arith, from (c .before .before .before .before), to (c .before .before .before .before))
+sub-t13 : tie.Need-sub-t13
+sub-t13 c = omega (arith, from (c .before .before .before .before), to (c .before .before .before .before))
+
+handler-requires : tie.Need-handler-requires
+handler-requires c κs =
+    let told = c .before .before .before .before in
+    (to told, last told, omega (arith, last told, end-within told))
 
 returns : tie.Need-returns
 returns c =
@@ -67,17 +78,18 @@ returns c =
 
 returns-2 : tie.Need-returns-2
 returns-2 c =
-    let told = c .before .before .before .before in
+    let told = c .before .before .before .before .before in
     let s = bytes told in
-    let counted : (told .before .before .before .args .end-at - told .before .before .before .args .lines-at) / 6 ≡ lineCount s = omega (arith, from told, to told) in
+    let counted : (told .before .before .before .args .key-at - told .before .before .before .args .lines-at) / 6 ≡ lineCount s = omega (arith, from told, to told) in
     let same : _≡_ {A = Header} _ (headerOf s) =
     λ i. record {
-      statements = c .before .before .before .u16-at .ensures i;
-      arrays = c .before .before .u8-at .ensures i;
-      names = c .before .u8-at2 .ensures i;
-      entry = record { 0 = c .u16-at2 .ensures i };
+      statements = c .before .before .before .before .u16-at .ensures i;
+      arrays = c .before .before .before .u8-at .ensures i;
+      names = c .before .before .u8-at2 .ensures i;
+      entry = record { 0 = c .before .u16-at2 .ensures i };
       «lines_at» = from told i;
       lines = counted i;
+      handler = c .handler .ensures i;
     } in
     ap Fit same ∙ accept s (fits told)
 
@@ -91,6 +103,7 @@ checked-spec =
     u8-at-requires
     u8-at-requires-2
     u16-at-requires-2
-    sub-t12
+    sub-t13
+    handler-requires
     returns
     returns-2)

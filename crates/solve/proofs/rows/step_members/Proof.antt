@@ -7,7 +7,7 @@ use native.Mathlib.Nat.{add-zero}
 use native.Mathlib.Omega.{arith}
 use denote.Ref.{now}
 use lib.ListN.{getD}
-use Rattle.solve.specs.contracts.Rows.{RowIs, Beside, WordStepped, maskAt, stepWhere, member}
+use Rattle.solve.specs.contracts.Rows.{RowIs, Beside, Aside, WordStepped, maskAt, stepWhere, member}
 use Rattle.solve.proofs.Stepping.{Stepping, stepping-none, stepping-more, stepping-all}
 use borrow.Author.Needs.{needs}
 use Rattle.solve.proofs.rows.step_members.Statement.{statement}
@@ -38,9 +38,10 @@ returns c =
     let ws : List ℕ = now (a .work) in
     let one : a .width ≡ 1 = c .before .before .before .before .before .if1 .taken in
     let word = subst (λ (x : ℕ). WordStepped ws (c .before .before .step-word .last .0) 1 (a .to) (a .from) 0 (getD ws x 0) (a .effect)) (sym (add-zero (a .set))) (c .before .before .step-word .ensures) in
-    let apart = subst (λ (w : ℕ). Beside w (a .to) (a .from)) one (s .pre .4) in
+    let apart = subst (λ (w : ℕ). Beside w (a .to) (a .from)) one (s .pre .5) in
+    let aside = subst (λ (w : ℕ). Aside w (a .set) (a .to)) one (s .pre .1) in
     subst (λ (w : ℕ). RowIs ws (c .before .before .step-word .last .0) w (a .to) (stepWhere (member ws (a .set)) (a .effect) (maskAt ws w (a .from)))) (sym one)
-    (stepping-all (stepping-more stepping-none (omega arith) (omega (arith, s .pre .1)) (omega (arith, s .pre .2)) apart word) refl)
+    (stepping-all (stepping-more stepping-none (omega arith) aside (omega (arith, s .pre .3)) apart word) refl)
 
 loop-holds : tie.Need-loop-holds Inv-loop μ-loop
 loop-holds c = stepping-none
@@ -64,7 +65,7 @@ loop-less : tie.Need-loop-less Inv-loop μ-loop
 loop-less c = search needs
 
 loop-again : tie.Need-loop-again Inv-loop μ-loop
-loop-again c = stepping-more (c .before .before .before .before .before .before .loop .inv) (search needs) (search needs) (search needs) (c .before .before .before .before .before .before .before .before .before .pre .4) (c .before .before .step-word2 .ensures)
+loop-again c = let s = c .before .before .before .before .before .before .before .before .before in stepping-more (c .before .before .before .before .before .before .loop .inv) (search needs) (s .pre .1) (s .pre .3) (s .pre .5) (c .before .before .step-word2 .ensures)
 
 same-length-2 : tie.Need-same-length-2 Inv-loop μ-loop
 same-length-2 c = c .before .loop .inv .keeps .size
