@@ -12,8 +12,8 @@ use crate::{answerer, cases, sides};
 
 const N: usize = MAX_STATEMENTS as usize;
 
-/// The median time of each side, taken in turns so that both meet the same machine.
-pub fn medians<const SIDES: usize>(runs: usize, sides: [&mut dyn FnMut(); SIDES]) -> [Duration; SIDES] {
+/// The times of each side, shortest first, taken in turns so that both meet the same machine.
+pub fn turns<const SIDES: usize>(runs: usize, sides: [&mut dyn FnMut(); SIDES]) -> [Vec<Duration>; SIDES] {
     let mut times: [Vec<Duration>; SIDES] = std::array::from_fn(|_| Vec::new());
     for _ in 0..runs {
         for side in 0..SIDES {
@@ -24,8 +24,13 @@ pub fn medians<const SIDES: usize>(runs: usize, sides: [&mut dyn FnMut(); SIDES]
     }
     times.map(|mut all| {
         all.sort();
-        all[all.len() / 2]
+        all
     })
+}
+
+/// The median time of each side.
+pub fn medians<const SIDES: usize>(runs: usize, sides: [&mut dyn FnMut(); SIDES]) -> [Duration; SIDES] {
+    turns(runs, sides).map(|all| all[all.len() / 2])
 }
 
 fn ratio(slow: Duration, fast: Duration) -> f64 {

@@ -94,12 +94,32 @@ pub fn states(file: &[u8]) -> Result<FlowStates, Refusal> {
     }
 }
 
+/// `yarnuskel_states` of this build or of another.
+pub type StatesDoor = unsafe extern "C" fn(
+    *const u8,
+    usize,
+    *mut u8,
+    usize,
+    *mut u64,
+    usize,
+    *mut u64,
+    usize,
+    *mut u64,
+    usize,
+    *mut u64,
+    *mut u64,
+) -> u64;
+
 /// The call itself, over areas of any length.
 pub fn states_in(file: &[u8], areas: &mut Areas) -> Answer {
+    states_by(yarnuskel_states, file, areas)
+}
+
+pub(crate) fn states_by(door: StatesDoor, file: &[u8], areas: &mut Areas) -> Answer {
     let (mut place, mut visits) = (0, 0);
     // The areas are distinct vectors, and each pointer goes with its own length.
     let number = unsafe {
-        yarnuskel_states(
+        door(
             file.as_ptr(),
             file.len(),
             areas.masks.as_mut_ptr(),

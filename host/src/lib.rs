@@ -3,6 +3,8 @@
 
 pub mod answerer;
 pub mod bench;
+#[cfg(proved)]
+pub mod beside;
 pub mod cases;
 #[cfg(proved)]
 pub mod door;

@@ -31,6 +31,7 @@ const USAGE: &str = "commands:
   key FILE                     the masks of a flow file without its interrupt key and with it
   bench-reader                 the proved reader beside a plain one
   bench                        the proved calls beside the original, and beside each other
+  bench-beside ARCHIVE         the proved call by another build of the library and by this one, in turn
   stack                        the stack that the deepest nest of subroutines takes, in each order of the file
   stack-try ORDER DEPTH BYTES  whether a thread with so much stack answers a nest (Down or Up); an overflow ends the program
   worst SECONDS SEED [FAMILY]  search for the file that takes the proved call longest, so long a family
@@ -280,6 +281,13 @@ fn run(words: &[&str]) -> Outcome {
         ["flow", from, path] => write_flow(Path::new(from), Path::new(path)),
         ["bench-reader"] => Ok(bench::readers()),
         ["bench"] => Ok(bench::whole_call() & bench::key_call() & bench::certain_call()),
+        ["bench-beside", archive] => match sides::beside(Path::new(archive)) {
+            Some(measured) => measured.map(|()| true),
+            None => {
+                println!("{NO_LIBRARY}");
+                Ok(true)
+            }
+        },
         ["stack"] => stack::measure(),
         ["stack-try", order, depth, bytes] => stack::tried(order, number(depth)?, number(bytes)?),
         ["worst", seconds, seed] => worst::search(number(seconds)?, number(seed)?, None),

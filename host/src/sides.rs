@@ -156,3 +156,14 @@ pub fn proved_masks(file: &[u8]) -> Option<Result<Vec<u8>, Refusal>> {
 pub fn proved_masks(_: &[u8]) -> Option<Result<Vec<u8>, Refusal>> {
     None
 }
+
+/// The call by another build and by the linked library, in turn.
+#[cfg(proved)]
+pub fn beside(other: &std::path::Path) -> Option<Result<(), String>> {
+    Some(crate::beside::measure(other))
+}
+
+#[cfg(not(proved))]
+pub fn beside(_: &std::path::Path) -> Option<Result<(), String>> {
+    None
+}

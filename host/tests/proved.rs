@@ -105,6 +105,20 @@ fn the_wrapper_sizes_its_areas() {
     }
 }
 
+/// What is loaded to be timed beside another build answers as what is linked.
+#[cfg(proved)]
+#[test]
+fn the_loaded_library_is_the_linked_one() {
+    use yarnuskel_host::beside::{self, Build};
+    let build = Build::load(&beside::own()).unwrap();
+    for stored in stored() {
+        let mut areas = stored.lent.areas();
+        assert_eq!(build.states(&stored.file, &mut areas), stored.outcome.answer);
+        assert!(areas == stored.outcome.areas);
+    }
+    assert!(Build::load(&root().join("README.md")).is_err());
+}
+
 /// A work area one word short, exact and longer: changed by no refusal, and zero after an answer.
 #[test]
 fn work_areas_of_certain_names() {

@@ -1,3 +1,4 @@
 pub mod Finite
 pub mod Laws
+pub mod Entries
 pub mod Sets

@@ -1,20 +1,18 @@
--- The masks of 64 arrays as three sets: a mask is below 8, is its three memberships, is united as its sets are, and steps as the empty mask and its states do.
--- Each is a test that antt computes at every mask. Assumes nothing.
-use mathlib.Core.Path.{_≡_, refl, sym, ap, ap₂, subst, _∙_}
-use mathlib.Core.Bool.{Bool}
-use Prim.Native.Nat.{ℕ, _+_, _*_, _/_, _%_, _<_, min, max}
+-- The masks of 64 arrays as three sets: a mask is below 8, is its three memberships, is united as its sets are, and is made of them set by set.
+-- By arithmetic, and by tests that antt computes at every mask. Assumes nothing.
+use mathlib.Core.Path.{_≡_, sym, ap, ap₂, _∙_}
+use mathlib.Core.Bool.{cond}
+use Prim.Native.Nat.{ℕ, zero, suc, _+_, _*_, _/_, _%_, _<_, max}
 use native.Mathlib.Omega.{arith}
 use lib.Bits.{bitOr, or-step}
 use lib.Dec.{eqb, eqb→eq}
 use Rattle.words.specs.contracts.Row.{bit}
+use Rattle.words.specs.contracts.Change.{Chosen}
+use Rattle.words.proofs.Bit.{bit-lt}
 use Rattle.masks.specs.declared.Effect.{Effect}
 use Rattle.masks.specs.Step.{stepOf}
-use Rattle.masks.specs.contracts.Sets.{maskOf}
-use Rattle.masks.proofs.Finite.{everyBelow, at-below, at-mask}
-
--- whether an array holds state s after the effect, by the step of the empty mask and of the mask of each state
-abbrev pub united : Effect → ℕ → ℕ → ℕ → ℕ → ℕ
-united e s x y z = max (max (bit (stepOf e 0) s) (min x (bit (stepOf e 1) s))) (max (min y (bit (stepOf e 2) s)) (min z (bit (stepOf e 4) s)))
+use Rattle.masks.specs.contracts.Sets.{maskOf, StepBits}
+use Rattle.masks.proofs.Finite.{everyBelow, at-below}
 
 module _ (x y z : ℕ) (hx : x < 2) (hy : y < 2) (hz : z < 2) where
   pub mask-lt : maskOf x y z < 8
@@ -23,28 +21,22 @@ module _ (x y z : ℕ) (hx : x < 2) (hy : y < 2) (hz : z < 2) where
   half : maskOf x y z / 2 ≡ y + 2 * z
   half = omega arith
 
-  quarter : maskOf x y z / 2 / 2 ≡ z
-  quarter = rw half (omega arith)
-
-  -- the memberships of a mask are its digits
   digit-none : maskOf x y z % 2 ≡ x
   digit-none = omega arith
 
-  digit-auto : maskOf x y z / 2 % 2 ≡ y
-  digit-auto = rw half (omega arith)
+-- of two words of masks that are w apart the set chooses: where it has an array, that of the larger mask
+pub chosen-bits : {e : Effect} {near far mask : ℕ → ℕ} {s set b a r : ℕ} (w : ℕ) → StepBits e far s b → StepBits e near s a → Chosen set b a r
+    → ((j : ℕ) → near j + w ≡ far j) → ((j : ℕ) → near j + w * bit set j ≡ mask j) → StepBits e mask s r
+chosen-bits {e} {near} {s = s} {set = set} {b = b} {a = a} w with without chosen apart whole = record {
+  member = λ j l. chosen .member j ∙ (picked j l (bit set j) (bit-lt set j) ∙ ap (λ (m : ℕ). bit (stepOf e m) s) (whole j));
+}
+  where
+    picked : (j : ℕ) → j < 64 → (x : ℕ) → x < 2 → cond (eqb x 1) (bit b j) (bit a j) ≡ bit (stepOf e (near j + w * x)) s
+    picked j l zero h = without .member j l ∙ ap (λ (m : ℕ). bit (stepOf e m) s) (omega arith)
+    picked j l (suc zero) h = with .member j l ∙ ap (λ (m : ℕ). bit (stepOf e m) s) (sym (apart j) ∙ omega arith)
+    picked j l (suc (suc x)) h = absurd (omega arith)
 
-  digit-dimmed : maskOf x y z / 4 % 2 ≡ z
-  digit-dimmed = omega (arith, quarter)
-
-  pub step-united : (e : Effect) (s : ℕ) → s < 3 → united e s x y z ≡ bit (stepOf e (maskOf x y z)) s
-  unfolding bit
-  step-united e s h =
-      ap (λ (k : ℕ). united e s k y z) (sym digit-none) ∙ ap₂ (united e s (maskOf x y z % 2)) (sym digit-auto) (sym digit-dimmed)
-      ∙ eqb→eq _ _
-      (at-below 3 (λ s. eqb (united e s (maskOf x y z % 2) (maskOf x y z / 2 % 2) (maskOf x y z / 4 % 2)) (bit (stepOf e (maskOf x y z)) s))
-      (at-mask (λ e m. everyBelow 3 (λ s. eqb (united e s (m % 2) (m / 2 % 2) (m / 4 % 2)) (bit (stepOf e m) s))) tt e (maskOf x y z) mask-lt) s h)
-
--- and a mask of states is that of its bits
+-- a mask of states is that of its bits
 pub mask-of-bits : (m : ℕ) → m < 8 → maskOf (bit m 0) (bit m 1) (bit m 2) ≡ m
 unfolding bit
 mask-of-bits m h = eqb→eq _ _ (at-below 8 (λ m. eqb (maskOf (bit m 0) (bit m 1) (bit m 2)) m) tt m h)

@@ -1,9 +1,10 @@
 // The states of an array, masks of them, and the one place where a mask is stepped.
 ghost use mathlib.Core.Path.{_≡_};
-ghost use Prim.Native.Nat.{_<_};
+ghost use Prim.Native.Nat.{_+_, _*_, _<_};
 ghost use Rattle.words.specs.contracts.Row.{bit};
 ghost use Rattle.masks.specs.Step.{stepOf};
-ghost use Rattle.masks.specs.contracts.Sets.{Holders, Alike};
+ghost use Rattle.masks.specs.contracts.Table.{TableOf, RowOf};
+ghost use Rattle.masks.specs.contracts.Sets.{Holders, StepBits, Alike};
 
 // A mask is a union of states.
 pub const NONE: u8 = 1;
@@ -22,23 +23,42 @@ pub enum Effect {
     Touched,
 }
 
-// Total on every byte: bits above the three states are kept by the effects that keep states.
+// Effect by mask: a row each for none, reference, DIM and touched, with what the effect makes of the masks 0 to 7. CLR and RUN have no row.
+const STEPS: [[u8; 8]; 4] = [
+    [0, 1, 2, 3, 4, 5, 6, 7],
+    [0, 2, 2, 2, 4, 6, 6, 6],
+    [4, 4, 4, 4, 4, 4, 4, 4],
+    [0, 3, 2, 3, 4, 7, 6, 7],
+];
+
+// The table with its rule. It is read here and nowhere else.
+fn table() -> [[u8; 8]; 4]
+    ensures { λ r. ⌜ TableOf r ⌝ }
+{
+    STEPS
+}
+
+// What the effect makes of each mask. A row is taken whole, at a place that the compiler knows: so the entries are constants to it, and no table is laid out where one is read.
+fn row(effect: Effect) -> [u8; 8]
+    ensures { λ r. ⌜ RowOf effect r ⌝ }
+{
+    let steps = table();
+    match effect {
+        Effect::None => steps[0],
+        Effect::Reference => steps[1],
+        Effect::Dim => steps[2],
+        Effect::Touched => steps[3],
+        Effect::Reset => [NONE; 8],
+    }
+}
+
+// The one place where a mask is stepped.
 pub fn step(effect: Effect, mask: u8) -> u8
+    requires { ⌜ mask < 8 ⌝ }
     ensures { λ r. ⌜ r ≡ stepOf effect mask ⌝ }
 {
-    match effect {
-        Effect::None => mask,
-        Effect::Reference => {
-            if mask % 2 == NONE {
-                (mask - NONE) | AUTO
-            } else {
-                mask
-            }
-        }
-        Effect::Dim => DIMMED,
-        Effect::Reset => NONE,
-        Effect::Touched => { if mask % 2 == NONE { mask | AUTO } else { mask } }
-    }
+    let entries = row(effect);
+    entries[mask as usize]
 }
 
 // A word of ones if the mask has bit s, else 0.
@@ -49,20 +69,38 @@ fn spread(mask: u8, s: u8) -> u64
     if (mask >> s) % 2 == 1 { !0u64 } else { 0 }
 }
 
-// 64 arrays take the effect together; their masks stand as the sets of the arrays that hold NONE, AUTO and DIMMED. Those that then hold state s, a bit of
-// a mask: all of them if the effect makes it of the empty mask, and those with a state that it turns into s. So each bit comes from `step`.
+// 64 arrays take the effect together; their masks stand as the sets of the arrays that hold NONE, AUTO and DIMMED. Which of them then hold state s, a bit of a mask: each
+// looks its own mask up, which its three memberships make, one set after the other, so that it is below 8. Here the masks are `mask`, with NONE where the set has the array.
+fn holders_by_none(effect: Effect, mask: u8, s: u8, none: u64) -> u64
+    requires { ⌜ (mask < 7) × (s < 3) ⌝ }
+    ensures { λ r. ⌜ StepBits effect (λ j. mask + bit none j) s r ⌝ }
+{
+    let with = spread(step(effect, mask + NONE), s);
+    let without = spread(step(effect, mask), s);
+    words::choose(none, with, without)
+}
+
+// And with AUTO.
+fn holders_by_auto(effect: Effect, mask: u8, s: u8, none: u64, auto: u64) -> u64
+    requires { ⌜ (mask < 5) × (s < 3) ⌝ }
+    ensures { λ r. ⌜ StepBits effect (λ j. mask + bit none j + 2 * bit auto j) s r ⌝ }
+{
+    let with = holders_by_none(effect, mask + AUTO, s, none);
+    let without = holders_by_none(effect, mask, s, none);
+    words::choose(auto, with, without)
+}
+
+// And with DIMMED, which is the whole mask.
 fn holders_of(effect: Effect, s: u8, none: u64, auto: u64, dimmed: u64) -> u64
     requires { ⌜ s < 3 ⌝ }
     ensures { λ r. ⌜ Holders effect s none auto dimmed r ⌝ }
 {
-    let always = spread(step(effect, 0), s);
-    let from_none = none & spread(step(effect, NONE), s);
-    let from_auto = auto & spread(step(effect, AUTO), s);
-    let from_dimmed = dimmed & spread(step(effect, DIMMED), s);
-    (always | from_none) | (from_auto | from_dimmed)
+    let with = holders_by_auto(effect, DIMMED, s, none, auto);
+    let without = holders_by_auto(effect, 0, s, none, auto);
+    words::choose(dimmed, with, without)
 }
 
-// The same, with the effect named in each arm: there the steps are constants, and what is left is so little that it goes into the callers.
+// The same, with the effect named in each arm: there the entries are constants, and what is left is so little that it goes into the callers.
 pub fn holders(effect: Effect, s: u8, none: u64, auto: u64, dimmed: u64) -> u64
     requires { ⌜ s < 3 ⌝ }
     ensures { λ r. ⌜ Holders effect s none auto dimmed r ⌝ }

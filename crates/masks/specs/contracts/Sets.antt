@@ -10,6 +10,10 @@ use Rattle.masks.specs.Step.{stepOf}
 abbrev pub maskOf : ℕ → ℕ → ℕ → ℕ
 maskOf none auto dimmed = none + 2 * auto + 4 * dimmed
 
+-- bit j of the word r is bit s of what the effect makes of mask j
+pub record StepBits (effect : Effect) (mask : ℕ → ℕ) (s r : ℕ) : Type 0 where
+  pub member : (j : ℕ) → j < 64 → bit r j ≡ bit (stepOf effect (mask j)) s
+
 -- the word r is the set of the arrays that hold state s, a bit of a mask, once all 64 have taken the effect
 pub record Holders (effect : Effect) (s none auto dimmed r : ℕ) : Type 0 where
   pub member : (j : ℕ) → j < 64 → bit r j ≡ bit (stepOf effect (maskOf (bit none j) (bit auto j) (bit dimmed j))) s
