@@ -1,5 +1,5 @@
--- `masks::table` meets its contract: antt computes that none of its entries differs from what the definition gives. With a hole in the place of `refl` a check
--- with `--allow-holes` prints the places of those that do. Assumes nothing.
+-- `masks::table` meets its contract: antt computes that none of its entries differs from what the definition gives. A hole in the place of
+-- `refl` shows the places of those that do. Assumes nothing.
 use mathlib.Core.Path.{refl}
 use Rattle.masks.proofs.Entries.{right-table}
 use Rattle.masks.proofs.table.Statement.{statement}
