@@ -10,7 +10,7 @@ ghost use Rattle.theory.specs.Certain.{certainWord};
 ghost use Rattle.statements.specs.contracts.Ready.{Ready};
 ghost use Rattle.certain.specs.contracts.Layout as at;
 ghost use Rattle.certain.specs.contracts.Unwritten.{Pushed, PushedAll, Visited, Begun, Solved};
-ghost use Rattle.certain.specs.contracts.CertainNames.{CertainStart, Used, Early};
+ghost use Rattle.certain.specs.contracts.CertainNames.{CertainStart, Early};
 use flow::StmtId;
 use statements::fields;
 use statements::layout;

@@ -1,4 +1,7 @@
 // The names that the statements use.
+ghost use Rattle.flow.specs.Format.{flowOf};
+ghost use Rattle.statements.specs.contracts.Ready.{Ready};
+ghost use Rattle.statements.specs.contracts.Uses.{Gathered};
 use crate::fields;
 use flow::StmtId;
 
@@ -9,6 +12,8 @@ pub struct Uses {
 }
 
 pub fn gather_uses(file: &[u8], work: &[u64], n: usize) -> Uses
+    requires { ⌜ Ready (now file) (now work) n ⌝ }
+    ensures { λ r. ⌜ Gathered (flowOf (now (file .entry))) n (r .written) (r .read) ⌝ }
 {
     let mut written: u64 = 0;
     let mut read: u64 = 0;
