@@ -51,7 +51,11 @@ pub fn interference(file: &[u8], rows: &mut [u64], work: &mut [u64]) -> Answer {
         words::zero_row(work, 0, size);
         return Answer::Accepted(0);
     }
-    let most = if n <= 64 { find_in_few(file, h, rows, work) } else { find_in_many(file, h, rows, work) };
+    let most = if n <= 64 {
+        find_in_few(file, h, rows, work)
+    } else {
+        find_in_many(file, h, rows, work)
+    };
     words::zero_row(work, 0, size);
     Answer::Accepted(most)
 }

@@ -1,10 +1,21 @@
 // Names that get in each other's way: a word a name, from the live sets of all statements and their writes; and how many names are live at once.
-use flow::Handler;
+ghost use mathlib.Core.Option.{none, some};
+ghost use mathlib.Core.Path.{_≡_};
+ghost use Prim.Native.Nat.{ℕ, _^_, _<_, _≤_};
+ghost use lib.Count.{ones};
+ghost use lib.ListN.{length, getD};
+ghost use Rattle.flow.specs.Format.{flowOf};
+ghost use Rattle.theory.specs.Lists.{maxBelow};
+ghost use Rattle.interference.specs.contracts.Meeting.{Met, MetNew};
+ghost use Rattle.interference.specs.contracts.Rows.{RowsRoom, RowsStart, LiveSets, Seen, BothUsed, Noted, Rows};
 use flow::StmtId;
 use statements::fields;
 
 // Each name of a set meets the others: its word gets them.
-fn meet(rows: &mut [u64], set: u64) {
+fn meet(rows: &mut [u64], set: u64)
+    requires { ⌜ set < 2 ^ length (now rows) ⌝ }
+    ensures { λ _. ⌜ Met (now (rows .entry)) (now (rows .exit)) set ⌝ }
+{
     let mut rest = set;
     while rest != 0 {
         let x = u64::trailing_zeros(rest) as usize;
@@ -15,7 +26,10 @@ fn meet(rows: &mut [u64], set: u64) {
 }
 
 // The same, unless the set is within one whose names have met. Answers a set whose names have.
-fn meet_new(rows: &mut [u64], last: u64, set: u64) -> u64 {
+fn meet_new(rows: &mut [u64], last: u64, set: u64) -> u64
+    requires { ⌜ set < 2 ^ length (now rows) ⌝ }
+    ensures { λ r. ⌜ MetNew (now (rows .entry)) (now (rows .exit)) last set r ⌝ }
+{
     if words::difference(set, last) == 0 {
         return last;
     }
@@ -32,7 +46,10 @@ fn meet_statements(
     live_out: &[u64],
     rows: &mut [u64],
     n: usize,
-) {
+)
+    requires { ⌜ RowsRoom (now file) (now work) (now rows) n × LiveSets (flowOf (now file)) n (now «live_in») (now «live_out») ⌝ }
+    ensures { λ _. ⌜ Noted (flowOf (now (file .entry))) (Seen (flowOf (now (file .entry))) n) (now (rows .entry)) (now (rows .exit)) ⌝ }
+{
     let mut last: u64 = 0;
     let mut i = 0;
     while i < n {
@@ -44,31 +61,45 @@ fn meet_statements(
 }
 
 // The names that some statement reads or writes meet.
-fn meet_used(file: &[u8], work: &[u64], rows: &mut [u64], n: usize) {
+fn meet_used(file: &[u8], work: &[u64], rows: &mut [u64], n: usize)
+    requires { ⌜ RowsRoom (now file) (now work) (now rows) n ⌝ }
+    ensures { λ _. ⌜ Noted (flowOf (now (file .entry))) (BothUsed (flowOf (now (file .entry)))) (now (rows .entry)) (now (rows .exit)) ⌝ }
+{
     let all = statements::uses::gather_uses(file, work, n);
     meet(rows, all.written | all.read);
 }
 
-// The word of each name, from the live sets. A handler may come between any two statements, so that every name that is used meets every other.
-pub fn interference(
+// The word of each name, from the live sets, in a flow without an interrupt key.
+pub fn live_rows(
     file: &[u8],
     work: &[u64],
     live_in: &[u64],
     live_out: &[u64],
     rows: &mut [u64],
-    h: flow::Header,
-) {
-    let n = h.statements;
-    let handler = h.handler;
-    words::zero_row(rows, 0, h.names);
-    match handler {
-        Handler::At(_) => meet_used(file, work, rows, n),
-        Handler::None => meet_statements(file, work, live_in, live_out, rows, n),
-    }
+    names: usize,
+    n: usize,
+)
+    requires { ⌜ RowsStart (now file) (now work) (now rows) names n × LiveSets (flowOf (now file)) n (now «live_in») (now «live_out») × (flowOf (now file) .handler ≡ none) ⌝ }
+    ensures { λ _. ⌜ Rows (flowOf (now (file .entry))) (now (rows .entry)) (now (rows .exit)) ⌝ }
+{
+    words::zero_row(rows, 0, names);
+    meet_statements(file, work, live_in, live_out, rows, n);
+}
+
+// The same with an interrupt key, which may come between any two statements: every name that is used meets every other.
+pub fn used_rows(file: &[u8], work: &[u64], rows: &mut [u64], names: usize, n: usize)
+    requires { ⌜ RowsStart (now file) (now work) (now rows) names n × ((h : ℕ) × (flowOf (now file) .handler ≡ some h)) ⌝ }
+    ensures { λ _. ⌜ Rows (flowOf (now (file .entry))) (now (rows .entry)) (now (rows .exit)) ⌝ }
+{
+    words::zero_row(rows, 0, names);
+    meet_used(file, work, rows, n);
 }
 
 // How many names are live at once: the size of the largest live-in set.
-pub fn most_live(live_in: &[u64], n: usize) -> u64 {
+pub fn most_live(live_in: &[u64], n: usize) -> u64
+    requires { ⌜ n ≤ length (now «live_in») ⌝ }
+    ensures { λ r. ⌜ r ≡ maxBelow n (λ i. ones (getD (now («live_in» .entry)) i 0)) ⌝ }
+{
     let mut most: u64 = 0;
     let mut i = 0;
     while i < n {

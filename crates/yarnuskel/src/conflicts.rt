@@ -8,8 +8,7 @@ pub extern "C" fn yarnuskel_interference(
     work: &mut [u64],
     place: &mut u64,
     most: &mut u64,
-) -> u64
-{
+) -> u64 {
     match dataflow::conflicts::interference(file, rows, work) {
         dataflow::Answer::Accepted(count) => {
             *place = 0;
