@@ -20,32 +20,32 @@ pub struct Areas {
     pub work: Vec<u64>,
 }
 
-/// Number 0 where the flow is accepted.
+/// The answer to a file by one of the calls: number 0 where the flow is accepted. What is found is the count of
+/// visits or the word of certain names, and 0 where the file is refused.
 #[derive(Clone, Copy, Debug, Default, PartialEq, Eq)]
 pub struct Answer {
     pub number: u64,
     pub place: u64,
-    pub visits: u64,
+    pub found: u64,
+}
+
+impl Answer {
+    pub fn accepted(found: u64) -> Answer {
+        Answer { number: 0, place: 0, found }
+    }
+
+    /// What is found, or the refusal.
+    pub fn result(self) -> Result<u64, Refusal> {
+        match self {
+            Answer { number: 0, found, .. } => Ok(found),
+            Answer { number, place, .. } => Err(Refusal { number, place }),
+        }
+    }
 }
 
 impl From<Refusal> for Answer {
     fn from(r: Refusal) -> Self {
-        Answer { number: r.number, place: r.place, visits: 0 }
-    }
-}
-
-/// The answer to a file by its certain names: number 0 where the flow is accepted, and the word is 0
-/// where it is refused.
-#[derive(Clone, Copy, Debug, Default, PartialEq, Eq)]
-pub struct Certain {
-    pub number: u64,
-    pub place: u64,
-    pub word: u64,
-}
-
-impl From<Refusal> for Certain {
-    fn from(r: Refusal) -> Self {
-        Certain { number: r.number, place: r.place, word: 0 }
+        Answer { number: r.number, place: r.place, found: 0 }
     }
 }
 
@@ -1213,11 +1213,11 @@ pub fn answer(file: &[u8], areas: &mut Areas, fault: Option<Fault>) -> Answer {
     if fault != Some(Fault::AreasUntouched) {
         areas.write(&states);
     }
-    Answer { number: 0, place: 0, visits: states.visits }
+    Answer::accepted(states.visits)
 }
 
 /// The certain names of a file with this work area lent.
-pub fn certain(file: &[u8], work: &mut [u64], fault: Option<Fault>) -> Certain {
+pub fn certain(file: &[u8], work: &mut [u64], fault: Option<Fault>) -> Answer {
     let serve = |flow: &Flow| work.len() >= WORK_WORDS * flow.statements.len();
     let flow = match accepted(file, fault, serve) {
         Ok(flow) => flow,
@@ -1226,5 +1226,5 @@ pub fn certain(file: &[u8], work: &mut [u64], fault: Option<Fault>) -> Certain {
     if fault != Some(Fault::AreasUntouched) {
         work.fill(0);
     }
-    Certain { number: 0, place: 0, word: certain_names(&flow, fault) }
+    Answer::accepted(certain_names(&flow, fault))
 }

@@ -274,7 +274,7 @@ fn measure(name: &str, flow: &Flow) -> Option<(f64, f64)> {
     let (bytes, both) = (file.len(), alone + live);
     println!(
         "{name:28} {bytes:>6} {:>8} {call:>10.2?} {alone:>12.2?} {first:>7.1} {both:>12.2?} {second:>8.1}",
-        answer.visits
+        answer.found
     );
     Some((first, second))
 }
@@ -323,7 +323,7 @@ pub fn key_call() -> bool {
         println!(
             "{name:28} {:>6} {:>8} {call:>10.2?} {before:>15.2?} {:>7.2}",
             file.len(),
-            answer.visits,
+            answer.found,
             ratio(call, before)
         );
     }

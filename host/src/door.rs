@@ -1,7 +1,7 @@
 //! The safe side of the proved library's doors. The areas are sized here, so that a caller cannot
 //! lend short or overlapping ones; an answer owns what was written.
 
-use crate::answerer::{Answer, Areas, Certain};
+use crate::answerer::{Answer, Areas};
 use crate::flow::{MAX_ARRAYS, MAX_STATEMENTS, Refusal, WORK_WORDS};
 
 unsafe extern "C" {
@@ -84,14 +84,9 @@ pub fn states(file: &[u8]) -> Result<FlowStates, Refusal> {
         live_out: vec![0; n],
         work: vec![0; WORK_WORDS * n],
     };
-    let answer = states_in(file, &mut areas);
-    match answer.number {
-        0 => {
-            let Areas { masks, live_in, live_out, .. } = areas;
-            Ok(FlowStates { arrays, masks, live_in, live_out, visits: answer.visits })
-        }
-        number => Err(Refusal { number, place: answer.place }),
-    }
+    let visits = states_in(file, &mut areas).result()?;
+    let Areas { masks, live_in, live_out, .. } = areas;
+    Ok(FlowStates { arrays, masks, live_in, live_out, visits })
 }
 
 /// `yarnuskel_states` of this build or of another.
@@ -116,7 +111,7 @@ pub fn states_in(file: &[u8], areas: &mut Areas) -> Answer {
 }
 
 pub(crate) fn states_by(door: StatesDoor, file: &[u8], areas: &mut Areas) -> Answer {
-    let (mut place, mut visits) = (0, 0);
+    let (mut place, mut found) = (0, 0);
     // The areas are distinct vectors, and each pointer goes with its own length.
     let number = unsafe {
         door(
@@ -131,27 +126,26 @@ pub(crate) fn states_by(door: StatesDoor, file: &[u8], areas: &mut Areas) -> Ans
             areas.work.as_mut_ptr(),
             areas.work.len(),
             &mut place,
-            &mut visits,
+            &mut found,
         )
     };
-    Answer { number, place, visits }
+    Answer { number, place, found }
 }
 
 /// The names of a flow file that are certainly written before they are read, bit i for name i, or the
 /// refusal of the file.
 pub fn certain(file: &[u8]) -> Result<u64, Refusal> {
     let (n, _) = header(file);
-    let Certain { number, place, word } = certain_in(file, &mut vec![0; WORK_WORDS * n]);
-    if number == 0 { Ok(word) } else { Err(Refusal { number, place }) }
+    certain_in(file, &mut vec![0; WORK_WORDS * n]).result()
 }
 
 /// The call itself, over a work area of any length.
-pub fn certain_in(file: &[u8], work: &mut [u64]) -> Certain {
+pub fn certain_in(file: &[u8], work: &mut [u64]) -> Answer {
     // The call writes both in any case, and one that did not would show.
-    let (mut place, mut word) = (u64::MAX, u64::MAX);
+    let (mut place, mut found) = (u64::MAX, u64::MAX);
     // The slices are distinct, and each pointer goes with its own length.
     let number = unsafe {
-        yarnuskel_certain(file.as_ptr(), file.len(), work.as_mut_ptr(), work.len(), &mut place, &mut word)
+        yarnuskel_certain(file.as_ptr(), file.len(), work.as_mut_ptr(), work.len(), &mut place, &mut found)
     };
-    Certain { number, place, word }
+    Answer { number, place, found }
 }

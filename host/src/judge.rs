@@ -1,7 +1,7 @@
 //! The right answer to a file, from the original where it has something to say and from the
 //! reference answerer elsewhere; how a fault shows against it; and who agrees with it.
 
-use crate::answerer::{self, Answer, Areas, Certain, Fault, KeyParts, States, SureParts};
+use crate::answerer::{self, Answer, Areas, Fault, KeyParts, States, SureParts};
 use crate::flow::{self, Flow, Refusal};
 use crate::sides::{self, Original, OriginalCertain};
 use crate::{generate, reader};
@@ -37,7 +37,7 @@ impl Lent {
 pub struct Outcome {
     pub answer: Answer,
     pub areas: Areas,
-    pub certain: Certain,
+    pub certain: Answer,
     pub certain_work: Vec<u64>,
 }
 
@@ -109,7 +109,7 @@ impl Right {
     /// Whether the certain names are the original's, if they are to be compared.
     fn certain_agrees(&self, outcome: &Outcome) -> bool {
         let word = self.certain.and_then(OriginalCertain::compared);
-        word.is_none_or(|word| outcome.certain == Certain { number: 0, place: 0, word })
+        word.is_none_or(|word| outcome.certain == Answer::accepted(word))
     }
 
     pub fn original_agrees(&self, outcome: &Outcome) -> bool {
@@ -186,7 +186,7 @@ impl Certainty {
         let accepted = right.outcome.certain.number == 0 && !right.has_key();
         let Some(flow) = right.flow.as_ref().filter(|_| accepted) else { return };
         let written = flow.statements.iter().fold(0, |set, s| set | s.written);
-        let certain = right.outcome.certain.word;
+        let certain = right.outcome.certain.found;
         let (some, others) = (certain != 0, written & !certain != 0);
         self.flows += 1;
         self.certain += usize::from(some);
@@ -306,7 +306,7 @@ impl Comparison {
     /// other states where there are some.
     fn hold_without_sure(&mut self, index: u64, right: &Right) {
         let (Some(flow), Some(without)) = (right.accepted(), right.without_sure()) else { return };
-        let (masks, visits) = (&right.outcome.areas.masks, right.outcome.answer.visits);
+        let (masks, visits) = (&right.outcome.areas.masks, right.outcome.answer.found);
         let same = masks.starts_with(&without.masks);
         if !right.has_key() {
             self.sureness.count(right.sure, !same);

@@ -225,8 +225,8 @@ fn list_store() -> Outcome {
         let (answer, certain) = (right.outcome.answer, right.outcome.certain);
         let Lent { masks, live_in, live_out, work } = case.lent;
         print!("{number}: {} | areas {masks} {live_in} {live_out} {work} | ", case.name);
-        print!("{} {} {} | ", answer.number, answer.place, answer.visits);
-        println!("{} {} {:016x}", certain.number, certain.place, certain.word);
+        print!("{} {} {} | ", answer.number, answer.place, answer.found);
+        println!("{} {} {:016x}", certain.number, certain.place, certain.found);
     }
     Ok(true)
 }

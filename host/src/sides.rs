@@ -2,7 +2,7 @@
 //! answers `None` where it was not there at build time, the original also for a flow with an interrupt
 //! key, of which its runs know nothing.
 
-use crate::answerer::{Answer, Areas, Certain};
+use crate::answerer::{Answer, Areas};
 use crate::flow::{Flow, Refusal};
 
 pub const NO_ORIGINAL: &str = "the original Rust is not here: what needs it is skipped";
@@ -134,12 +134,12 @@ pub fn proved_states(_: &[u8], _: &mut Areas) -> Option<Answer> {
 }
 
 #[cfg(proved)]
-pub fn proved_certain(file: &[u8], work: &mut [u64]) -> Option<Certain> {
+pub fn proved_certain(file: &[u8], work: &mut [u64]) -> Option<Answer> {
     Some(crate::door::certain_in(file, work))
 }
 
 #[cfg(not(proved))]
-pub fn proved_certain(_: &[u8], _: &mut [u64]) -> Option<Certain> {
+pub fn proved_certain(_: &[u8], _: &mut [u64]) -> Option<Answer> {
     None
 }
 

@@ -1,7 +1,7 @@
 //! The stored answers: a fixed list of files with their right answers, in one file that a program
 //! replays without Rust.
 
-use crate::answerer::{Answer, Certain, Fault, States};
+use crate::answerer::{Answer, Fault, States};
 use crate::cases::{self, Case};
 use crate::generate::{self, Family};
 use crate::judge::{self, Lent, Outcome, Right};
@@ -96,16 +96,16 @@ fn put_case(out: &mut Vec<u8>, case: &Case, right: &Right) {
     put_u32(out, answer.place as usize);
     if let Some(flow) = right.flow.as_ref().filter(|_| answer.number == 0) {
         let n = flow.statements.len();
-        put_u32(out, answer.visits as usize);
+        put_u32(out, answer.found as usize);
         out.extend_from_slice(&areas.masks[..n * usize::from(flow.arrays)]);
         for word in areas.live_in[..n].iter().chain(&areas.live_out[..n]) {
             out.extend_from_slice(&word.to_le_bytes());
         }
     }
-    let Certain { number, place, word } = right.outcome.certain;
+    let Answer { number, place, found } = right.outcome.certain;
     out.push(number as u8);
     put_u32(out, place as usize);
-    out.extend_from_slice(&word.to_le_bytes());
+    out.extend_from_slice(&found.to_le_bytes());
 }
 
 /// The stored answers, as bytes.
@@ -166,18 +166,18 @@ impl Bytes<'_> {
         let [masks, live_in, live_out, work] = [0; 4].map(|_| self.number(4));
         let lent = Lent { masks, live_in, live_out, work };
         let (number, place) = (self.number(1) as u64, self.number(4) as u64);
-        let mut answer = Answer { number, place, visits: 0 };
+        let mut answer = Answer { number, place, found: 0 };
         let mut areas = lent.areas();
         if number == 0 {
-            answer.visits = self.number(4) as u64;
+            answer.found = self.number(4) as u64;
             let (n, arrays) = (usize::from(u16::from_le_bytes([file[2], file[3]])), usize::from(file[4]));
             let masks = self.take(n * arrays);
             let (live_in, live_out) = (self.words(n), self.words(n));
-            areas.write(&States { masks, live_in, live_out, visits: answer.visits });
+            areas.write(&States { masks, live_in, live_out, visits: answer.found });
         }
         let mut certain_work = lent.areas().work;
         let (number, place) = (self.number(1) as u64, self.number(4) as u64);
-        let certain = Certain { number, place, word: self.number(8) as u64 };
+        let certain = Answer { number, place, found: self.number(8) as u64 };
         if number == 0 {
             certain_work.fill(0);
         }

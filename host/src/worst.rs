@@ -418,7 +418,7 @@ fn measure(file: &[u8], runs: usize) -> Option<(Duration, u64)> {
         let wall = start.elapsed();
         let taken = processor_time().zip(on_processor).map_or(wall, |(end, start)| end - start);
         assert_eq!(answer.number, 0, "a file of the search is refused");
-        best = best.min((taken, answer.visits));
+        best = best.min((taken, answer.found));
     }
     Some(best)
 }

@@ -91,7 +91,7 @@ fn answered_as_they_say() {
             assert_eq!(right.outcome.areas.masks, *masks, "{name}");
         }
         if let Some((_, word)) = CERTAIN.iter().find(|(with, _)| *with == name) {
-            assert_eq!(right.outcome.certain.word, *word, "{name}");
+            assert_eq!(right.outcome.certain.found, *word, "{name}");
         }
         assert!(right.original_agrees(&right.outcome), "{name} by the original");
         if right.original.is_none() && !right.has_key() {
