@@ -223,10 +223,12 @@ fn list_store() -> Outcome {
     for (number, case) in store::cases().iter().enumerate() {
         let right = store::answer(case)?;
         let (answer, certain) = (right.outcome.answer, right.outcome.certain);
-        let Lent { masks, live_in, live_out, work } = case.lent;
-        print!("{number}: {} | areas {masks} {live_in} {live_out} {work} | ", case.name);
+        let interference = right.outcome.interference;
+        let Lent { masks, live_in, live_out, work, rows } = case.lent;
+        print!("{number}: {} | areas {masks} {live_in} {live_out} {work} {rows} | ", case.name);
         print!("{} {} {} | ", answer.number, answer.place, answer.found);
-        println!("{} {} {:016x}", certain.number, certain.place, certain.found);
+        print!("{} {} {:016x} | ", certain.number, certain.place, certain.found);
+        println!("{} {} {}", interference.number, interference.place, interference.found);
     }
     Ok(true)
 }

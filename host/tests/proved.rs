@@ -126,7 +126,7 @@ fn work_areas_of_certain_names() {
         let file = case.file();
         let work = Lent::for_file(&file, 0).work;
         for length in [0, work.saturating_sub(1), work, work + 1, 2 * work + 3] {
-            let lent = Lent { masks: 0, live_in: 0, live_out: 0, work: length };
+            let lent = Lent { work: length, ..Lent::default() };
             match judge::proved_outcome(&file, lent) {
                 Some(outcome) => assert!(outcome == judge::outcome(&file, lent, None), "{}", case.name),
                 None => return println!("{NO_LIBRARY}"),

@@ -2,6 +2,7 @@
 ghost use Prim.Native.Nat.{_≤_};
 ghost use lib.ListN.{length};
 use crate::answers;
+use crate::conflicts;
 use crate::data;
 use crate::names;
 
@@ -37,6 +38,7 @@ fn replay_case(
     masks: &mut [u8],
     live_in: &mut [u64],
     live_out: &mut [u64],
+    rows: &mut [u64],
     work: &mut [u64],
 ) -> Replayed
     requires { ⌜ at ≤ length (now s) ⌝ }
@@ -44,12 +46,14 @@ fn replay_case(
 {
     let case = data::read_case(s, at, file);
     let sizes = data::answer_sizes(file);
-    let at = data::end(s, case, sizes);
+    let names_at = data::end(s, case, sizes);
+    let conflicts_at = data::after_names(s, names_at);
     let states = answers::lend(s, file, case, sizes, masks, live_in, live_out, work);
-    let certain = names::lend(s, at, file, case, work);
+    let certain = names::lend(s, names_at, file, case, work);
+    let interference = conflicts::lend(s, conflicts_at, file, case, sizes, rows, work);
     Replayed {
-        next: data::after_names(s, at),
-        different: told(number, states & certain),
+        next: data::after_conflicts(s, conflicts_at, sizes),
+        different: told(number, states & certain & interference),
     }
 }
 
@@ -59,6 +63,7 @@ pub fn replay(
     masks: &mut [u8],
     live_in: &mut [u64],
     live_out: &mut [u64],
+    rows: &mut [u64],
     work: &mut [u64],
 ) -> Counts {
     let mut p = 0;
@@ -69,7 +74,7 @@ pub fn replay(
         if data::byte(s, p) != 1 {
             break;
         }
-        let replayed = replay_case(s, p + 1, cases, file, masks, live_in, live_out, work);
+        let replayed = replay_case(s, p + 1, cases, file, masks, live_in, live_out, rows, work);
         p = replayed.next;
         different += replayed.different;
         cases += 1;

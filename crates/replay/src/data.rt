@@ -24,11 +24,12 @@ pub struct Blocks {
     pub size: usize,
 }
 
-// How much the answer to an accepted file takes: the words of a live area, and the stored bytes of the masks and of a live area.
+// How much the answer to an accepted file takes: the words of a live area, the stored bytes of the masks and of a live area, and the words of the names.
 pub struct Sizes {
     pub statements: usize,
     pub masks: usize,
     pub live: usize,
+    pub names: usize,
 }
 
 pub fn least(a: usize, b: usize) -> usize
@@ -141,13 +142,14 @@ fn mask_bytes(n: u64, arrays: u64) -> usize
 }
 
 pub fn answer_sizes(file: &[u8]) -> Sizes
-    ensures { λ r. ⌜ (r .masks ≤ 16711425) × (r .live ≤ 524280) ⌝ }
+    ensures { λ r. ⌜ (r .masks ≤ 16711425) × (r .live ≤ 524280) × (r .names ≤ 255) ⌝ }
 {
     let n = byte(file, 2) + 256 * byte(file, 3);
     Sizes {
         statements: n as usize,
         masks: mask_bytes(n, byte(file, 4)),
         live: 8 * n as usize,
+        names: byte(file, 5) as usize,
     }
 }
 
@@ -168,4 +170,15 @@ pub fn after_names(s: &[u8], at: usize) -> usize
     ensures { λ r. ⌜ (at ≤ r) × (r ≤ length (now (s .entry))) ⌝ }
 {
     skip(s, at, 13)
+}
+
+// The place after the answer about names that interfere at `at`, which every case has: the length of the rows and 13 bytes. An accepted one has a word a name too.
+pub fn after_conflicts(s: &[u8], at: usize, sizes: Sizes) -> usize
+    requires { ⌜ (at ≤ length (now s)) × (sizes .names ≤ 255) ⌝ }
+    ensures { λ r. ⌜ (at ≤ r) × (r ≤ length (now (s .entry))) ⌝ }
+{
+    if number(s, skip(s, at, 4), 1) != 0 {
+        return skip(s, at, 17);
+    }
+    skip(s, at, 17 + 8 * sizes.names)
 }
