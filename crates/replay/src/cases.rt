@@ -24,6 +24,27 @@ fn told(case: u64, same: bool) -> u64
     1
 }
 
+// Whether every call answers the case as it must.
+fn answered(
+    s: &[u8],
+    file: &[u8],
+    case: data::Case,
+    sizes: data::Sizes,
+    places: data::Places,
+    masks: &mut [u8],
+    live_in: &mut [u64],
+    live_out: &mut [u64],
+    rows: &mut [u64],
+    work: &mut [u64],
+) -> bool
+    requires { ⌜ (case .answers ≤ length (now s)) × (case .size ≤ length (now file)) × (places .names ≤ length (now s)) × (places .conflicts ≤ length (now s)) ⌝ }
+{
+    let states = answers::lend(s, file, case, sizes, masks, live_in, live_out, work);
+    let certain = names::lend(s, places.names, file, case, work);
+    let interference = conflicts::lend(s, places.conflicts, file, case, sizes, rows, work);
+    states & certain & interference
+}
+
 // How a case was answered, and where the next one stands.
 struct Replayed {
     next: usize,
@@ -46,14 +67,22 @@ fn replay_case(
 {
     let case = data::read_case(s, at, file);
     let sizes = data::answer_sizes(file);
-    let names_at = data::end(s, case, sizes);
-    let conflicts_at = data::after_names(s, names_at);
-    let states = answers::lend(s, file, case, sizes, masks, live_in, live_out, work);
-    let certain = names::lend(s, names_at, file, case, work);
-    let interference = conflicts::lend(s, conflicts_at, file, case, sizes, rows, work);
+    let places = data::find_places(s, case, sizes);
+    let same = answered(
+        s,
+        file,
+        case,
+        sizes,
+        places,
+        masks,
+        live_in,
+        live_out,
+        rows,
+        work,
+    );
     Replayed {
-        next: data::after_conflicts(s, conflicts_at, sizes),
-        different: told(number, states & certain & interference),
+        next: places.next,
+        different: told(number, same),
     }
 }
 

@@ -34,14 +34,7 @@ fn written(s: &[u8], at: usize, names: usize, rows: &[u64], work: &[u64]) -> boo
 }
 
 // The areas are as long as the case says. The words stand after the answer at `at`.
-fn same(
-    s: &[u8],
-    at: usize,
-    file: &[u8],
-    names: usize,
-    rows: &mut [u64],
-    work: &mut [u64],
-) -> bool
+fn same(s: &[u8], at: usize, file: &[u8], names: usize, rows: &mut [u64], work: &mut [u64]) -> bool
     requires { ⌜ at ≤ length (now s) ⌝ }
 {
     fill_words(rows);
@@ -79,5 +72,12 @@ pub fn lend(
     let size = case.size;
     let r = least(number(s, at, 4) as usize, rows.len());
     let w = least(case.work, work.len());
-    same(s, skip(s, at, 4), &file[..size], sizes.names, &mut rows[..r], &mut work[..w])
+    same(
+        s,
+        skip(s, at, 4),
+        &file[..size],
+        sizes.names,
+        &mut rows[..r],
+        &mut work[..w],
+    )
 }

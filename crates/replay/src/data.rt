@@ -32,6 +32,13 @@ pub struct Sizes {
     pub names: usize,
 }
 
+// Where the answers after the first stand, and where the next case does.
+pub struct Places {
+    pub names: usize,
+    pub conflicts: usize,
+    pub next: usize,
+}
+
 pub fn least(a: usize, b: usize) -> usize
     ensures { λ r. ⌜ r ≡ min a b ⌝ }
 {
@@ -154,7 +161,7 @@ pub fn answer_sizes(file: &[u8]) -> Sizes
 }
 
 // The place after the first answer of a case. An accepted one has visits, masks, live-in and live-out words too.
-pub fn end(s: &[u8], case: Case, sizes: Sizes) -> usize
+fn end(s: &[u8], case: Case, sizes: Sizes) -> usize
     requires { ⌜ (case .answers ≤ length (now s)) × (sizes .masks ≤ 16711425) × (sizes .live ≤ 524280) ⌝ }
     ensures { λ r. ⌜ (case .answers ≤ r) × (r ≤ length (now (s .entry))) ⌝ }
 {
@@ -165,7 +172,7 @@ pub fn end(s: &[u8], case: Case, sizes: Sizes) -> usize
 }
 
 // The place after the answer about certain names at `at`, which every case has: 13 bytes.
-pub fn after_names(s: &[u8], at: usize) -> usize
+fn after_names(s: &[u8], at: usize) -> usize
     requires { ⌜ at ≤ length (now s) ⌝ }
     ensures { λ r. ⌜ (at ≤ r) × (r ≤ length (now (s .entry))) ⌝ }
 {
@@ -173,7 +180,7 @@ pub fn after_names(s: &[u8], at: usize) -> usize
 }
 
 // The place after the answer about names that interfere at `at`, which every case has: the length of the rows and 13 bytes. An accepted one has a word a name too.
-pub fn after_conflicts(s: &[u8], at: usize, sizes: Sizes) -> usize
+fn after_conflicts(s: &[u8], at: usize, sizes: Sizes) -> usize
     requires { ⌜ (at ≤ length (now s)) × (sizes .names ≤ 255) ⌝ }
     ensures { λ r. ⌜ (at ≤ r) × (r ≤ length (now (s .entry))) ⌝ }
 {
@@ -181,4 +188,17 @@ pub fn after_conflicts(s: &[u8], at: usize, sizes: Sizes) -> usize
         return skip(s, at, 17);
     }
     skip(s, at, 17 + 8 * sizes.names)
+}
+
+pub fn find_places(s: &[u8], case: Case, sizes: Sizes) -> Places
+    requires { ⌜ (case .answers ≤ length (now s)) × (sizes .masks ≤ 16711425) × (sizes .live ≤ 524280) × (sizes .names ≤ 255) ⌝ }
+    ensures { λ r. ⌜ (r .names ≤ length (now (s .entry))) × (r .conflicts ≤ length (now (s .entry))) × (case .answers ≤ r .next) × (r .next ≤ length (now (s .entry))) ⌝ }
+{
+    let names = end(s, case, sizes);
+    let conflicts = after_names(s, names);
+    Places {
+        names,
+        conflicts,
+        next: after_conflicts(s, conflicts, sizes),
+    }
 }

@@ -8,7 +8,7 @@ mod data;
 mod names;
 
 fn main() {
-    let mut stored = [0u8; 700000];
+    let mut stored = [0u8; 600000];
     let size = io::read_full(0, &mut stored);
     let mut file = [0u8; 262200];
     let mut masks = [0u8; 131200];
