@@ -1257,7 +1257,7 @@ const INTERFERENCE: [(&str, Fault, &str); 31] = [
     ),
     (
         "a name that is read again only in the next round",
-        Fault::EndsLeftOut,
+        Fault::LowerHalf,
         "flow 4 statements, 0 arrays, 2 names, entry 0
          0: line 10 other; to 1; reads 1
          1: line 20 other; to 2; writes 0
@@ -1273,7 +1273,7 @@ const INTERFERENCE: [(&str, Fault, &str); 31] = [
     ),
     (
         "names that meet no other",
-        Fault::MostByRow,
+        Fault::MeetsItself,
         "flow 3 statements, 0 arrays, 4 names, entry 0
          0: line 10 other; to 1; writes 0
          1: line 20 other; to 2; reads 0
@@ -1440,7 +1440,7 @@ fn all_names(names: u8, statements: usize) -> Flow {
     let statement = |i: usize| {
         let next = (i + 1) % statements;
         let mut s = Statement::new(10 + 10 * i as u16, Kind::Other, &[next as u16], &[]);
-        *(if i % 2 == 0 { &mut s.read } else { &mut s.written }) = all;
+        *(if i % 2 == 1 { &mut s.written } else { &mut s.read }) = all;
         s
     };
     Flow { names, statements: (0..statements).map(statement).collect(), ..Flow::default() }

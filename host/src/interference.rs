@@ -3,6 +3,8 @@
 
 use std::fmt::Write;
 
+use crate::text::{counted, list};
+
 /// What is found of the names of a flow.
 #[derive(Clone, Debug, Default, PartialEq, Eq)]
 pub struct Interference {
@@ -41,7 +43,7 @@ impl Interference {
         cells.into_iter().map(|cell| cell.unwrap_or(0)).collect()
     }
 
-    /// A row a name with `x` for each that it interferes with, the names live at once, and a cell a name.
+    /// A row a name with `x` for each that it interferes with, how many are live at once, and a cell a name.
     pub fn print(&self) -> String {
         let names = self.rows.len();
         let mut text = String::new();
@@ -51,7 +53,6 @@ impl Interference {
         }
         let cells = self.cells();
         let count = cells.iter().max().map_or(0, |last| last + 1);
-        let list = crate::text::list(cells);
-        text + &format!("{} live at once\n{count} cells:{list}\n", self.most)
+        text + &format!("{} live at once\n{}:{}\n", self.most, counted(count, "cell"), list(cells))
     }
 }
