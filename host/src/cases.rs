@@ -1446,30 +1446,30 @@ fn all_names(names: u8, statements: usize) -> Flow {
     Flow { names, statements: (0..statements).map(statement).collect(), ..Flow::default() }
 }
 
-/// Each count of names at its limits, the rows one word short, just enough, and longer; and the other areas, of
-/// which the call for interference judges the work area alone.
-fn interference_areas() -> Vec<Case> {
+/// As few and as many names as there may be, with the rows one word short, just enough, and longer.
+fn interference_rows() -> Vec<Case> {
+    let flows = [0, 1, 63, 64].into_iter().flat_map(|names| {
+        let flow = all_names(names, 2);
+        [("2 statements", flow.clone()), ("2 statements, a handler", Flow { handler: Some(1), ..flow })]
+    });
+    let empty = [0, 1, 64].map(|names| ("0 statements", all_names(names, 0)));
     let mut cases = Vec::new();
-    for (statements, names) in [(2, 0), (2, 1), (2, 63), (2, 64), (0, 0), (0, 1), (0, 64)] {
-        for (what, handler) in [("", None), (", a handler", Some(1))] {
-            if statements == 0 && handler.is_some() {
-                continue;
-            }
-            let file = Flow { handler, ..all_names(names, statements) }.bytes();
-            let names_of = text::counted(names.into(), "name");
-            let exact = Case::new(format!("{names_of}, {statements} statements{what}"), file, 0);
-            let rows = exact.lent.rows;
-            let mut lend = |of: &str, rows: usize| {
-                let lent = Lent { rows, ..exact.lent };
-                cases.push(Case { name: format!("{}, {of}", exact.name), lent, ..exact.clone() });
-            };
-            if names > 0 {
-                lend("rows one short", rows - 1);
-            }
-            lend("rows just enough", rows);
-            lend("rows longer", rows + 3);
+    for (what, flow) in flows.chain(empty) {
+        let names = usize::from(flow.names);
+        let exact = Case::new(format!("{}, {what}", text::counted(names, "name")), flow.bytes(), 0);
+        let short = names.checked_sub(1).map(|rows| ("rows one short", rows));
+        let lengths = [("rows just enough", names), ("rows longer", names + 3)];
+        for (of, rows) in short.into_iter().chain(lengths) {
+            let lent = Lent { rows, ..exact.lent };
+            cases.push(Case { name: format!("{}, {of}", exact.name), lent, ..exact.clone() });
         }
     }
+    cases
+}
+
+/// The call for interference judges the work area and the rows, and no other area.
+fn interference_areas() -> Vec<Case> {
+    let mut cases = Vec::new();
     let exact = Case::new("", every_kind().bytes(), 0);
     let lent = exact.lent;
     for (of, lent) in [
@@ -1479,14 +1479,14 @@ fn interference_areas() -> Vec<Case> {
         ("work one short, and the rows", Lent { work: lent.work - 1, rows: lent.rows - 1, ..lent }),
         ("work and rows long", Lent { work: lent.work + 7, rows: lent.rows + 70, ..lent }),
         (
-            "all areas one short but the rows",
+            "every area short but the rows",
             Lent { masks: lent.masks - 1, live_in: 0, live_out: 0, work: lent.work - 1, ..lent },
         ),
     ] {
         cases.push(Case { name: of.into(), lent, ..exact.clone() });
     }
     for rows in [0, 1, 9] {
-        let mut refused = Case::new(format!("a file refused, {rows} rows"), refused(), 1);
+        let mut refused = Case::new(format!("a file refused, {}", text::counted(rows, "row")), refused(), 1);
         refused.lent.rows = rows;
         cases.push(refused);
     }
@@ -1509,9 +1509,11 @@ fn interference_sizes() -> Vec<Case> {
     let mut cases: Vec<Case> = [64, 65]
         .map(|n| Case::new(format!("a loop of {n} statements, 64 names"), ring(n).bytes(), 1))
         .to_vec();
+    let keyed = Flow { handler: Some(64), ..ring(65) };
+    cases.push(Case::new("a loop of 65 statements, 64 names, a handler", keyed.bytes(), 1));
     let half = 0xF0F0_F0F0_0F0F_0F0F;
     let [mut writes, mut reads] = [1, 0].map(|to| Statement::new(10, Kind::Other, &[to], &[]));
-    (writes.written, reads.read, reads.written) = (half, half, 1 << 63);
+    (writes.written, reads.read) = (half | 1 << 4, half);
     let mut head = header(2_048, 0, 2_047);
     head[5] = 64;
     let both = [record(&writes), record(&reads)].concat();
@@ -1525,7 +1527,8 @@ fn interference_sizes() -> Vec<Case> {
 /// The flows above, areas, and sizes.
 pub fn interference() -> Vec<Case> {
     let flows = interference_flows().into_iter().map(|(name, _, flow)| Case::new(name, flow.bytes(), 1));
-    let mut cases: Vec<Case> = flows.chain(interference_areas()).chain(interference_sizes()).collect();
+    let mut cases =
+        [flows.collect(), interference_rows(), interference_areas(), interference_sizes()].concat();
     cases.iter_mut().for_each(|case| case.name.insert_str(0, "interference: "));
     cases
 }

@@ -32,8 +32,9 @@ impl Lent {
     /// The areas of a file of a run: they serve it, but for the rows, which are one word short in one file of 16; in
     /// another they are just enough, and in another longer than any flow needs.
     pub fn in_turn(file: &[u8], index: u64) -> Lent {
-        let mut lent = Lent::for_file(file, (index % 3) as usize);
-        let names = Lent::for_file(file, 0).rows;
+        let more = (index % 3) as usize;
+        let mut lent = Lent::for_file(file, more);
+        let names = lent.rows - more;
         // Past the turns that the kinds of flows take.
         match index / 6 % 16 {
             0 => lent.rows = names.saturating_sub(1),
@@ -109,7 +110,8 @@ impl Outcome {
     /// What the call for interference has found of so many names, where it accepts.
     fn interfering(&self, names: u8) -> Option<Interference> {
         let most = self.interference.result().ok()?;
-        Some(Interference { rows: self.rows[..names.into()].to_vec(), most })
+        let rows = self.rows.get(..names.into())?;
+        Some(Interference { rows: rows.to_vec(), most })
     }
 }
 
