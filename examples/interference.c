@@ -11,13 +11,13 @@
 static uint8_t file[262144 + 1];
 static uint64_t rows[YARNUSKEL_MAX_NAMES], work[WORK];
 
-static int meets(unsigned x, unsigned y) {
+static int interfere(unsigned x, unsigned y) {
     return rows[x] >> y & 1;
 }
 
 static unsigned met(unsigned x) {
     unsigned count = 0;
-    for (unsigned y = 0; y < YARNUSKEL_MAX_NAMES; y++) count += meets(x, y);
+    for (unsigned y = 0; y < YARNUSKEL_MAX_NAMES; y++) count += interfere(x, y);
     return count;
 }
 
@@ -34,7 +34,7 @@ static unsigned next_name(const unsigned *cells, unsigned names) {
 static unsigned free_cell(const unsigned *cells, unsigned names, unsigned x) {
     unsigned cell = 0, y = 0;
     while (y < names) {
-        int taken = meets(x, y) && cells[y] == cell;
+        int taken = interfere(x, y) && cells[y] == cell;
         cell += taken;
         y = taken ? 0 : y + 1;
     }
@@ -70,7 +70,7 @@ int main(int count, char **words) {
     unsigned names = file[5], cells[YARNUSKEL_MAX_NAMES];
     for (unsigned x = 0; x < names; x++) {
         printf("%2u ", x);
-        for (unsigned y = 0; y < names; y++) putchar(meets(x, y) ? 'x' : '.');
+        for (unsigned y = 0; y < names; y++) putchar(interfere(x, y) ? 'x' : '.');
         printf("\n");
     }
     unsigned shared = share_cells(cells, names);

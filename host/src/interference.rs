@@ -16,7 +16,7 @@ pub struct Interference {
 
 impl Interference {
     /// Whether names x and y interfere; there are as many names as rows.
-    pub fn meets(&self, x: usize, y: usize) -> bool {
+    pub fn interferes(&self, x: usize, y: usize) -> bool {
         self.rows[x] >> y & 1 == 1
     }
 
@@ -24,8 +24,8 @@ impl Interference {
     pub fn is_well_formed(&self) -> bool {
         let names = self.rows.len();
         let beyond = |row: &u64| names < 64 && row >> names != 0;
-        let mirrored = |x: usize| (0..names).all(|y| self.meets(x, y) == self.meets(y, x));
-        !self.rows.iter().any(beyond) && (0..names).all(|x| !self.meets(x, x) && mirrored(x))
+        let mirrored = |x: usize| (0..names).all(|y| self.interferes(x, y) == self.interferes(y, x));
+        !self.rows.iter().any(beyond) && (0..names).all(|x| !self.interferes(x, x) && mirrored(x))
     }
 
     /// A cell for each name, so that no two names that interfere share one. A name that meets more others comes
@@ -37,7 +37,7 @@ impl Interference {
         order.sort_by_key(|&x| std::cmp::Reverse(self.rows[x].count_ones()));
         let mut cells: Vec<Option<usize>> = vec![None; names];
         for x in order {
-            let taken = |cell: usize| (0..names).any(|y| self.meets(x, y) && cells[y] == Some(cell));
+            let taken = |cell: usize| (0..names).any(|y| self.interferes(x, y) && cells[y] == Some(cell));
             cells[x] = (0..names).find(|&cell| !taken(cell));
         }
         cells.into_iter().map(|cell| cell.unwrap_or(0)).collect()
@@ -48,7 +48,7 @@ impl Interference {
         let names = self.rows.len();
         let mut text = String::new();
         for x in 0..names {
-            let row: String = (0..names).map(|y| if self.meets(x, y) { 'x' } else { '.' }).collect();
+            let row: String = (0..names).map(|y| if self.interferes(x, y) { 'x' } else { '.' }).collect();
             writeln!(text, "{x:>2} {row}").unwrap();
         }
         let cells = self.cells();

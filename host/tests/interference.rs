@@ -132,7 +132,7 @@ fn cells_are_not_shared_by_names_that_interfere() {
         let found = answerer::interfering_names(&flow, None);
         let (cells, names) = (found.cells(), found.rows.len());
         assert_eq!(cells.len(), names);
-        let shared = |x: usize| (0..names).any(|y| found.meets(x, y) && cells[x] == cells[y]);
+        let shared = |x: usize| (0..names).any(|y| found.interferes(x, y) && cells[x] == cells[y]);
         assert!(!(0..names).any(shared), "{}", found.print());
         let count = cells.iter().max().map_or(0, |last| last + 1);
         let most_met = found.rows.iter().map(|row| row.count_ones() as usize).max();

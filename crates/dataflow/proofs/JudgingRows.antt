@@ -28,7 +28,7 @@ use Rattle.theory.specs.Lists.{maxBelow}
 use Rattle.theory.specs.Live.{member}
 use Rattle.theory.specs.Interference.{interferenceWord, liveCount, mostLive}
 use Rattle.theory.specs.contracts.WellFormed.{WellFormed}
-use Rattle.theory.proofs.Interference.{interferenceWord-lt, interferenceWord-sound, interferenceWord-complete, interferenceWord-sym, interferenceWord-itself, interferenceWord-none, mostLive-largest, mostLive-met, mostLive-none}
+use Rattle.theory.proofs.Interference.{interferenceWord-lt, interferenceWord-sound, interferenceWord-complete, interferenceWord-sym, interferenceWord-itself, interferenceWord-none, mostLive-largest, mostLive-attained, mostLive-none}
 use Rattle.statements.specs.contracts.Layout.{matrixAt}
 use Rattle.statements.specs.contracts.Ready.{Ready, Keeps}
 use Rattle.statements.proofs.Keeps.{ready-size, ready-keeps, keeps-zeroed}
@@ -55,7 +55,7 @@ found {f} w {rows} {rows′} {work} {work′} {most} c empty = record {
   not-itself = λ x k. ap (λ z. member z x) (rows-are .word x k) ∙ interferenceWord-itself f x k;
   most-is = c .most-is;
   largest = λ i l. subst (λ z. liveCount f i ≤ z) (sym (c .most-is)) (mostLive-largest f i l);
-  met = λ l. let t = mostLive-met f l in (t .0, t .1, t .2 ∙ sym (c .most-is));
+  attained = λ l. let t = mostLive-attained f l in (t .0, t .1, t .2 ∙ sym (c .most-is));
   none = λ e. c .most-is ∙ mostLive-none f e;
   work-zero = empty;
 }

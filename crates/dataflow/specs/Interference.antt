@@ -31,7 +31,7 @@ pub record InterferenceFound (f : Flow) (rows rows′ work work′ : List ℕ) (
   -- the size of the largest live-in set, 0 for n 0
   pub most-is : most ≡ mostLive f
   pub largest : (i : ℕ) → i < size f → liveCount f i ≤ most
-  pub met : 0 < size f → (i : ℕ) × (i < size f) × (liveCount f i ≡ most)
+  pub attained : 0 < size f → (i : ℕ) × (i < size f) × (liveCount f i ≡ most)
   pub none : size f ≡ 0 → most ≡ 0
   pub work-zero : work′ ≡ replicate (length work) 0
 

@@ -29,9 +29,9 @@ use Rattle.statements.specs.contracts.Uses.{Gathered}
 use Rattle.statements.proofs.Keeps.{ready-size, ready-formed, keeps-trans, keeps-zeroed}
 use Rattle.statements.proofs.WellFormed.{names-is}
 use Rattle.statements.proofs.Names.{member-bit, bit-member, or-first, or-second, or-either, bit-below, word-below, read-name, written-name}
-use Rattle.interference.specs.contracts.Meeting.{Met, MetNew, Both, Pairs}
+use Rattle.interference.specs.contracts.Clique.{CliqueAdded, NewCliqueAdded, Both, Pairs}
 use Rattle.interference.specs.contracts.Rows.{RowsRoom, afterWord, Seen, BothUsed, Noted, Rows}
-use Rattle.interference.proofs.Paired.{pairs-as, pairs-none, pairs-met, met-keeps, Going, going-none, going-as, going-new}
+use Rattle.interference.proofs.Paired.{pairs-as, pairs-none, pairs-added, added-keeps, Going, going-none, going-as, going-new}
 
 module _ {s ws : List ℕ} {n : ℕ} (r : Ready s ws n) where
   -- a name that is used is one of the flow's
@@ -96,11 +96,11 @@ module _ {s ws : List ℕ} {n : ℕ} (r : Ready s ws n) where
       go (no d) = inl (inl (k, omega (arith, d), t))
 
   pub going-statement : {rows₀ rows vs us : List ℕ} {i last a b p q : ℕ} → Going (flowOf s .names) (Seen (flowOf s) i) rows₀ rows last → last < 2 ^ 64 → p < 2 ^ 64 → a ≡ liveInWord (flowOf s) i → b ≡ afterWord (flowOf s) i
-      → MetNew rows vs last a p → MetNew vs us p b q → Going (flowOf s .names) (Seen (flowOf s) (i + 1)) rows₀ us q
+      → NewCliqueAdded rows vs last a p → NewCliqueAdded vs us p b q → Going (flowOf s .names) (Seen (flowOf s) (i + 1)) rows₀ us q
   going-statement {rows₀} {rows} {vs} {us} {i} {last} {a} {b} {p} {q} g fits fits′ in-is out-is first second =
       going-as (seen-more i) (more-seen i)
-      (going-new (going-new g names-few (liveInWord-lt (flowOf s) i) fits (subst (λ z. MetNew rows vs last z p) in-is first)) names-few (after-lt i) fits′
-      (subst (λ z. MetNew vs us p z q) out-is second))
+      (going-new (going-new g names-few (liveInWord-lt (flowOf s) i) fits (subst (λ z. NewCliqueAdded rows vs last z p) in-is first)) names-few (after-lt i) fits′
+      (subst (λ z. NewCliqueAdded vs us p z q) out-is second))
 
   -- The names that are used
 
@@ -116,14 +116,14 @@ module _ {s ws : List ℕ} {n : ℕ} (r : Ready s ws n) where
   pub used-lt : {w v : ℕ} → Gathered (flowOf s) n w v → bitOr w v < 2 ^ (flowOf s .names)
   used-lt {w} {v} g = word-below (bitOr w v) (flowOf s .names) (λ x e. used-name (used-both g x e))
 
-  pub noted-used : {rows vs : List ℕ} {w v : ℕ} → Gathered (flowOf s) n w v → Met rows vs (bitOr w v) → Noted (flowOf s) (BothUsed (flowOf s)) rows vs
+  pub noted-used : {rows vs : List ℕ} {w v : ℕ} → Gathered (flowOf s) n w v → CliqueAdded rows vs (bitOr w v) → Noted (flowOf s) (BothUsed (flowOf s)) rows vs
   noted-used {rows} {vs} {w} {v} g m =
       let fits = lt-of-lt-of-le (used-lt g) (pow-mono names-few) in
       record {
         pairs = λ z. pairs-as (λ x y t. ⊎-elim (λ (e : ⊥). absurd e) (λ (b : Both (bitOr w v) x y). (used-both g x (b .0), used-both g y (b .1))) t)
             (λ x y u. inr (both-used g (u .0), both-used g (u .1)))
-            (pairs-met fits m z);
-        kept = met-keeps fits m (used-lt g);
+            (pairs-added fits m z);
+        kept = added-keeps fits m (used-lt g);
       }
 
   -- The words

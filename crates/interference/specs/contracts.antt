@@ -1,3 +1,3 @@
 -- What the functions of this crate promise one another and their callers. No promise of a door cites it.
-pub mod Meeting
+pub mod Clique
 pub mod Rows

@@ -6,15 +6,15 @@ ghost use lib.Count.{ones};
 ghost use lib.ListN.{length, getD};
 ghost use Rattle.flow.specs.Format.{flowOf};
 ghost use Rattle.theory.specs.Lists.{maxBelow};
-ghost use Rattle.interference.specs.contracts.Meeting.{Met, MetNew};
+ghost use Rattle.interference.specs.contracts.Clique.{CliqueAdded, NewCliqueAdded};
 ghost use Rattle.interference.specs.contracts.Rows.{RowsRoom, RowsStart, LiveSets, Seen, BothUsed, Noted, Rows};
 use flow::StmtId;
 use statements::fields;
 
-// Each name of a set meets the others: its word gets them.
-fn meet(rows: &mut [u64], set: u64)
+// The names of a set interfere with one another: the word of each gets the others.
+fn add_clique(rows: &mut [u64], set: u64)
     requires { ⌜ set < 2 ^ length (now rows) ⌝ }
-    ensures { λ _. ⌜ Met (now (rows .entry)) (now (rows .exit)) set ⌝ }
+    ensures { λ _. ⌜ CliqueAdded (now (rows .entry)) (now (rows .exit)) set ⌝ }
 {
     let mut rest = set;
     while rest != 0 {
@@ -25,21 +25,21 @@ fn meet(rows: &mut [u64], set: u64)
     }
 }
 
-// The same, unless the set is within one whose names have met. Answers a set whose names have.
-fn meet_new(rows: &mut [u64], last: u64, set: u64) -> u64
+// The same, unless the set is within the last one that was added. Answers which is the last one then.
+fn add_new_clique(rows: &mut [u64], last: u64, set: u64) -> u64
     requires { ⌜ set < 2 ^ length (now rows) ⌝ }
-    ensures { λ r. ⌜ MetNew (now (rows .entry)) (now (rows .exit)) last set r ⌝ }
+    ensures { λ r. ⌜ NewCliqueAdded (now (rows .entry)) (now (rows .exit)) last set r ⌝ }
 {
     if words::difference(set, last) == 0 {
         return last;
     }
-    meet(rows, set);
+    add_clique(rows, set);
     set
 }
 
-// The names at the start of each statement meet, and so do those at its end: what is live after it, and what it writes. The end of one statement mostly has the
+// The names at the start of each statement interfere, and so do those at its end: what is live after it, and what it writes. The end of one statement mostly has the
 // names that the next one starts with.
-fn meet_statements(
+fn add_statements(
     file: &[u8],
     work: &[u64],
     live_in: &[u64],
@@ -54,19 +54,19 @@ fn meet_statements(
     let mut i = 0;
     while i < n {
         let p = fields::offset(file, work, n, StmtId(i));
-        last = meet_new(rows, last, live_in[i]);
-        last = meet_new(rows, last, live_out[i] | records::written(file, p));
+        last = add_new_clique(rows, last, live_in[i]);
+        last = add_new_clique(rows, last, live_out[i] | records::written(file, p));
         i += 1;
     }
 }
 
-// The names that some statement reads or writes meet.
-fn meet_used(file: &[u8], work: &[u64], rows: &mut [u64], n: usize)
+// The names that some statement reads or writes interfere.
+fn add_used(file: &[u8], work: &[u64], rows: &mut [u64], n: usize)
     requires { ⌜ RowsRoom (now file) (now work) (now rows) n ⌝ }
     ensures { λ _. ⌜ Noted (flowOf (now (file .entry))) (BothUsed (flowOf (now (file .entry)))) (now (rows .entry)) (now (rows .exit)) ⌝ }
 {
     let all = statements::uses::gather_uses(file, work, n);
-    meet(rows, all.written | all.read);
+    add_clique(rows, all.written | all.read);
 }
 
 // The word of each name, from the live sets, in a flow without an interrupt key.
@@ -83,16 +83,16 @@ pub fn live_rows(
     ensures { λ _. ⌜ Rows (flowOf (now (file .entry))) (now (rows .entry)) (now (rows .exit)) ⌝ }
 {
     words::zero_row(rows, 0, names);
-    meet_statements(file, work, live_in, live_out, rows, n);
+    add_statements(file, work, live_in, live_out, rows, n);
 }
 
-// The same with an interrupt key, which may come between any two statements: every name that is used meets every other.
+// The same with an interrupt key, which may come between any two statements: every name that is used interferes with every other.
 pub fn used_rows(file: &[u8], work: &[u64], rows: &mut [u64], names: usize, n: usize)
     requires { ⌜ RowsStart (now file) (now work) (now rows) names n × ((h : ℕ) × (flowOf (now file) .handler ≡ some h)) ⌝ }
     ensures { λ _. ⌜ Rows (flowOf (now (file .entry))) (now (rows .entry)) (now (rows .exit)) ⌝ }
 {
     words::zero_row(rows, 0, names);
-    meet_used(file, work, rows, n);
+    add_used(file, work, rows, n);
 }
 
 // How many names are live at once: the size of the largest live-in set.

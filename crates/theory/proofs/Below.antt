@@ -60,10 +60,10 @@ maxBelow-at (suc k) f i l = go (ℕ-discrete i k) (maxBelow-at k f i)
     go (no d) ih = omega (arith, ih (omega (arith, d)))
 
 -- and is one of them
-pub maxBelow-met : (k : ℕ) (f : ℕ → ℕ) → 0 < k → (i : ℕ) × (i < k) × (f i ≡ maxBelow k f)
+pub maxBelow-attained : (k : ℕ) (f : ℕ → ℕ) → 0 < k → (i : ℕ) × (i < k) × (f i ≡ maxBelow k f)
 unfolding maxBelow
-maxBelow-met zero f l = absurd (omega arith)
-maxBelow-met (suc k) f l = go (decLt (f k) (maxBelow k f)) (decLt 0 k) (maxBelow-met k f)
+maxBelow-attained zero f l = absurd (omega arith)
+maxBelow-attained (suc k) f l = go (decLt (f k) (maxBelow k f)) (decLt 0 k) (maxBelow-attained k f)
   where
     go : Dec (f k < maxBelow k f) → Dec (0 < k) → (0 < k → (i : ℕ) × (i < k) × (f i ≡ maxBelow k f)) → (i : ℕ) × (i < suc k) × (f i ≡ max (maxBelow k f) (f k))
     go (no d) s ih = (k, omega arith, omega (arith, d))

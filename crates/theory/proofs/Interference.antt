@@ -1,5 +1,5 @@
 -- Names that interfere are decided exactly: each test finds what its rule names. The relation is symmetric, no name meets itself, and only names that are read or written interfere, so that
--- with a handler all of these do and no others. How many names are live at once is met at a statement, and passed at none. By the tests of live names. Assumes nothing.
+-- with a handler all of these do and no others. How many names are live at once is attained at a statement, and passed at none. By the tests of live names. Assumes nothing.
 use Prim.Native.Nat.{ℕ, _^_, _<_, _≤_}
 use mathlib.Core.Bool.{Bool, true, false, not, _&&_, _||_}
 use mathlib.Core.Logic.{_⊎_, inl, inr}
@@ -14,9 +14,9 @@ use Rattle.theory.specs.Body.{successors}
 use Rattle.theory.specs.Key.{byHandler}
 use Rattle.theory.specs.contracts.WellFormed.{WellFormed}
 use Rattle.theory.specs.Live.{member, reads, writes, LiveIn, LiveOut, liveIn, liveOut}
-use Rattle.theory.specs.Interference.{After, Used, Together, Interferes, after, used, meet, together, interferes, interferenceWord, liveCount, mostLive}
+use Rattle.theory.specs.Interference.{After, Used, Together, Interferes, after, used, togetherAt, together, interferes, interferenceWord, liveCount, mostLive}
 use Rattle.theory.proofs.Lists.{clash, or-cases, or-left, or-right, and-both, and-true, same-test, any-In, any-find, none-any, upTo-In, In-upTo}
-use Rattle.theory.proofs.Below.{maxBelow-at, maxBelow-met}
+use Rattle.theory.proofs.Below.{maxBelow-at, maxBelow-attained}
 use Rattle.theory.proofs.Live.{liveIn-sound, liveIn-complete, liveOut-sound, liveOut-complete}
 use Rattle.theory.proofs.Names.{namesWord-member, namesWord-lt, namesWord-empty}
 
@@ -45,9 +45,9 @@ unfolding used
 used-complete {f} {x} (Used.read {i = i} l e) = any-In (λ i. reads f i x || writes f i x) (upTo-In (size f) i l) (or-left (reads f i x) (writes f i x) e)
 used-complete {f} {x} (Used.written {i = i} l e) = any-In (λ i. reads f i x || writes f i x) (upTo-In (size f) i l) (or-right (reads f i x) (writes f i x) e)
 
-meet-sound : (f : Flow) (x y i : ℕ) → i < size f → meet f x y i ≡ true → Together f x y
-unfolding meet
-meet-sound f x y i l h = go (or-cases (liveIn f x i && liveIn f y i) (after f x i && after f y i) h)
+togetherAt-sound : (f : Flow) (x y i : ℕ) → i < size f → togetherAt f x y i ≡ true → Together f x y
+unfolding togetherAt
+togetherAt-sound f x y i l h = go (or-cases (liveIn f x i && liveIn f y i) (after f x i && after f y i) h)
   where
     go : ((liveIn f x i && liveIn f y i) ≡ true) ⊎ ((after f x i && after f y i) ≡ true) → Together f x y
     go (inl e) = let t = and-both (liveIn f x i) (liveIn f y i) e in Together.at-start l (liveIn-sound f x i (t .0)) (liveIn-sound f y i (t .1))
@@ -57,8 +57,8 @@ together-sound : (f : Flow) (x y : ℕ) → together f x y ≡ true → Together
 unfolding together
 together-sound f x y = go (f .handler) refl
   where
-    go : (o : Option ℕ) → f .handler ≡ o → byHandler o (any (meet f x y) (upTo (size f))) (λ h. used f x && used f y) ≡ true → Together f x y
-    go none e h = let r = any-find (meet f x y) (upTo (size f)) h in meet-sound f x y (r .0) (In-upTo (size f) (r .1)) (r .2)
+    go : (o : Option ℕ) → f .handler ≡ o → byHandler o (any (togetherAt f x y) (upTo (size f))) (λ h. used f x && used f y) ≡ true → Together f x y
+    go none e h = let r = any-find (togetherAt f x y) (upTo (size f)) h in togetherAt-sound f x y (r .0) (In-upTo (size f) (r .1)) (r .2)
     go (some k) e h = let t = and-both (used f x) (used f y) h in Together.by-handler e (used-sound f x (t .0)) (used-sound f y (t .1))
 
 pub interferes-sound : (f : Flow) (x y : ℕ) → interferes f x y ≡ true → Interferes f x y
@@ -94,22 +94,22 @@ module _ {f : Flow} (w : WellFormed f) where
   after-complete {x} {i} (After.written e) = or-right (liveOut f x i) (writes f i x) e
 
   -- without a handler
-  meet-complete : {x y : ℕ} → f .handler ≡ none → Together f x y → any (meet f x y) (upTo (size f)) ≡ true
-  unfolding meet
-  meet-complete {x} {y} e (Together.at-start {i = i} l a b) =
-      any-In (meet f x y) (upTo-In (size f) i l)
+  togetherAt-complete : {x y : ℕ} → f .handler ≡ none → Together f x y → any (togetherAt f x y) (upTo (size f)) ≡ true
+  unfolding togetherAt
+  togetherAt-complete {x} {y} e (Together.at-start {i = i} l a b) =
+      any-In (togetherAt f x y) (upTo-In (size f) i l)
       (or-left (liveIn f x i && liveIn f y i) (after f x i && after f y i) (and-true (liveIn f x i) (liveIn f y i) (liveIn-complete w l a) (liveIn-complete w l b)))
-  meet-complete {x} {y} e (Together.at-end {i = i} l a b) =
-      any-In (meet f x y) (upTo-In (size f) i l)
+  togetherAt-complete {x} {y} e (Together.at-end {i = i} l a b) =
+      any-In (togetherAt f x y) (upTo-In (size f) i l)
       (or-right (liveIn f x i && liveIn f y i) (after f x i && after f y i) (and-true (after f x i) (after f y i) (after-complete a) (after-complete b)))
-  meet-complete e (Together.by-handler {h = h} q a b) = let z : _≡_ {A = Option ℕ} none (some h) = sym e ∙ q in let bad : _≡_ {A = ℕ} 0 1 = cc in absurd (omega arith)
+  togetherAt-complete e (Together.by-handler {h = h} q a b) = let z : _≡_ {A = Option ℕ} none (some h) = sym e ∙ q in let bad : _≡_ {A = ℕ} 0 1 = cc in absurd (omega arith)
 
   together-complete : {x y : ℕ} → Together f x y → together f x y ≡ true
   unfolding together
   together-complete {x} {y} t = go (f .handler) refl
     where
-      go : (o : Option ℕ) → f .handler ≡ o → byHandler o (any (meet f x y) (upTo (size f))) (λ h. used f x && used f y) ≡ true
-      go none e = meet-complete e t
+      go : (o : Option ℕ) → f .handler ≡ o → byHandler o (any (togetherAt f x y) (upTo (size f))) (λ h. used f x && used f y) ≡ true
+      go none e = togetherAt-complete e t
       go (some k) e = let u = together-used t in and-true (used f x) (used f y) (used-complete (u .0)) (used-complete (u .1))
 
   pub interferes-complete : {x y : ℕ} → Interferes f x y → interferes f x y ≡ true
@@ -185,9 +185,9 @@ module _ (f : Flow) where
   unfolding mostLive
   mostLive-largest = maxBelow-at (size f) (liveCount f)
 
-  pub mostLive-met : 0 < size f → (i : ℕ) × (i < size f) × (liveCount f i ≡ mostLive f)
+  pub mostLive-attained : 0 < size f → (i : ℕ) × (i < size f) × (liveCount f i ≡ mostLive f)
   unfolding mostLive
-  mostLive-met = maxBelow-met (size f) (liveCount f)
+  mostLive-attained = maxBelow-attained (size f) (liveCount f)
 
   pub mostLive-none : size f ≡ 0 → mostLive f ≡ 0
   unfolding mostLive maxBelow

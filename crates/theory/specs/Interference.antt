@@ -38,12 +38,12 @@ unfoldable pub used : Flow → ℕ → Bool
 used f x = any (λ i. reads f i x || writes f i x) (upTo (size f))
 
 -- both names at the start of a statement, or both at its end
-unfoldable pub meet : Flow → ℕ → ℕ → ℕ → Bool
-meet f x y i = (liveIn f x i && liveIn f y i) || (after f x i && after f y i)
+unfoldable pub togetherAt : Flow → ℕ → ℕ → ℕ → Bool
+togetherAt f x y i = (liveIn f x i && liveIn f y i) || (after f x i && after f y i)
 
--- with a handler, whatever meets somewhere is used too
+-- with a handler, whatever is together somewhere is used too
 unfoldable pub together : Flow → ℕ → ℕ → Bool
-together f x y = byHandler (f .handler) (any (meet f x y) (upTo (size f))) (λ h. used f x && used f y)
+together f x y = byHandler (f .handler) (any (togetherAt f x y) (upTo (size f))) (λ h. used f x && used f y)
 
 unfoldable pub interferes : Flow → ℕ → ℕ → Bool
 interferes f x y = not (eqb x y) && together f x y

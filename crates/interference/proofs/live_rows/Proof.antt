@@ -9,20 +9,20 @@ use Rattle.interference.proofs.live_rows.Tie as tie
 zero-row-requires : tie.Need-zero-row-requires
 zero-row-requires c κs = search needs
 
-meet-statements-requires : tie.Need-meet-statements-requires
-meet-statements-requires c κs = search needs
+add-statements-requires : tie.Need-add-statements-requires
+add-statements-requires c κs = search needs
 
 same-length : tie.Need-same-length
 same-length c = search needs
 
 returns : tie.Need-returns
 returns c =
-    let met = c .before .before in
-    let zeroed = met .before .before .before .before in
+    let added = c .before .before in
+    let zeroed = added .before .before .before .before in
     let start = zeroed .before .before .before .before .before .before .before in
     let p = start .pre in
-    live-rows (p .0 .rows-room .ready) (now (start .args .rows)) (p .0 .names-is) (p .0 .rows-room .room) (zeroed .zero-row .ensures) (p .2) (met .meet-statements .ensures)
+    live-rows (p .0 .rows-room .ready) (now (start .args .rows)) (p .0 .names-is) (p .0 .rows-room .room) (zeroed .zero-row .ensures) (p .2) (added .add-statements .ensures)
 
 pub live-rows-spec : {M : Type 1} → statement M
 live-rows-spec =
-    tie.close (tie.spec zero-row-requires meet-statements-requires same-length returns)
+    tie.close (tie.spec zero-row-requires add-statements-requires same-length returns)

@@ -10,7 +10,7 @@ use Rattle.flow.specs.Format.{flowOf}
 use Rattle.theory.specs.Live.{liveInWord, liveOutWord}
 use Rattle.theory.specs.Interference.{Used, interferenceWord}
 use Rattle.statements.specs.contracts.Ready.{Ready, Keeps}
-use Rattle.interference.specs.contracts.Meeting.{Both, Pairs}
+use Rattle.interference.specs.contracts.Clique.{Both, Pairs}
 
 -- the first n words are what f gives
 pub record WordsOf (n : ℕ) (f : ℕ → ℕ) (ws : List ℕ) : Type 0 where

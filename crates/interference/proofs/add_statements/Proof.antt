@@ -1,4 +1,4 @@
--- `meet_statements` meets its contract. The invariant: the words hold the pairs of the first i statements, those of the last set among them.
+-- `add_statements` meets its contract. The invariant: the words hold the pairs of the first i statements, those of the last set among them.
 -- Assumes nothing.
 use Prim.Native.Nat.{ℕ, _+_, _-_, _^_, _<_, _≤_}
 use mathlib.Core.List.{List}
@@ -17,8 +17,8 @@ use Rattle.interference.specs.contracts.Rows.{afterWord, Seen, Noted}
 use Rattle.interference.proofs.Paired.{Going, going-none}
 use Rattle.interference.proofs.Interfering.{after-lt, going-statement}
 use borrow.Author.Needs.{needs}
-use Rattle.interference.proofs.meet_statements.Statement.{statement}
-use Rattle.interference.proofs.meet_statements.Tie as tie
+use Rattle.interference.proofs.add_statements.Statement.{statement}
+use Rattle.interference.proofs.add_statements.Tie as tie
 
 abbrev Inv-loop : tie.InvT-loop
 Inv-loop file work live-in live-out rows₀ n last₀ i₀ rows last i = (i ≤ n) × (last < 2 ^ 64) × Going (flowOf file .names) (Seen (flowOf file) i) rows₀ rows last
@@ -53,43 +53,43 @@ module _ (c : tie.In-loop Inv-loop μ-loop) where
 offset-requires : tie.Need-offset-requires Inv-loop μ-loop
 offset-requires c κs = (start c .pre .0 .ready, omega arith)
 
-mul-meet-new : tie.Need-mul-meet-new Inv-loop μ-loop
-mul-meet-new c = let turn = c .before .before in omega (arith, ready-most (start turn .pre .0 .ready))
+mul-add-new-clique : tie.Need-mul-add-new-clique Inv-loop μ-loop
+mul-add-new-clique c = let turn = c .before .before in omega (arith, ready-most (start turn .pre .0 .ready))
 
-shared-slice-read-meet-new : tie.Need-shared-slice-read-meet-new Inv-loop μ-loop
-shared-slice-read-meet-new c = let turn = c .before .before .before in omega (arith, start turn .pre .1 .live-in .room)
+shared-slice-read-add-new-clique : tie.Need-shared-slice-read-add-new-clique Inv-loop μ-loop
+shared-slice-read-add-new-clique c = let turn = c .before .before .before in omega (arith, start turn .pre .1 .live-in .room)
 
-meet-new-requires : tie.Need-meet-new-requires Inv-loop μ-loop
-meet-new-requires c κs =
+add-new-clique-requires : tie.Need-add-new-clique-requires Inv-loop μ-loop
+add-new-clique-requires c κs =
     let turn = c .before .before .before in
     room turn (getD (start turn .args .live-in .now) (i turn) 0) (subst (λ (w : ℕ). w < 2 ^ (flowOf (file turn) .names)) (sym (in-is turn)) (liveInWord-lt (flowOf (file turn)) (i turn)))
 
--- the names at the start have met
-module _ (c : tie.After-meet-new Inv-loop μ-loop) where
+-- the names at the start are added
+module _ (c : tie.After-add-new-clique Inv-loop μ-loop) where
   abbrev turn : tie.In-loop Inv-loop μ-loop
   turn = c .before .before .before .before
 
-mul-meet-new-2 : tie.Need-mul-meet-new-2 Inv-loop μ-loop
-mul-meet-new-2 c = let t = turn (c .before .before .before) in omega (arith, ready-most (start t .pre .0 .ready))
+mul-add-new-clique-2 : tie.Need-mul-add-new-clique-2 Inv-loop μ-loop
+mul-add-new-clique-2 c = let t = turn (c .before .before .before) in omega (arith, ready-most (start t .pre .0 .ready))
 
-shared-slice-read-meet-new-2 : tie.Need-shared-slice-read-meet-new-2 Inv-loop μ-loop
-shared-slice-read-meet-new-2 c = let t = turn (c .before .before .before .before) in omega (arith, start t .pre .1 .live-out .room)
+shared-slice-read-add-new-clique-2 : tie.Need-shared-slice-read-add-new-clique-2 Inv-loop μ-loop
+shared-slice-read-add-new-clique-2 c = let t = turn (c .before .before .before .before) in omega (arith, start t .pre .1 .live-out .room)
 
 written-requires : tie.Need-written-requires Inv-loop μ-loop
 written-requires c κs = c .before .before .before .before .before .before .before .offset .ensures .fit
 
 -- what the statement ends with
 module _ (c : tie.After-written Inv-loop μ-loop) where
-  abbrev begun : tie.After-meet-new Inv-loop μ-loop
+  abbrev begun : tie.After-add-new-clique Inv-loop μ-loop
   begun = c .before .before .before .before .before
 
   after-is : bitOr (getD (start (turn begun) .args .live-out .now) (i (turn begun)) 0) (c .written .result) ≡ afterWord (flowOf (file (turn begun))) (i (turn begun))
   after-is = ap₂ bitOr (out-is (turn begun)) (c .written .ensures ∙ sym (begun .before .before .before .offset .ensures .written))
 
-meet-new-requires-2 : tie.Need-meet-new-requires-2 Inv-loop μ-loop
-meet-new-requires-2 c κs =
+add-new-clique-requires-2 : tie.Need-add-new-clique-requires-2 Inv-loop μ-loop
+add-new-clique-requires-2 c κs =
     let t = turn (begun c) in
-    subst (λ (k : ℕ). bitOr (getD (start t .args .live-out .now) (i t) 0) (c .written .result) < 2 ^ k) (sym (begun c .meet-new .kept .0))
+    subst (λ (k : ℕ). bitOr (getD (start t .args .live-out .now) (i t) 0) (c .written .result) < 2 ^ k) (sym (begun c .add-new-clique .kept .0))
     (room t _ (subst (λ (w : ℕ). w < 2 ^ (flowOf (file t) .names)) (sym (after-is c)) (after-lt (start t .pre .0 .ready) (i t))))
 
 add-i : tie.Need-add-i Inv-loop μ-loop
@@ -104,8 +104,8 @@ loop-again c =
     let first = begun ended in
     let t = turn first in (
       omega arith,
-      c .before .before .meet-new2 .ok,
-      going-statement (start t .pre .0 .ready) (t .before .loop .inv .2) (t .before .loop .inv .1) (first .meet-new .ok) (in-is t) (after-is ended) (first .meet-new .ensures) (c .before .before .meet-new2 .ensures),
+      c .before .before .add-new-clique2 .ok,
+      going-statement (start t .pre .0 .ready) (t .before .loop .inv .2) (t .before .loop .inv .1) (first .add-new-clique .ok) (in-is t) (after-is ended) (first .add-new-clique .ensures) (c .before .before .add-new-clique2 .ensures),
     )
 
 same-length : tie.Need-same-length Inv-loop μ-loop
@@ -120,21 +120,21 @@ returns c =
     subst (λ (k : ℕ). Going (flowOf (now (a .file)) .names) (Seen (flowOf (now (a .file))) k) (now (a .rows)) (loop .rows) (loop .last)) all (loop .inv .2) in
     record { pairs = g .pairs; kept = g .kept }
 
-pub meet-statements-spec : {M : Type 1} → statement M
-meet-statements-spec =
+pub add-statements-spec : {M : Type 1} → statement M
+add-statements-spec =
     tie.close
     (tie.spec
     Inv-loop
     μ-loop
     loop-holds
     offset-requires
-    mul-meet-new
-    shared-slice-read-meet-new
-    meet-new-requires
-    mul-meet-new-2
-    shared-slice-read-meet-new-2
+    mul-add-new-clique
+    shared-slice-read-add-new-clique
+    add-new-clique-requires
+    mul-add-new-clique-2
+    shared-slice-read-add-new-clique-2
     written-requires
-    meet-new-requires-2
+    add-new-clique-requires-2
     add-i
     loop-less
     loop-again

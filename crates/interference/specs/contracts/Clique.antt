@@ -1,4 +1,4 @@
--- The names of a set meet one another: what the words are then, every one of them, and which pairs of names they hold.
+-- The clique of a set of names is added: what the words are then, every one of them, and which pairs of names they hold.
 use Prim.Native.Nat.{ℕ, _^_, _<_}
 use mathlib.Core.Bool.{cond}
 use mathlib.Core.List.{List}
@@ -10,17 +10,17 @@ use Rattle.words.specs.contracts.Row.{bit}
 use Rattle.words.specs.contracts.Change.{without}
 
 -- the word of a name: where the set has the name, the others of the set join it
-unfoldable pub metWord : List ℕ → ℕ → ℕ → ℕ
-metWord rows names x = cond (eqb (bit names x) 1) (bitOr (getD rows x 0) (without names (2 ^ x))) (getD rows x 0)
+unfoldable pub cliqueWord : List ℕ → ℕ → ℕ → ℕ
+cliqueWord rows names x = cond (eqb (bit names x) 1) (bitOr (getD rows x 0) (without names (2 ^ x))) (getD rows x 0)
 
-pub record Met (rows rows′ : List ℕ) (names : ℕ) : Type 0 where
+pub record CliqueAdded (rows rows′ : List ℕ) (names : ℕ) : Type 0 where
   pub size : length rows′ ≡ length rows
-  pub word : (x : ℕ) → getD rows′ x 0 ≡ metWord rows names x
+  pub word : (x : ℕ) → getD rows′ x 0 ≡ cliqueWord rows names x
 
 -- nothing is written where all names of the set are in the last one; r is the last set now
-pub data MetNew (rows rows′ : List ℕ) (last names r : ℕ) : Type 0 where
-  within : rows′ ≡ rows → r ≡ last → without names last ≡ 0 → MetNew rows rows′ last names r
-  new : Met rows rows′ names → r ≡ names → MetNew rows rows′ last names r
+pub data NewCliqueAdded (rows rows′ : List ℕ) (last names r : ℕ) : Type 0 where
+  within : rows′ ≡ rows → r ≡ last → without names last ≡ 0 → NewCliqueAdded rows rows′ last names r
+  new : CliqueAdded rows rows′ names → r ≡ names → NewCliqueAdded rows rows′ last names r
 
 abbrev pub Both : ℕ → ℕ → ℕ → Type 0
 Both names x y = (bit names x ≡ 1) × (bit names y ≡ 1)

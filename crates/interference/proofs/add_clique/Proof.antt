@@ -1,4 +1,4 @@
--- `meet` meets its contract. The invariant: the words of the names that are left are as they were, and all others are done. The measure is how many names are left.
+-- `add_clique` meets its contract. The invariant: the words of the names that are left are as they were, and all others are done. The measure is how many names are left.
 -- Assumes nothing.
 use Prim.Native.Nat.{ℕ, _^_, _<_}
 use mathlib.Core.Path.{_≡_, sym, ap, _∙_, subst}
@@ -10,19 +10,19 @@ use Rattle.words.specs.contracts.Row.{bit, tally}
 use Rattle.words.specs.contracts.Change.{Joined, without}
 use Rattle.words.proofs.Bit.{one-shl}
 use Rattle.words.proofs.Lowest.{lowest-lt, lowest-less}
-use Rattle.interference.proofs.LowestFirst.{Meeting, meeting-all, lowest-room, meeting-on, met-all}
+use Rattle.interference.proofs.LowestFirst.{Adding, adding-all, lowest-room, adding-on, all-added}
 use borrow.Author.Needs.{needs}
-use Rattle.interference.proofs.meet.Statement.{statement}
-use Rattle.interference.proofs.meet.Tie as tie
+use Rattle.interference.proofs.add_clique.Statement.{statement}
+use Rattle.interference.proofs.add_clique.Tie as tie
 
 abbrev Inv-loop : tie.InvT-loop
-Inv-loop rows₀ set rest₀ rows rest = Meeting rows₀ rows set rest
+Inv-loop rows₀ set rest₀ rows rest = Adding rows₀ rows set rest
 
 abbrev μ-loop : tie.MeasureT-loop
 μ-loop rows₀ set rest₀ rows rest = tally (bit rest) 64
 
 loop-holds : tie.Need-loop-holds Inv-loop μ-loop
-loop-holds c = meeting-all (c .before .fits .set .fits)
+loop-holds c = adding-all (c .before .fits .set .fits)
 
 cast-x : tie.Need-cast-x Inv-loop μ-loop
 cast-x c = record { fits = lt-of-le-of-lt (trailing-le 64 _) (lit< tt) }
@@ -69,19 +69,19 @@ loop-again c =
     let a = t .before .before .before .args in
     let u = c .before .before .before .union-word in
     let others = c .before .before .before .before .difference in
-    let met : Joined (t .before .loop .rows) (u .last .0) (trailingZeros 64 (rest t)) (without (a .set) (2 ^ trailingZeros 64 (rest t))) (u .result) =
+    let joined : Joined (t .before .loop .rows) (u .last .0) (trailingZeros 64 (rest t)) (without (a .set) (2 ^ trailingZeros 64 (rest t))) (u .result) =
     subst (λ (w : ℕ). Joined (t .before .loop .rows) (u .last .0) (trailingZeros 64 (rest t)) w (u .result)) (others .ensures ∙ ap (without (a .set)) (one-shl (trailingZeros 64 (rest t)) (low t))) (u .ensures) in
-    subst (λ (w : ℕ). Meeting (a .rows .now) (u .last .0) (a .set) w) (sym (without-lowest c))
-    (meeting-on (t .before .loop .inv) (some t) (t .before .before .before .pre) met (subst (λ (w : ℕ). w < 2 ^ 64) (without-lowest c) (c .difference2 .ok)))
+    subst (λ (w : ℕ). Adding (a .rows .now) (u .last .0) (a .set) w) (sym (without-lowest c))
+    (adding-on (t .before .loop .inv) (some t) (t .before .before .before .pre) joined (subst (λ (w : ℕ). w < 2 ^ 64) (without-lowest c) (c .difference2 .ok)))
 
 same-length : tie.Need-same-length Inv-loop μ-loop
 same-length c = c .before .loop .inv .size
 
 returns : tie.Need-returns Inv-loop μ-loop
-returns c = met-all (c .before .loop .inv) (c .loop-test .left)
+returns c = all-added (c .before .loop .inv) (c .loop-test .left)
 
-pub meet-spec : {M : Type 1} → statement M
-meet-spec =
+pub add-clique-spec : {M : Type 1} → statement M
+add-clique-spec =
     tie.close
     (tie.spec
     Inv-loop
