@@ -14,6 +14,7 @@ extern "C" {
 #define YARNUSKEL_WORK_WORDS 64
 #define YARNUSKEL_MAX_STATEMENTS 2048
 #define YARNUSKEL_MAX_ARRAYS 64
+#define YARNUSKEL_MAX_NAMES 64
 
 #define YARNUSKEL_NONE 1
 #define YARNUSKEL_AUTO 2
@@ -47,6 +48,20 @@ uint64_t yarnuskel_states(const uint8_t *file, size_t file_length,
 uint64_t yarnuskel_certain(const uint8_t *file, size_t file_length,
                            uint64_t *work, size_t work_length,
                            uint64_t *place, uint64_t *certain);
+
+/* Answers a flow file with the names that interfere: both are live at the start of some statement, or both are live
+   at its end or written by it; in a flow with an interrupt key (record FK), both are read or written anywhere.
+   Returns 0 where the file is accepted: bit y of rows[x] then says that names x and y interfere, which is the same
+   both ways and never so of a name with itself; *most is how many names are live at once, the most at the start of a
+   statement; *place is 0, the words of rows past the names of the flow are as they were, and the whole work area is
+   zero. Else returns the refusal's number, with its place in *place; *most is then 0, and both areas are as they
+   were. Too short (number 10, place 0) are fewer than YARNUSKEL_WORK_WORDS * n words of work, and fewer words of rows
+   than the flow has names. The call takes some 33 KiB of stack, for the live sets.
+   Lengths count elements. No pointer may be null, even with length 0, and no two areas overlap. */
+uint64_t yarnuskel_interference(const uint8_t *file, size_t file_length,
+                                uint64_t *rows, size_t rows_length,
+                                uint64_t *work, size_t work_length,
+                                uint64_t *place, uint64_t *most);
 
 #ifdef __cplusplus
 }

@@ -3,7 +3,9 @@
 
 use std::collections::{BTreeMap, BTreeSet, VecDeque};
 
-use crate::flow::{self, Flow, Kind, Refusal, WORK_WORDS};
+use crate::flow::{self, Flow, Kind, MAX_NAMES, Refusal, WORK_WORDS};
+use crate::interference::Interference;
+use crate::text::members;
 
 pub const NONE: u8 = 1;
 pub const AUTO: u8 = 2;
@@ -20,32 +22,32 @@ pub struct Areas {
     pub work: Vec<u64>,
 }
 
-/// Number 0 where the flow is accepted.
+/// The answer to a file by one of the calls: number 0 where the flow is accepted. What is found is the count of
+/// visits, the word of certain names or how many names are live at once, and 0 where the file is refused.
 #[derive(Clone, Copy, Debug, Default, PartialEq, Eq)]
 pub struct Answer {
     pub number: u64,
     pub place: u64,
-    pub visits: u64,
+    pub found: u64,
+}
+
+impl Answer {
+    pub fn accepted(found: u64) -> Answer {
+        Answer { number: 0, place: 0, found }
+    }
+
+    /// What is found, or the refusal.
+    pub fn result(self) -> Result<u64, Refusal> {
+        match self {
+            Answer { number: 0, found, .. } => Ok(found),
+            Answer { number, place, .. } => Err(Refusal { number, place }),
+        }
+    }
 }
 
 impl From<Refusal> for Answer {
     fn from(r: Refusal) -> Self {
-        Answer { number: r.number, place: r.place, visits: 0 }
-    }
-}
-
-/// The answer to a file by its certain names: number 0 where the flow is accepted, and the word is 0
-/// where it is refused.
-#[derive(Clone, Copy, Debug, Default, PartialEq, Eq)]
-pub struct Certain {
-    pub number: u64,
-    pub place: u64,
-    pub word: u64,
-}
-
-impl From<Refusal> for Certain {
-    fn from(r: Refusal) -> Self {
-        Certain { number: r.number, place: r.place, word: 0 }
+        Answer { number: r.number, place: r.place, found: 0 }
     }
 }
 
@@ -113,10 +115,39 @@ pub enum Fault {
     OpaqueHandlerVisits,
     LiveWithKey,
     CertainWithKey,
+    WritesLeftOut,
+    WritesApart,
+    WritesAtStart,
+    StartsLeftOut,
+    EndsLeftOut,
+    ReachedMeet,
+    ReachedWrites,
+    MeetsItself,
+    LowerHalf,
+    KeyMeetsAsWithout,
+    KeyMeetsRead,
+    KeyMeetsWritten,
+    KeyMeetsReached,
+    KeyMeetsHandler,
+    KeyMeetsUnused,
+    MostAtEnd,
+    MostWithWrites,
+    MostAnywhere,
+    MostByRow,
+    MostReached,
+    MostWithKey,
+    MostNoneWithKey,
+    RowsOneShort,
+    RowsForAll,
+    RowsBeyond,
+    RowsJoined,
+    RowsKeptWithoutStatements,
+    RowsOfRefused,
+    InterferenceWorkKept,
 }
 
 impl Fault {
-    pub const ALL: [Fault; 61] = [
+    pub const ALL: [Fault; 90] = [
         Fault::EveryMaskSeven,
         Fault::FirstVisitOnly,
         Fault::AreasUntouched,
@@ -178,6 +209,35 @@ impl Fault {
         Fault::OpaqueHandlerVisits,
         Fault::LiveWithKey,
         Fault::CertainWithKey,
+        Fault::WritesLeftOut,
+        Fault::WritesApart,
+        Fault::WritesAtStart,
+        Fault::StartsLeftOut,
+        Fault::EndsLeftOut,
+        Fault::ReachedMeet,
+        Fault::ReachedWrites,
+        Fault::MeetsItself,
+        Fault::LowerHalf,
+        Fault::KeyMeetsAsWithout,
+        Fault::KeyMeetsRead,
+        Fault::KeyMeetsWritten,
+        Fault::KeyMeetsReached,
+        Fault::KeyMeetsHandler,
+        Fault::KeyMeetsUnused,
+        Fault::MostAtEnd,
+        Fault::MostWithWrites,
+        Fault::MostAnywhere,
+        Fault::MostByRow,
+        Fault::MostReached,
+        Fault::MostWithKey,
+        Fault::MostNoneWithKey,
+        Fault::RowsOneShort,
+        Fault::RowsForAll,
+        Fault::RowsBeyond,
+        Fault::RowsJoined,
+        Fault::RowsKeptWithoutStatements,
+        Fault::RowsOfRefused,
+        Fault::InterferenceWorkKept,
     ];
 
     pub fn text(self) -> &'static str {
@@ -245,6 +305,35 @@ impl Fault {
             Fault::OpaqueHandlerVisits => "the key: an opaque handler's masks are 7, with visits",
             Fault::LiveWithKey => "the key: what is live at the handler is live everywhere",
             Fault::CertainWithKey => "the key: names are certain as without it",
+            Fault::WritesLeftOut => "interference: what a statement writes is left out at its end",
+            Fault::WritesApart => "interference: two names that one statement writes do not meet by that",
+            Fault::WritesAtStart => "interference: what a statement writes meets what is live at its start",
+            Fault::StartsLeftOut => "interference: what is live at the start of a statement is left out",
+            Fault::EndsLeftOut => "interference: the end of a statement is left out",
+            Fault::ReachedMeet => "interference: only statements that are reached count",
+            Fault::ReachedWrites => "interference: writes count only where the statement is reached",
+            Fault::MeetsItself => "interference: a name meets itself",
+            Fault::LowerHalf => "interference: a name meets only those before it",
+            Fault::KeyMeetsAsWithout => "interference: as without the key",
+            Fault::KeyMeetsRead => "interference: with a key only the names that are read meet",
+            Fault::KeyMeetsWritten => "interference: with a key only the names that are written meet",
+            Fault::KeyMeetsReached => "interference: with a key only names of reached statements meet",
+            Fault::KeyMeetsHandler => "interference: with a key only the handler's names meet all others",
+            Fault::KeyMeetsUnused => "interference: with a key names that nothing uses meet too",
+            Fault::MostAtEnd => "interference: the most is taken at the ends of statements",
+            Fault::MostWithWrites => "interference: the most is taken at the ends of statements, writes too",
+            Fault::MostAnywhere => "interference: the most is of all that are live anywhere",
+            Fault::MostByRow => "interference: the most is of a name and those that it meets",
+            Fault::MostReached => "interference: the most is taken where a statement is reached",
+            Fault::MostWithKey => "interference: with a key the most is of all names that are used",
+            Fault::MostNoneWithKey => "interference: with a key the most is 0",
+            Fault::RowsOneShort => "interference: one word may be missing of the rows",
+            Fault::RowsForAll => "interference: the rows must have 64 words",
+            Fault::RowsBeyond => "interference: later words of the rows become zero",
+            Fault::RowsJoined => "interference: the words are joined to what the rows held",
+            Fault::RowsKeptWithoutStatements => "interference: without statements the rows stay as they were",
+            Fault::RowsOfRefused => "interference: a refusal makes the rows zero",
+            Fault::InterferenceWorkKept => "interference: the work area is left as it was",
         }
     }
 }
@@ -1120,6 +1209,114 @@ pub fn certain_names(flow: &Flow, fault: Option<Fault>) -> u64 {
     word
 }
 
+// ----- Names that interfere -----------------------------------------------
+
+/// The names that meet at the statements of a flow, reached or not.
+struct Meeting<'a> {
+    flow: &'a Flow,
+    fault: Option<Fault>,
+    live_in: Vec<u64>,
+    live_out: Vec<u64>,
+    reached: Vec<bool>,
+}
+
+impl<'a> Meeting<'a> {
+    fn new(flow: &'a Flow, fault: Option<Fault>) -> Self {
+        let (live_in, live_out) = live_sets(flow, fault);
+        Meeting { flow, fault, live_in, live_out, reached: Walks::new(flow, None).reached }
+    }
+
+    fn has_key(&self) -> bool {
+        let heeded = !matches!(self.fault, Some(Fault::KeyIgnored | Fault::KeyMeetsAsWithout));
+        self.flow.handler.is_some() && heeded
+    }
+
+    /// The names that these statements read or write.
+    fn used(&self, which: impl Fn(usize) -> bool) -> u64 {
+        let statements = self.flow.statements.iter().enumerate().filter(|(i, _)| which(*i));
+        statements.fold(0, |set, (_, s)| set | s.read | s.written)
+    }
+
+    /// The sets of a statement whose names meet: those live at its start; and those live at its end, together with
+    /// those that it writes.
+    fn at(&self, i: usize) -> Vec<u64> {
+        let (start, end, written) = (self.live_in[i], self.live_out[i], self.flow.statements[i].written);
+        match self.fault {
+            Some(Fault::WritesLeftOut) => vec![start, end],
+            Some(Fault::WritesApart) => members(written).map(|x| end | 1 << x).chain([start, end]).collect(),
+            Some(Fault::WritesAtStart) => vec![start | written, end],
+            Some(Fault::StartsLeftOut) => vec![end | written],
+            Some(Fault::EndsLeftOut) => vec![start],
+            Some(Fault::ReachedMeet) if !self.reached[i] => vec![],
+            Some(Fault::ReachedWrites) if !self.reached[i] => vec![start, end],
+            _ => vec![start, end | written],
+        }
+    }
+
+    fn at_statements(&self) -> Vec<u64> {
+        (0..self.flow.statements.len()).flat_map(|i| self.at(i)).collect()
+    }
+
+    /// With a key all names that are used meet.
+    fn with_key(&self) -> Vec<u64> {
+        let statements = &self.flow.statements;
+        let used = self.used(|_| true);
+        match self.fault {
+            Some(Fault::KeyMeetsRead) => vec![statements.iter().fold(0, |set, s| set | s.read)],
+            Some(Fault::KeyMeetsWritten) => vec![statements.iter().fold(0, |set, s| set | s.written)],
+            Some(Fault::KeyMeetsReached) => vec![self.used(|i| self.reached[i])],
+            Some(Fault::KeyMeetsUnused) => vec![(0..self.flow.names).fold(0, |set, x| set | 1 << x)],
+            Some(Fault::KeyMeetsHandler) => {
+                let subroutines = Subroutines::new(self.flow, None);
+                let walk = subroutines.handler_body().map_or(&[][..], |body| &body.walk);
+                let pairs = |x: u32| members(used).map(move |y| 1 << x | 1 << y);
+                let with_handler = members(self.used(|i| walk[i])).flat_map(pairs);
+                with_handler.chain(self.at_statements()).collect()
+            }
+            _ => vec![used],
+        }
+    }
+
+    /// The names that meet name x in one of these sets: different names.
+    fn row(&self, x: u8, sets: &[u64]) -> u64 {
+        let together = sets.iter().filter(|set| *set >> x & 1 == 1).fold(0, |row, set| row | set);
+        match self.fault {
+            Some(Fault::MeetsItself) => together,
+            Some(Fault::LowerHalf) => together & ((1 << x) - 1),
+            _ => together & !(1 << x),
+        }
+    }
+
+    /// The size of the largest set that is live at the start of a statement, key or not.
+    fn most(&self, rows: &[u64]) -> u64 {
+        let set = |i: usize| match self.fault {
+            Some(Fault::MostAtEnd) => self.live_out[i],
+            Some(Fault::MostWithWrites) => self.live_out[i] | self.flow.statements[i].written,
+            Some(Fault::MostReached) if !self.reached[i] => 0,
+            _ => self.live_in[i],
+        };
+        let sets = (0..self.live_in.len()).map(set);
+        let size = match self.fault {
+            Some(Fault::MostAnywhere) => Some(sets.fold(0, |all, set| all | set).count_ones()),
+            Some(Fault::MostByRow) => rows.iter().map(|row| 1 + row.count_ones()).max(),
+            Some(Fault::MostWithKey) if self.has_key() => Some(self.used(|_| true).count_ones()),
+            Some(Fault::MostNoneWithKey) if self.has_key() => None,
+            _ => sets.map(u64::count_ones).max(),
+        };
+        size.unwrap_or(0).into()
+    }
+}
+
+/// The names that are live at the start of some statement together, or at its end together with what it writes; with a
+/// handler all that are read or written anywhere. And how many are live at once.
+pub fn interfering_names(flow: &Flow, fault: Option<Fault>) -> Interference {
+    let meeting = Meeting::new(flow, fault);
+    let sets = if meeting.has_key() { meeting.with_key() } else { meeting.at_statements() };
+    let rows: Vec<u64> = (0..flow.names).map(|x| meeting.row(x, &sets)).collect();
+    let most = meeting.most(&rows);
+    Interference { rows, most }
+}
+
 // ----- The answer ---------------------------------------------------------
 
 /// What an accepted flow is answered with.
@@ -1157,15 +1354,19 @@ pub fn states_without_sure(flow: &Flow) -> States {
     states(flow, Some(Fault::NothingSure))
 }
 
+/// An area of so many words, filled with a pattern.
+pub fn patterned_words(length: usize) -> Vec<u64> {
+    (0..length).map(|i| 0xA5C3_96F0_5A3C_690F_u64.rotate_left(i as u32)).collect()
+}
+
 impl Areas {
     /// Areas of these lengths, filled with a pattern, so that a byte left alone is told from one written.
     pub fn patterned(masks: usize, live_in: usize, live_out: usize, work: usize) -> Areas {
-        let word = |i: usize| 0xA5C3_96F0_5A3C_690F_u64.rotate_left(i as u32);
         Areas {
             masks: (0..masks).map(|i| 0xA0 | (i % 8) as u8).collect(),
-            live_in: (0..live_in).map(word).collect(),
-            live_out: (0..live_out).map(word).collect(),
-            work: (0..work).map(word).collect(),
+            live_in: patterned_words(live_in),
+            live_out: patterned_words(live_out),
+            work: patterned_words(work),
         }
     }
 
@@ -1213,11 +1414,11 @@ pub fn answer(file: &[u8], areas: &mut Areas, fault: Option<Fault>) -> Answer {
     if fault != Some(Fault::AreasUntouched) {
         areas.write(&states);
     }
-    Answer { number: 0, place: 0, visits: states.visits }
+    Answer::accepted(states.visits)
 }
 
 /// The certain names of a file with this work area lent.
-pub fn certain(file: &[u8], work: &mut [u64], fault: Option<Fault>) -> Certain {
+pub fn certain(file: &[u8], work: &mut [u64], fault: Option<Fault>) -> Answer {
     let serve = |flow: &Flow| work.len() >= WORK_WORDS * flow.statements.len();
     let flow = match accepted(file, fault, serve) {
         Ok(flow) => flow,
@@ -1226,5 +1427,46 @@ pub fn certain(file: &[u8], work: &mut [u64], fault: Option<Fault>) -> Certain {
     if fault != Some(Fault::AreasUntouched) {
         work.fill(0);
     }
-    Certain { number: 0, place: 0, word: certain_names(&flow, fault) }
+    Answer::accepted(certain_names(&flow, fault))
+}
+
+/// What the rows hold after an answer: a word a name, and behind them what they held.
+fn write_rows(rows: &mut [u64], flow: &Flow, found: &Interference, fault: Option<Fault>) {
+    match fault {
+        Some(Fault::RowsKeptWithoutStatements) if flow.statements.is_empty() => return,
+        Some(Fault::RowsBeyond) => rows[found.rows.len()..].fill(0),
+        _ => {}
+    }
+    for (row, word) in rows.iter_mut().zip(&found.rows) {
+        *row = if fault == Some(Fault::RowsJoined) { *row | word } else { *word };
+    }
+}
+
+/// The interference of a file with these areas lent: the work area is judged, then the rows.
+pub fn interference(file: &[u8], rows: &mut [u64], work: &mut [u64], fault: Option<Fault>) -> Answer {
+    let least = |flow: &Flow| match fault {
+        Some(Fault::RowsOneShort) => flow.names.saturating_sub(1),
+        Some(Fault::RowsForAll) => MAX_NAMES,
+        _ => flow.names,
+    };
+    let serve = |flow: &Flow| {
+        work.len() >= WORK_WORDS * flow.statements.len() && rows.len() >= usize::from(least(flow))
+    };
+    let flow = match accepted(file, fault, serve) {
+        Ok(flow) => flow,
+        Err(refusal) => {
+            if fault == Some(Fault::RowsOfRefused) {
+                rows.fill(0);
+            }
+            return refusal.into();
+        }
+    };
+    let found = interfering_names(&flow, fault);
+    if fault != Some(Fault::AreasUntouched) {
+        write_rows(rows, &flow, &found, fault);
+        if fault != Some(Fault::InterferenceWorkKept) {
+            work.fill(0);
+        }
+    }
+    Answer::accepted(found.most)
 }

@@ -1,10 +1,11 @@
 //! Flows to measure on, medians, and the measurements: the proved reader beside a plain one, the
-//! whole call beside the original, and the call for certain names beside both.
+//! whole call beside the original, and the calls for certain names and for interference beside both.
 
 use std::hint::black_box;
 use std::time::{Duration, Instant};
 
-use crate::flow::{Flow, Kind, MAX_ARRAYS, MAX_FILE, MAX_STATEMENTS, Statement};
+use crate::answerer::Answer;
+use crate::flow::{Flow, Kind, MAX_ARRAYS, MAX_FILE, MAX_STATEMENTS, Statement, WORK_WORDS};
 use crate::generate::{self, Script};
 use crate::judge::Lent;
 use crate::random::Random;
@@ -35,6 +36,14 @@ pub fn medians<const SIDES: usize>(runs: usize, sides: [&mut dyn FnMut(); SIDES]
 
 fn ratio(slow: Duration, fast: Duration) -> f64 {
     slow.as_secs_f64() / fast.as_secs_f64()
+}
+
+fn geometric_mean(of: &[f64]) -> f64 {
+    (of.iter().map(|x| x.ln()).sum::<f64>() / of.len() as f64).exp()
+}
+
+fn holds(it: bool) -> &'static str {
+    if it { "holds" } else { "does not hold" }
 }
 
 // ----- Flows --------------------------------------------------------------
@@ -217,6 +226,37 @@ pub fn one_name_at_a_time() -> Flow {
     flow
 }
 
+/// A loop in which each statement writes the next name and reads the one written so many statements before it:
+/// so many names are live at once, at each statement others.
+fn ring(n: usize, live: usize) -> Flow {
+    let statement = |i: usize| {
+        let mut s = Statement::new(line(i), Kind::Other, &[((i + 1) % n) as u16], &[]);
+        (s.written, s.read) = (1 << (i % 64), 1 << ((i + 64 - live) % 64));
+        s
+    };
+    script((0..n).map(statement).collect(), &[])
+}
+
+/// A loop in which all names are live at every statement.
+fn all_live(n: usize) -> Flow {
+    let mut flow = ring(n, 0);
+    flow.statements.iter_mut().for_each(|s| s.written = 0);
+    flow
+}
+
+/// Flows that show how the call for interference grows: few names live at once and many, of statements half as many
+/// as there may be and as many.
+pub fn growing_flows() -> Vec<(&'static str, Flow)> {
+    vec![
+        ("n 1024, 2 names at once", ring(N / 2, 2)),
+        ("n 2048, 2 names at once", ring(N, 2)),
+        ("n 1024, 63 names at once", ring(N / 2, 63)),
+        ("n 2048, 63 names at once", ring(N, 63)),
+        ("n 1024, all 64 everywhere", all_live(N / 2)),
+        ("n 2048, all 64 everywhere", all_live(N)),
+    ]
+}
+
 /// A fit file of some 250 kB with long lists and many `FL` records.
 pub fn reading_file() -> Vec<u8> {
     let mut random = Random::new(15, 0);
@@ -274,7 +314,7 @@ fn measure(name: &str, flow: &Flow) -> Option<(f64, f64)> {
     let (bytes, both) = (file.len(), alone + live);
     println!(
         "{name:28} {bytes:>6} {:>8} {call:>10.2?} {alone:>12.2?} {first:>7.1} {both:>12.2?} {second:>8.1}",
-        answer.visits
+        answer.found
     );
     Some((first, second))
 }
@@ -292,7 +332,7 @@ pub fn whole_call() -> bool {
         return true;
     };
     let least = times.iter().map(|t| t.0).fold(f64::MAX, f64::min);
-    let mean = (times.iter().map(|t| t.1.ln()).sum::<f64>() / times.len() as f64).exp();
+    let mean = geometric_mean(&times.iter().map(|t| t.1).collect::<Vec<f64>>());
     println!("over array_states alone, at the least: {least:.1} times (at least 2)");
     println!("over array_states with its live solve, geometric mean: {mean:.1} times (at least 50)");
     least >= 2.0 && mean >= 50.0
@@ -323,27 +363,24 @@ pub fn key_call() -> bool {
         println!(
             "{name:28} {:>6} {:>8} {call:>10.2?} {before:>15.2?} {:>7.2}",
             file.len(),
-            answer.visits,
+            answer.found,
             ratio(call, before)
         );
     }
     true
 }
 
-// ----- Certain names ------------------------------------------------------
-
-/// The medians of the call for certain names and of the other call. They take turns with each other
-/// only: the original would leave nothing of the file in the processor's cache for the one after it.
-fn certain_medians(flow: &Flow) -> Option<[Duration; 2]> {
+/// The medians of another call and of this one. They take turns with each other only: the original would
+/// leave nothing of the file in the processor's cache for the one after it.
+fn medians_beside(flow: &Flow, mut other: impl FnMut(&[u8]) -> Option<Answer>) -> Option<[Duration; 2]> {
     let file = flow.bytes();
     let mut areas = Lent::for_file(&file, 0).areas();
-    let mut work = areas.work.clone();
-    assert_eq!(sides::proved_certain(&file, &mut work)?.number, 0);
+    assert_eq!(other(&file)?.number, 0);
     // Reading the clock takes as long as a call on a small flow, so there a hundred calls are timed at once.
     let calls = if flow.statements.len() > 500 { 1 } else { 100 };
-    let mut certain = || {
+    let mut other = || {
         for _ in 0..calls {
-            black_box(sides::proved_certain(black_box(&file), &mut work));
+            black_box(other(black_box(&file)));
         }
     };
     let mut states = || {
@@ -351,7 +388,18 @@ fn certain_medians(flow: &Flow) -> Option<[Duration; 2]> {
             black_box(sides::proved_states(black_box(&file), &mut areas));
         }
     };
-    Some(medians(101, [&mut certain, &mut states]).map(|time| time / calls))
+    Some(medians(101, [&mut other, &mut states]).map(|time| time / calls))
+}
+
+fn work_area(flow: &Flow) -> Vec<u64> {
+    vec![0; WORK_WORDS * flow.statements.len()]
+}
+
+// ----- Certain names ------------------------------------------------------
+
+fn certain_medians(flow: &Flow) -> Option<[Duration; 2]> {
+    let mut work = work_area(flow);
+    medians_beside(flow, |file| sides::proved_certain(file, &mut work))
 }
 
 /// The share of the other call's time that the call for certain names takes. The names are those
@@ -382,11 +430,8 @@ pub fn certain_call() -> bool {
         return true;
     };
     let most = shares.into_iter().fold(0.0, f64::max);
-    let holds = most <= 1.0 / 3.0;
-    println!(
-        "of the other call's time, at the most: {most:.3} (at most a third: {})",
-        if holds { "holds" } else { "does not hold" }
-    );
+    let within = most <= 1.0 / 3.0;
+    println!("of the other call's time, at the most: {most:.3} (at most a third: {})", holds(within));
     let flow = one_name_at_a_time();
     if let Some([certain, states]) = certain_medians(&flow) {
         let edges: usize = flow.statements.iter().map(|s| s.successors.len()).sum();
@@ -394,5 +439,46 @@ pub fn certain_call() -> bool {
             "names one at a time along a chain of {N}, {edges} successors: {certain:.2?}, the other call {states:.2?}"
         );
     }
-    holds
+    within
+}
+
+// ----- Interference -------------------------------------------------------
+
+/// How many times faster the call for interference is than the original's, whose time has its live solve in it. The
+/// names are those live at once, of those used.
+fn measure_interference(name: &str, flow: &Flow) -> Option<f64> {
+    let mut original = sides::original_interference_run(flow)?;
+    let (mut rows, mut work) = (vec![0; flow.names.into()], work_area(flow));
+    let [call, states] = medians_beside(flow, |file| sides::proved_interference(file, &mut rows, &mut work))?;
+    let [original] = medians(if flow.statements.len() > 500 { 3 } else { 101 }, [&mut original]);
+    let used = flow.statements.iter().fold(0, |set, s| set | s.written | s.read).count_ones();
+    let names = format!("{}/{used}", answerer::interfering_names(flow, None).most);
+    let (share, times) = (ratio(call, states), ratio(original, call));
+    println!(
+        "{name:28} {names:>7} {call:>12.2?} {states:>10.2?} {share:>6.3} {original:>15.2?} {times:>8.1}"
+    );
+    Some(times)
+}
+
+/// The call for interference beside the other call and beside the original's `VarInterference`, as a compiler asks for
+/// it, with its live solve: at least 20 times as fast at the geometric mean over the flows that the figures are given
+/// for. Then how its time grows.
+pub fn interference_call() -> bool {
+    println!(
+        "\n{:28} {:>7} {:>12} {:>10} {:>6} {:>15} {:>8}",
+        "flow", "names", "interference", "states", "share", "VarInterference", "times"
+    );
+    let measured: Option<Vec<f64>> =
+        flows().iter().map(|(name, flow)| measure_interference(name, flow)).collect();
+    let Some(times) = measured else {
+        println!("{}", if cfg!(original) { sides::NO_LIBRARY } else { sides::NO_ORIGINAL });
+        return true;
+    };
+    let mean = geometric_mean(&times);
+    let within = mean >= 20.0;
+    println!("over VarInterference, geometric mean: {mean:.1} times (at least 20: {})", holds(within));
+    for (name, flow) in growing_flows() {
+        measure_interference(name, &flow);
+    }
+    within
 }

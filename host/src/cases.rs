@@ -1138,8 +1138,17 @@ fn key_areas() -> Vec<Case> {
             ("live-in one short", Lent { live_in: lent.live_in - 1, ..lent }),
             ("live-out one short", Lent { live_out: lent.live_out - 1, ..lent }),
             ("work one short", Lent { work: lent.work - 1, ..lent }),
-            ("all areas empty", Lent { masks: 0, live_in: 0, live_out: 0, work: 0 }),
-            ("areas long", Lent { masks: lent.masks + 9, live_in: 9, live_out: 11, work: lent.work + 100 }),
+            ("all areas empty", Lent::default()),
+            (
+                "areas long",
+                Lent {
+                    masks: lent.masks + 9,
+                    live_in: 9,
+                    live_out: 11,
+                    work: lent.work + 100,
+                    rows: lent.rows + 9,
+                },
+            ),
         ] {
             cases.push(Case { name: format!("{what}, {name}"), lent, ..exact.clone() });
         }
@@ -1149,7 +1158,7 @@ fn key_areas() -> Vec<Case> {
         Flow { handler: Some(8), ..every_kind() }.bytes(),
         0,
     );
-    refused.lent = Lent { masks: 0, live_in: 0, live_out: 0, work: 0 };
+    refused.lent = Lent::default();
     cases.push(refused);
     cases
 }
@@ -1159,6 +1168,368 @@ pub fn key() -> Vec<Case> {
     let flows = key_flows().into_iter().map(|(name, _, flow)| Case::new(name, flow.bytes(), 1)).collect();
     let mut cases = [flows, key_refusals(), key_limits(), key_areas()].concat();
     cases.iter_mut().for_each(|case| case.name.insert_str(0, "the key: "));
+    cases
+}
+
+// ----- Names that interfere -----------------------------------------------
+
+/// Flows for a rule of request E5 each, with the fault that goes astray there.
+const INTERFERENCE: [(&str, Fault, &str); 31] = [
+    (
+        "a script that needs more cells than names live at once",
+        Fault::WritesLeftOut,
+        include_str!("../../examples/cells.txt"),
+    ),
+    (
+        "a pair at a start alone",
+        Fault::StartsLeftOut,
+        "flow 1 statement, 0 arrays, 3 names, entry 0
+         0: line 10 other; reads 0 2",
+    ),
+    (
+        "a pair at an end alone, where two ways part",
+        Fault::EndsLeftOut,
+        "flow 3 statements, 0 arrays, 2 names, entry 0
+         0: line 10 other; to 1 2; writes 0
+         1: line 20 other; reads 0
+         2: line 30 other; reads 1",
+    ),
+    (
+        "a pair at an end alone, by a write that nothing reads",
+        Fault::WritesLeftOut,
+        "flow 2 statements, 0 arrays, 2 names, entry 0
+         0: line 10 other; to 1; writes 1
+         1: line 20 other; reads 0",
+    ),
+    (
+        "two names written by one statement and never read",
+        Fault::WritesApart,
+        "flow 2 statements, 0 arrays, 3 names, entry 0
+         0: line 10 other; to 1; writes 0 2
+         1: line 20 other; writes 1",
+    ),
+    (
+        "a name written where another is read last",
+        Fault::WritesAtStart,
+        "flow 3 statements, 0 arrays, 3 names, entry 0
+         0: line 10 other; to 1; writes 0
+         1: line 20 other; to 2; writes 1; reads 0
+         2: line 30 other; writes 2; reads 1",
+    ),
+    (
+        "names that are read one after the other",
+        Fault::MostAnywhere,
+        "flow 4 statements, 0 arrays, 3 names, entry 0
+         0: line 10 other; to 1; writes 0
+         1: line 20 other; to 2; writes 1; reads 0
+         2: line 30 other; to 3; writes 2; reads 1
+         3: line 40 other; reads 2",
+    ),
+    (
+        "pairs of a statement that nothing reaches",
+        Fault::ReachedMeet,
+        "flow 2 statements, 0 arrays, 3 names, entry 0
+         0: line 10 other; reads 0
+         1: line 20 other; to 0; reads 1 2",
+    ),
+    (
+        "a pair by a write that nothing reaches",
+        Fault::ReachedWrites,
+        "flow 2 statements, 0 arrays, 2 names, entry 0
+         0: line 10 other; reads 0
+         1: line 20 other; to 0; writes 1",
+    ),
+    (
+        "most names where nothing reaches",
+        Fault::MostReached,
+        "flow 2 statements, 0 arrays, 4 names, entry 0
+         0: line 10 other; reads 0
+         1: line 20 other; reads 1 2 3",
+    ),
+    (
+        "a name that is live around a loop",
+        Fault::LowerHalf,
+        "flow 4 statements, 0 arrays, 4 names, entry 0
+         0: line 10 other; to 1; writes 0
+         1: line 20 other; to 2; writes 1; reads 0
+         2: line 30 other; to 1 3; writes 2; reads 1
+         3: line 40 other; writes 3; reads 2",
+    ),
+    (
+        "a name that is read again only in the next round",
+        Fault::LowerHalf,
+        "flow 4 statements, 0 arrays, 2 names, entry 0
+         0: line 10 other; to 1; reads 1
+         1: line 20 other; to 2; writes 0
+         2: line 30 other; to 0 3; reads 0
+         3: line 40 other",
+    ),
+    (
+        "one name, which never meets itself",
+        Fault::MeetsItself,
+        "flow 2 statements, 0 arrays, 1 name, entry 0
+         0: line 10 other; to 1; writes 0
+         1: line 20 other; to 0; writes 0; reads 0",
+    ),
+    (
+        "names that meet no other",
+        Fault::MeetsItself,
+        "flow 3 statements, 0 arrays, 4 names, entry 0
+         0: line 10 other; to 1; writes 0
+         1: line 20 other; to 2; reads 0
+         2: line 30 other; writes 3",
+    ),
+    (
+        "more names at an end than at any start",
+        Fault::MostAtEnd,
+        "flow 3 statements, 0 arrays, 2 names, entry 0
+         0: line 10 other; to 1 2; writes 0 1
+         1: line 20 other; reads 0
+         2: line 30 other; reads 1",
+    ),
+    (
+        "writes that are never read do not count as live",
+        Fault::MostWithWrites,
+        "flow 2 statements, 0 arrays, 4 names, entry 0
+         0: line 10 other; to 1; writes 1 2 3
+         1: line 20 other; reads 0",
+    ),
+    (
+        "a name that meets more than are live at once",
+        Fault::MostByRow,
+        "flow 5 statements, 0 arrays, 4 names, entry 0
+         0: line 10 other; to 1; writes 0 1
+         1: line 20 other; to 2; writes 2; reads 1
+         2: line 30 other; to 3; writes 3; reads 2
+         3: line 40 other; to 4; reads 3
+         4: line 50 other; reads 0",
+    ),
+    (
+        "a continuation that the call does not list",
+        Fault::StartsLeftOut,
+        "flow 3 statements, 0 arrays, 3 names, entry 0
+         0: line 10 GOSUB 30 then 1; to 2; reads 0 1
+         1: line 20 other; reads 2
+         2: line 30 RETURN; to 1; writes 2
+         lines 30=2",
+    ),
+    (
+        "64 names, of which 0, 31, 32 and 63 meet",
+        Fault::LowerHalf,
+        "flow 3 statements, 0 arrays, 64 names, entry 0
+         0: line 10 other; to 1; writes 0 63
+         1: line 20 other; to 2; writes 31 32
+         2: line 30 other; reads 0 63",
+    ),
+    (
+        "a handler, and names used in different places",
+        Fault::KeyMeetsAsWithout,
+        "flow 4 statements, 0 arrays, 3 names, entry 0
+         0: line 10 other; to 1; writes 0
+         1: line 20 other; writes 1; reads 0
+         2: line 900 other; to 3; writes 2; reads 2
+         3: line 910 RETURN
+         key 2",
+    ),
+    (
+        "a handler that uses no name",
+        Fault::KeyMeetsHandler,
+        "flow 3 statements, 0 arrays, 2 names, entry 0
+         0: line 10 other; to 1; writes 0
+         1: line 20 other; writes 1; reads 0
+         2: line 900 RETURN
+         key 2",
+    ),
+    (
+        "a handler, and a name that is written only",
+        Fault::KeyMeetsRead,
+        "flow 3 statements, 0 arrays, 3 names, entry 0
+         0: line 10 other; to 1; writes 1; reads 0
+         1: line 20 other; reads 2
+         2: line 900 RETURN
+         key 2",
+    ),
+    (
+        "a handler, and a name that is read only",
+        Fault::KeyMeetsWritten,
+        "flow 3 statements, 0 arrays, 3 names, entry 0
+         0: line 10 other; to 1; writes 0 1
+         1: line 20 other; reads 0 2
+         2: line 900 RETURN
+         key 2",
+    ),
+    (
+        "a handler, and a name used where nothing reaches",
+        Fault::KeyMeetsReached,
+        "flow 3 statements, 0 arrays, 2 names, entry 0
+         0: line 10 other; reads 0
+         1: line 20 other; writes 1
+         2: line 900 RETURN
+         key 2",
+    ),
+    (
+        "a handler, and names that nothing uses",
+        Fault::KeyMeetsUnused,
+        "flow 2 statements, 0 arrays, 64 names, entry 0
+         0: line 10 other; writes 62; reads 1
+         1: line 900 RETURN
+         key 1",
+    ),
+    (
+        "a handler, and no name used",
+        Fault::KeyMeetsUnused,
+        "flow 2 statements, 0 arrays, 2 names, entry 0
+         0: line 10 other
+         1: line 900 RETURN
+         key 1",
+    ),
+    (
+        "a handler, and one name used",
+        Fault::MeetsItself,
+        "flow 2 statements, 0 arrays, 1 name, entry 0
+         0: line 10 other; reads 0
+         1: line 900 RETURN
+         key 1",
+    ),
+    (
+        "a handler, and fewer names live at once than used",
+        Fault::MostWithKey,
+        "flow 4 statements, 0 arrays, 4 names, entry 0
+         0: line 10 other; to 1; writes 0 1
+         1: line 20 other; to 2; writes 2; reads 0 1
+         2: line 30 other; writes 3; reads 2
+         3: line 900 RETURN
+         key 3",
+    ),
+    (
+        "a handler, and most names live in it",
+        Fault::MostNoneWithKey,
+        "flow 3 statements, 0 arrays, 3 names, entry 0
+         0: line 10 other; reads 0
+         1: line 900 other; to 2; reads 1 2
+         2: line 910 RETURN
+         key 1",
+    ),
+    (
+        "an opaque handler, and names",
+        Fault::KeyMeetsAsWithout,
+        "flow 3 statements, 1 array, 2 names, entry 0
+         0: line 10 other; writes 0
+         1: line 900 CLR; to 2; reads 1
+         2: line 910 RETURN
+         key 1",
+    ),
+    (
+        "the one statement is its own handler",
+        Fault::LowerHalf,
+        "flow 1 statement, 0 arrays, 2 names, entry 0
+         0: line 10 RETURN; writes 0; reads 1
+         key 0",
+    ),
+];
+
+/// The flows above, and the fault that each is to show.
+pub fn interference_flows() -> Vec<(&'static str, Fault, Flow)> {
+    INTERFERENCE.into_iter().map(|(name, fault, text)| (name, fault, said(text))).collect()
+}
+
+/// All names read by one statement and written by the next: they all meet, and as many are live at once. With no
+/// statements none do.
+fn all_names(names: u8, statements: usize) -> Flow {
+    let all = (0..names).fold(0, |set, x| set | 1 << x);
+    let statement = |i: usize| {
+        let next = (i + 1) % statements;
+        let mut s = Statement::new(10 + 10 * i as u16, Kind::Other, &[next as u16], &[]);
+        *(if i % 2 == 1 { &mut s.written } else { &mut s.read }) = all;
+        s
+    };
+    Flow { names, statements: (0..statements).map(statement).collect(), ..Flow::default() }
+}
+
+/// As few and as many names as there may be, with the rows one word short, just enough, and longer.
+fn interference_rows() -> Vec<Case> {
+    let flows = [0, 1, 63, 64].into_iter().flat_map(|names| {
+        let flow = all_names(names, 2);
+        [("2 statements", flow.clone()), ("2 statements, a handler", Flow { handler: Some(1), ..flow })]
+    });
+    let empty = [0, 1, 64].map(|names| ("0 statements", all_names(names, 0)));
+    let mut cases = Vec::new();
+    for (what, flow) in flows.chain(empty) {
+        let names = usize::from(flow.names);
+        let exact = Case::new(format!("{}, {what}", text::counted(names, "name")), flow.bytes(), 0);
+        let short = names.checked_sub(1).map(|rows| ("rows one short", rows));
+        let lengths = [("rows just enough", names), ("rows longer", names + 3)];
+        for (of, rows) in short.into_iter().chain(lengths) {
+            let lent = Lent { rows, ..exact.lent };
+            cases.push(Case { name: format!("{}, {of}", exact.name), lent, ..exact.clone() });
+        }
+    }
+    cases
+}
+
+/// The call for interference judges the work area and the rows, and no other area.
+fn interference_areas() -> Vec<Case> {
+    let mut cases = Vec::new();
+    let exact = Case::new("", every_kind().bytes(), 0);
+    let lent = exact.lent;
+    for (of, lent) in [
+        ("rows and work alone lent", Lent { masks: 0, live_in: 0, live_out: 0, ..lent }),
+        ("rows empty", Lent { rows: 0, ..lent }),
+        ("work one short", Lent { work: lent.work - 1, ..lent }),
+        ("work one short, and the rows", Lent { work: lent.work - 1, rows: lent.rows - 1, ..lent }),
+        ("work and rows long", Lent { work: lent.work + 7, rows: lent.rows + 70, ..lent }),
+        (
+            "every area short but the rows",
+            Lent { masks: lent.masks - 1, live_in: 0, live_out: 0, work: lent.work - 1, ..lent },
+        ),
+    ] {
+        cases.push(Case { name: of.into(), lent, ..exact.clone() });
+    }
+    for rows in [0, 1, 9] {
+        let mut refused = Case::new(format!("a file refused, {}", text::counted(rows, "row")), refused(), 1);
+        refused.lent.rows = rows;
+        cases.push(refused);
+    }
+    cases
+}
+
+/// Loops with 64 names, each of which is read two statements after its write; and as many statements as there may
+/// be, whose live sets would take much room among the stored answers, and so are not asked for.
+fn interference_sizes() -> Vec<Case> {
+    let statement = |i: usize, n: usize| {
+        let mut s = Statement::new(10, Kind::Other, &[((i + 1) % n) as u16], &[]);
+        (s.written, s.read) = (1 << (i % 64), 1 << ((i + 62) % 64));
+        s
+    };
+    let ring = |n: usize| Flow {
+        names: 64,
+        statements: (0..n).map(|i| statement(i, n)).collect(),
+        ..Flow::default()
+    };
+    let mut cases: Vec<Case> = [64, 65]
+        .map(|n| Case::new(format!("a loop of {n} statements, 64 names"), ring(n).bytes(), 1))
+        .to_vec();
+    let keyed = Flow { handler: Some(64), ..ring(65) };
+    cases.push(Case::new("a loop of 65 statements, 64 names, a handler", keyed.bytes(), 1));
+    let half = 0xF0F0_F0F0_0F0F_0F0F;
+    let [mut writes, mut reads] = [1, 0].map(|to| Statement::new(10, Kind::Other, &[to], &[]));
+    (writes.written, reads.read) = (half | 1 << 4, half);
+    let mut head = header(2_048, 0, 2_047);
+    head[5] = 64;
+    let both = [record(&writes), record(&reads)].concat();
+    let blocks = vec![(1, head), (1_024, both), (1, b"FE".to_vec())];
+    let mut most = Case::repeated("2,048 statements, 64 names", blocks);
+    most.lent.live_in = 0;
+    cases.push(most);
+    cases
+}
+
+/// The flows above, areas, and sizes.
+pub fn interference() -> Vec<Case> {
+    let flows = interference_flows().into_iter().map(|(name, _, flow)| Case::new(name, flow.bytes(), 1));
+    let mut cases =
+        [flows.collect(), interference_rows(), interference_areas(), interference_sizes()].concat();
+    cases.iter_mut().for_each(|case| case.name.insert_str(0, "interference: "));
     cases
 }
 
@@ -1373,7 +1744,7 @@ fn orders() -> Vec<Case> {
     ];
     for (name, edits) in late {
         let mut case = Case::new(name, [base.set(edits), b"F".to_vec()].concat(), 0);
-        case.lent = Lent { masks: 0, live_in: 0, live_out: 0, work: 0 };
+        case.lent = Lent::default();
         cases.push(case);
     }
     cases
@@ -1388,7 +1759,7 @@ fn areas() -> Vec<Case> {
         ("live-in one short", Lent { live_in: lent.live_in - 1, ..lent }),
         ("live-out one short", Lent { live_out: lent.live_out - 1, ..lent }),
         ("work one short", Lent { work: lent.work - 1, ..lent }),
-        ("all areas empty", Lent { masks: 0, live_in: 0, live_out: 0, work: 0 }),
+        ("all areas empty", Lent::default()),
         (
             "live-out long, live-in one short",
             Lent { live_in: lent.live_in - 1, live_out: lent.live_out + 9, ..lent },

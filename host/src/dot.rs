@@ -1,5 +1,5 @@
 //! A flow as a picture, in the language of Graphviz: a box a statement, with its masks and with the arrays
-//! that are sure for a call, and below them the names that are certainly written.
+//! that are sure for a call, and below them the names that are certainly written and how many are live at once.
 //!
 //! Plain arrows are listed successors, dashed blue ones go to the statements that a call enters,
 //! dotted red ones to its continuation. Unreached statements are grey. The interrupt key is one bold green
@@ -52,11 +52,12 @@ fn edges<T: Display>(from: impl Display, to: impl IntoIterator<Item = T>, style:
     to.into_iter().map(|to| format!("  {from} -> {to}{style};\n")).collect()
 }
 
-/// The names that are certainly written, as the picture's own label.
+/// The names that are certainly written and how many are live at once, as the picture's own label.
 fn label(flow: &Flow) -> String {
     let names = text::list(text::members(answerer::certain_names(flow, None)));
     let names = if names.is_empty() { " none" } else { &names };
-    format!("  graph [label=\"certain names{names}\", fontname=\"monospace\"];\n")
+    let most = answerer::interfering_names(flow, None).most;
+    format!("  graph [label=\"certain names{names}\\n{most} live at once\", fontname=\"monospace\"];\n")
 }
 
 /// The key, and the arrow to its handler.

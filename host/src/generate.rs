@@ -1,7 +1,7 @@
 //! Random flow files: plain graphs, layered scripts, flows at the limits, scripts with set-up routines,
 //! damaged copies. About a third of them have an interrupt key.
 
-use crate::flow::{Encoded, Flow, Kind, MAX_ARRAYS, MAX_FILE, MAX_STATEMENTS, Statement, What};
+use crate::flow::{Encoded, Flow, Kind, MAX_ARRAYS, MAX_FILE, MAX_NAMES, MAX_STATEMENTS, Statement, What};
 use crate::random::Random;
 
 #[derive(Clone, Copy, Debug, PartialEq, Eq)]
@@ -59,7 +59,7 @@ pub fn file_of(family: Family, seed: u64, index: u64) -> Vec<u8> {
         Family::Setup => setup(&mut random),
         Family::Damaged => return damaged(&mut random, &mut names, &mut keys),
     };
-    with_key(&mut keys, on_walks(&mut names, flow)).bytes()
+    with_key(&mut keys, named(&mut names, flow)).bytes()
 }
 
 /// Each of `count` numbers with one chance in `of`, rising.
@@ -67,9 +67,12 @@ fn some_of(random: &mut Random, count: u8, of: usize) -> Vec<u8> {
     (0..count).filter(|_| random.once_in(of)).collect()
 }
 
+fn all_names(names: u8) -> u64 {
+    if names == MAX_NAMES { u64::MAX } else { (1 << names) - 1 }
+}
+
 fn some_names(random: &mut Random, names: u8) -> u64 {
-    let all = if names == 64 { u64::MAX } else { (1 << names) - 1 };
-    all & random.next() & random.next()
+    all_names(names) & random.next() & random.next()
 }
 
 /// Few as a rule, and the limit now and then.
@@ -79,9 +82,9 @@ fn few(random: &mut Random, limit: u8) -> u8 {
 
 // ----- Names --------------------------------------------------------------
 
-/// A random walk from the entry over listed successors.
-fn walk(random: &mut Random, flow: &Flow) -> Vec<usize> {
-    let mut walk = vec![usize::from(flow.entry)];
+/// A random walk over listed successors.
+fn walk(random: &mut Random, flow: &Flow, start: usize) -> Vec<usize> {
+    let mut walk = vec![start];
     for _ in 0..random.within(1, 12) {
         let successors = &flow.statements[walk[walk.len() - 1]].successors;
         if successors.is_empty() {
@@ -90,6 +93,18 @@ fn walk(random: &mut Random, flow: &Flow) -> Vec<usize> {
         walk.push(random.pick(successors).into());
     }
     walk
+}
+
+/// The names of a flow as its statements come to use them. Of the most names that there may be, all are read by one
+/// statement in one flow of eight.
+fn named(random: &mut Random, flow: Flow) -> Flow {
+    let flow = on_walks(random, flow);
+    let mut flow = short_lived(random, flow);
+    let n = flow.statements.len();
+    if n > 0 && flow.names >= MAX_NAMES - 1 && random.once_in(8) {
+        flow.statements[random.below(n)].read = all_names(flow.names);
+    }
+    flow
 }
 
 /// In two flows of three, most names are written and read at few statements, as a rule on walks from
@@ -107,7 +122,7 @@ fn on_walks(random: &mut Random, mut flow: Flow) -> Flow {
             (s.written, s.read) = (s.written & !bit, s.read & !bit);
         }
         for _ in 0..random.within(1, 2) {
-            let walk = walk(random, &flow);
+            let walk = walk(random, &flow, flow.entry.into());
             let writer = if random.once_in(2) { 0 } else { random.below(walk.len()) };
             let reader = if random.once_in(6) { writer } else { random.below(walk.len()) };
             flow.statements[walk[writer]].written |= bit;
@@ -120,6 +135,29 @@ fn on_walks(random: &mut Random, mut flow: Flow) -> Flow {
             0 => flow.statements[anywhere].read |= bit,
             1 | 2 => flow.statements[anywhere].written |= bit,
             _ => {}
+        }
+    }
+    flow
+}
+
+/// In one flow of four, more names, most of which are written and read within few statements of a walk from anywhere:
+/// so that some of them interfere, and others do not.
+fn short_lived(random: &mut Random, mut flow: Flow) -> Flow {
+    let n = flow.statements.len();
+    if n < 2 || flow.names == 0 || !random.once_in(4) {
+        return flow;
+    }
+    let before = flow.names;
+    flow.names = before.max(random.within(6, 14) as u8);
+    for bit in (before..flow.names).map(|name| 1 << name) {
+        for _ in 0..random.within(1, 2) {
+            let start = random.below(n);
+            let walk = walk(random, &flow, start);
+            let reader = walk[random.below(walk.len().min(5))];
+            flow.statements[start].written |= bit;
+            if !random.once_in(6) {
+                flow.statements[reader].read |= bit;
+            }
         }
     }
     flow
@@ -851,7 +889,7 @@ fn damaged(random: &mut Random, names: &mut Random, keys: &mut Random) -> Vec<u8
         2 => setup(random),
         _ => layered(random),
     };
-    let flow = with_key(keys, on_walks(names, flow));
+    let flow = with_key(keys, named(names, flow));
     if keys.once_in(3) {
         return damaged_key(keys, flow);
     }

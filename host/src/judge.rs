@@ -1,29 +1,48 @@
 //! The right answer to a file, from the original where it has something to say and from the
 //! reference answerer elsewhere; how a fault shows against it; and who agrees with it.
 
-use crate::answerer::{self, Answer, Areas, Certain, Fault, KeyParts, States, SureParts};
+use crate::answerer::{self, Answer, Areas, Fault, KeyParts, States, SureParts};
 use crate::flow::{self, Flow, Refusal};
+use crate::interference::Interference;
 use crate::sides::{self, Original, OriginalCertain};
 use crate::{generate, reader};
 
-/// Lengths of the lent areas: mask bytes, live-in, live-out and work words.
-#[derive(Clone, Copy, Debug, PartialEq, Eq)]
+/// Lengths of the lent areas: mask bytes, live-in, live-out and work words, and the rows of interference.
+#[derive(Clone, Copy, Debug, Default, PartialEq, Eq)]
 pub struct Lent {
     pub masks: usize,
     pub live_in: usize,
     pub live_out: usize,
     pub work: usize,
+    pub rows: usize,
 }
 
 impl Lent {
     /// Areas that serve the file, `more` longer than they must be; small ones if it is refused.
     pub fn for_file(file: &[u8], more: usize) -> Lent {
-        let (n, arrays) = match flow::read(file) {
-            Ok(flow) => (flow.statements.len(), flow.arrays.into()),
-            Err(_) => (2, 2),
+        let (n, arrays, names) = match flow::read(file) {
+            Ok(flow) => (flow.statements.len(), flow.arrays.into(), usize::from(flow.names)),
+            Err(_) => (2, 2, 2),
         };
         let (masks, live, work) = Areas::least(n, arrays);
-        Lent { masks: masks + more, live_in: live + more, live_out: live + more, work: work + more }
+        let [masks, live_in, live_out, work, rows] = [masks, live, live, work, names].map(|l| l + more);
+        Lent { masks, live_in, live_out, work, rows }
+    }
+
+    /// The areas of a file of a run: they serve it, but for the rows, which are one word short in one file of 16; in
+    /// another they are just enough, and in another longer than any flow needs.
+    pub fn in_turn(file: &[u8], index: u64) -> Lent {
+        let more = (index % 3) as usize;
+        let mut lent = Lent::for_file(file, more);
+        let names = lent.rows - more;
+        // Past the turns that the kinds of flows take.
+        match index / 6 % 16 {
+            0 => lent.rows = names.saturating_sub(1),
+            1 => lent.rows = names,
+            2 => lent.rows = names + 64,
+            _ => {}
+        }
+        lent
     }
 
     pub fn areas(self) -> Areas {
@@ -31,22 +50,26 @@ impl Lent {
     }
 }
 
-/// The answers to a file, and what stands in the areas after each call. The call for certain names has
-/// a work area of its own, as long as the other's.
+/// The answers to a file, and what stands in the areas after each call. The calls for certain names and for
+/// interference have work areas of their own, as long as the other's.
 #[derive(Clone, Debug, PartialEq, Eq)]
 pub struct Outcome {
     pub answer: Answer,
     pub areas: Areas,
-    pub certain: Certain,
+    pub certain: Answer,
     pub certain_work: Vec<u64>,
+    pub interference: Answer,
+    pub rows: Vec<u64>,
+    pub interference_work: Vec<u64>,
 }
 
 pub fn outcome(file: &[u8], lent: Lent, fault: Option<Fault>) -> Outcome {
-    let mut areas = lent.areas();
-    let mut certain_work = areas.work.clone();
-    let certain = answerer::certain(file, &mut certain_work, fault);
-    let answer = answerer::answer(file, &mut areas, fault);
-    Outcome { answer, areas, certain, certain_work }
+    let mut outcome = Outcome::before(lent);
+    let Outcome { areas, certain_work, rows, interference_work, .. } = &mut outcome;
+    let answer = answerer::answer(file, areas, fault);
+    let certain = answerer::certain(file, certain_work, fault);
+    let interference = answerer::interference(file, rows, interference_work, fault);
+    Outcome { answer, certain, interference, ..outcome }
 }
 
 /// Whether every state of these masks is in the original's, where there may be fewer of them, or whether
@@ -60,6 +83,20 @@ fn masks_agree(masks: &[u8], original: &[u8], fewer: bool) -> bool {
 }
 
 impl Outcome {
+    /// The lent areas before the calls.
+    pub fn before(lent: Lent) -> Outcome {
+        let areas = lent.areas();
+        Outcome {
+            answer: Answer::default(),
+            certain: Answer::default(),
+            certain_work: areas.work.clone(),
+            interference: Answer::default(),
+            rows: answerer::patterned_words(lent.rows),
+            interference_work: areas.work.clone(),
+            areas,
+        }
+    }
+
     /// Whether it is an acceptance with the original's live sets and masks, or masks within them where
     /// the flow has sure arrays.
     fn agrees(&self, original: &Original, sure: bool) -> bool {
@@ -69,16 +106,24 @@ impl Outcome {
             && areas.live_in.starts_with(&original.live_in)
             && areas.live_out.starts_with(&original.live_out)
     }
+
+    /// What the call for interference has found of so many names, where it accepts.
+    fn interfering(&self, names: u8) -> Option<Interference> {
+        let most = self.interference.result().ok()?;
+        let rows = self.rows.get(..names.into())?;
+        Some(Interference { rows: rows.to_vec(), most })
+    }
 }
 
 /// The right outcome, with the flow of a fit file and what it has of sure arrays, and with what the
-/// original says where a call accepts and there is no interrupt key.
+/// original says where a call accepts and there is no interrupt key; of interference it says something in any case.
 pub struct Right {
     pub outcome: Outcome,
     pub flow: Option<Flow>,
     pub sure: SureParts,
     pub original: Option<Original>,
     pub certain: Option<OriginalCertain>,
+    pub interference: Option<Interference>,
 }
 
 pub fn right(file: &[u8], lent: Lent) -> Right {
@@ -88,7 +133,8 @@ pub fn right(file: &[u8], lent: Lent) -> Right {
     let accepted = |number: u64| flow.as_ref().filter(|_| number == 0);
     let original = accepted(outcome.answer.number).and_then(sides::original);
     let certain = accepted(outcome.certain.number).and_then(sides::original_certain);
-    Right { outcome, flow, sure, original, certain }
+    let interference = accepted(outcome.interference.number).and_then(sides::original_interference);
+    Right { outcome, flow, sure, original, certain, interference }
 }
 
 impl Right {
@@ -109,11 +155,19 @@ impl Right {
     /// Whether the certain names are the original's, if they are to be compared.
     fn certain_agrees(&self, outcome: &Outcome) -> bool {
         let word = self.certain.and_then(OriginalCertain::compared);
-        word.is_none_or(|word| outcome.certain == Certain { number: 0, place: 0, word })
+        word.is_none_or(|word| outcome.certain == Answer::accepted(word))
+    }
+
+    /// Whether the interference is the original's, if it has any.
+    fn interference_agrees(&self, outcome: &Outcome) -> bool {
+        self.interference.as_ref().is_none_or(|original| {
+            outcome.interference == Answer::accepted(original.most)
+                && outcome.rows.starts_with(&original.rows)
+        })
     }
 
     pub fn original_agrees(&self, outcome: &Outcome) -> bool {
-        self.states_agree(outcome) && self.certain_agrees(outcome)
+        self.states_agree(outcome) && self.certain_agrees(outcome) && self.interference_agrees(outcome)
     }
 
     /// The answer to an accepted flow as it is without sure arrays.
@@ -147,7 +201,7 @@ pub fn fault_table(count: u64, seed: u64) -> Vec<(Fault, Shown)> {
     let mut table: Vec<(Fault, Shown)> = Fault::ALL.map(|fault| (fault, Shown::default())).to_vec();
     for index in 0..count {
         let file = generate::file(seed, index);
-        let lent = Lent::for_file(&file, (index % 3) as usize);
+        let lent = Lent::in_turn(&file, index);
         let right = right(&file, lent);
         for (fault, shown) in &mut table {
             let (at_all, against) = shows(*fault, &file, lent, &right);
@@ -186,7 +240,7 @@ impl Certainty {
         let accepted = right.outcome.certain.number == 0 && !right.has_key();
         let Some(flow) = right.flow.as_ref().filter(|_| accepted) else { return };
         let written = flow.statements.iter().fold(0, |set, s| set | s.written);
-        let certain = right.outcome.certain.word;
+        let certain = right.outcome.certain.found;
         let (some, others) = (certain != 0, written & !certain != 0);
         self.flows += 1;
         self.certain += usize::from(some);
@@ -271,6 +325,58 @@ impl Keys {
     }
 }
 
+/// Of the flows whose interference was asked for: how many have a handler, names that interfere, and without a
+/// handler a pair that only a write brings together, or only statements that nothing reaches; the most names live at
+/// once; how many were compared with the original, without a handler and with one; and how many were refused for
+/// the rows alone.
+#[derive(Default)]
+pub struct Meetings {
+    pub flows: usize,
+    pub key: usize,
+    pub some: usize,
+    pub by_write: usize,
+    pub unreached: usize,
+    pub most: u64,
+    pub compared: usize,
+    pub compared_key: usize,
+    pub short: usize,
+}
+
+impl Meetings {
+    fn count(&mut self, right: &Right) {
+        let Some(flow) = &right.flow else { return };
+        let Some(found) = right.outcome.interfering(flow.names) else {
+            self.short += usize::from(right.outcome.certain.number == 0);
+            return;
+        };
+        let key = right.has_key();
+        let other = |fault: Fault| !key && answerer::interfering_names(flow, Some(fault)).rows != found.rows;
+        self.flows += 1;
+        self.key += usize::from(key);
+        self.some += usize::from(found.rows.iter().any(|&row| row != 0));
+        self.by_write += usize::from(other(Fault::WritesLeftOut));
+        self.unreached += usize::from(other(Fault::ReachedMeet));
+        self.most = self.most.max(found.most);
+        if right.interference.is_some() {
+            *(if key { &mut self.compared_key } else { &mut self.compared }) += 1;
+        }
+    }
+
+    fn print(&self) {
+        let Meetings { flows, key, some, by_write, unreached, most, compared, compared_key, short } = *self;
+        let share = |count: usize| format!("{count} ({:.1}%)", 100.0 * count as f64 / flows as f64);
+        print!(
+            "  interference, {flows} flows, {key} with a handler: {} with names that interfere, ",
+            share(some)
+        );
+        print!("{} with a pair that only a write brings together, ", share(by_write));
+        println!("{} with a pair of statements that nothing reaches alone,", share(unreached));
+        println!("    at most {most} names live at once; {short} flows refused for short rows");
+        print!("  interference beside the original: {compared} flows without a handler, ");
+        println!("{compared_key} with one");
+    }
+}
+
 #[derive(Default)]
 pub struct Comparison {
     pub accepted: usize,
@@ -279,6 +385,7 @@ pub struct Comparison {
     pub certainty: Certainty,
     pub sureness: Sureness,
     pub keys: Keys,
+    pub meetings: Meetings,
     pub differences: Vec<String>,
 }
 
@@ -299,6 +406,11 @@ impl Comparison {
     fn hold_original(&mut self, index: u64, side: &str, right: &Right, outcome: &Outcome) {
         self.hold(index, &format!("the original and {side}"), right.states_agree(outcome));
         self.hold(index, &format!("certain names by the original and {side}"), right.certain_agrees(outcome));
+        let agree = right.interference_agrees(outcome);
+        self.hold(index, &format!("interference by the original and {side}"), agree);
+        let found = right.flow.as_ref().and_then(|flow| outcome.interfering(flow.names));
+        let fit = found.is_none_or(|found| found.is_well_formed());
+        self.hold(index, &format!("interference by {side} is not symmetric, or a name meets itself"), fit);
     }
 
     /// The answerer without sure arrays beside the original: masks on every flow, and visits where no
@@ -306,7 +418,7 @@ impl Comparison {
     /// other states where there are some.
     fn hold_without_sure(&mut self, index: u64, right: &Right) {
         let (Some(flow), Some(without)) = (right.accepted(), right.without_sure()) else { return };
-        let (masks, visits) = (&right.outcome.areas.masks, right.outcome.answer.visits);
+        let (masks, visits) = (&right.outcome.areas.masks, right.outcome.answer.found);
         let same = masks.starts_with(&without.masks);
         if !right.has_key() {
             self.sureness.count(right.sure, !same);
@@ -349,6 +461,9 @@ impl Comparison {
         if self.keys.flows > 0 {
             self.keys.print();
         }
+        if self.meetings.flows > 0 {
+            self.meetings.print();
+        }
         self.differences.iter().for_each(|d| println!("  {d}"));
         println!("{} differences", self.differences.len());
     }
@@ -362,16 +477,17 @@ fn of_file(answer: Answer) -> Result<(), Refusal> {
     }
 }
 
-/// The answerer beside the original (masks, live sets, certain names) and beside the plain reader
+/// The answerer beside the original (masks, live sets, certain names, interference) and beside the plain reader
 /// (refusals).
 pub fn compare(count: u64, seed: u64) -> Comparison {
     let mut comparison = Comparison::default();
     for index in 0..count {
         let file = generate::file(seed, index);
-        let right = right(&file, Lent::for_file(&file, (index % 3) as usize));
+        let right = right(&file, Lent::in_turn(&file, index));
         comparison.count(right.outcome.answer);
         let read = reader::read(&file, &mut Vec::new());
         comparison.certainty.count(&right);
+        comparison.meetings.count(&right);
         comparison.hold(index, "the plain reader and the answerer", read == of_file(right.outcome.answer));
         comparison.hold_original(index, "the answerer", &right, &right.outcome);
         comparison.hold_without_sure(index, &right);
@@ -402,20 +518,21 @@ pub fn compare_reader(count: u64, seed: u64) -> Option<Comparison> {
 
 /// What the proved calls answer and leave in the areas; `None` without them.
 pub fn proved_outcome(file: &[u8], lent: Lent) -> Option<Outcome> {
-    let mut areas = lent.areas();
-    let mut certain_work = areas.work.clone();
-    let certain = sides::proved_certain(file, &mut certain_work)?;
-    let answer = sides::proved_states(file, &mut areas)?;
-    Some(Outcome { answer, areas, certain, certain_work })
+    let mut outcome = Outcome::before(lent);
+    let Outcome { areas, certain_work, rows, interference_work, .. } = &mut outcome;
+    let answer = sides::proved_states(file, areas)?;
+    let certain = sides::proved_certain(file, certain_work)?;
+    let interference = sides::proved_interference(file, rows, interference_work)?;
+    Some(Outcome { answer, certain, interference, ..outcome })
 }
 
 /// Areas that serve the file as a rule; in one file of eight, one of them may be short.
 fn lent_in_turn(file: &[u8], index: u64) -> Lent {
-    let mut lent = Lent::for_file(file, (index % 3) as usize);
-    let areas = [&mut lent.masks, &mut lent.live_in, &mut lent.live_out, &mut lent.work];
+    let mut lent = Lent::in_turn(file, index);
+    let Lent { masks, live_in, live_out, work, rows } = &mut lent;
     if index / 4 % 8 == 0 {
-        for (i, length) in areas.into_iter().enumerate() {
-            if index / 32 % 4 == i as u64 {
+        for (i, length) in [masks, live_in, live_out, work, rows].into_iter().enumerate() {
+            if index / 32 % 5 == i as u64 {
                 *length = length.saturating_sub(1 + (index % 3) as usize);
             }
         }
@@ -423,8 +540,8 @@ fn lent_in_turn(file: &[u8], index: u64) -> Lent {
     lent
 }
 
-/// The proved calls beside the original (masks, live sets, certain names) and beside the answerer
-/// (refusals, places, visits, certain names, every byte of the areas).
+/// The proved calls beside the original (masks, live sets, certain names, interference) and beside the answerer
+/// (refusals, places, visits, certain names, interference, every byte of the areas).
 pub fn compare_proved(count: u64, seed: u64) -> Option<Comparison> {
     let mut comparison = Comparison::default();
     for index in 0..count {
@@ -434,6 +551,7 @@ pub fn compare_proved(count: u64, seed: u64) -> Option<Comparison> {
         let proved = proved_outcome(&file, lent)?;
         comparison.count(right.outcome.answer);
         comparison.certainty.count(&right);
+        comparison.meetings.count(&right);
         comparison.hold(index, "the proved calls and the answerer", proved == right.outcome);
         comparison.hold_original(index, "the proved calls", &right, &proved);
         comparison.hold_without_sure(index, &right);

@@ -11,6 +11,7 @@ pub mod door;
 pub mod dot;
 pub mod flow;
 pub mod generate;
+pub mod interference;
 pub mod judge;
 pub mod listing;
 #[cfg(original)]

@@ -11,7 +11,7 @@ use yarnuskel_host::sides::{self, NO_KEY, NO_LIBRARY, NO_ORIGINAL};
 use yarnuskel_host::{answerer, bench, cases, dot, flow, listing, reading, saved, stack, store, text, worst};
 
 const USAGE: &str = "commands:
-  answer FILE|DIR              masks, live sets and certain names by the original, refusals and what sure arrays change by the answerer (of a DIR, its .flow files), which also answers a flow with an interrupt key
+  answer FILE|DIR              masks, live sets, certain names and interference by the original, refusals and what sure arrays change by the answerer (of a DIR, its .flow files), which also answers a flow with an interrupt key
   random KIND COUNT SEED DIR   write random files: plain, layered, limits, setup, damaged
   file SEED INDEX PATH         write one file of a comparison
   time FILE                    time the original
@@ -25,13 +25,14 @@ const USAGE: &str = "commands:
   definitions                  every definition that the promises rest on, with its file and its lines
   text FILE                    a flow file as text
   flow TEXT PATH               write the flow file that a text says
-  dot FILE                     a flow file with its masks, sure arrays, certain names and key as a picture, for Graphviz
+  dot FILE                     a flow file with its masks, sure arrays, certain names, names live at once and key as a picture, for Graphviz
   saved                        how many references need no test for sure arrays, in the flows of bench and the examples
   saved FILE                   the masks of a flow file without sure arrays and with them
   key FILE                     the masks of a flow file without its interrupt key and with it
+  cells FILE                   the names of a flow file that interfere, and cells that they may share
   bench-reader                 the proved reader beside a plain one
   bench                        the proved calls beside the original, and beside each other
-  bench-beside ARCHIVE         the proved call by another build of the library and by this one, in turn
+  bench-beside ARCHIVE         the proved calls by another build of the library and by this one, in turn
   stack                        the stack that the deepest nest of subroutines takes, in each order of the file
   stack-try ORDER DEPTH BYTES  whether a thread with so much stack answers a nest (Down or Up); an overflow ends the program
   worst SECONDS SEED [FAMILY]  search for the file that takes the proved call longest, so long a family
@@ -88,7 +89,17 @@ fn answer_file(path: &Path) -> Outcome {
         println!("{i} {masks} {:016x} {:016x}{was}", states.live_in[i], states.live_out[i]);
     }
     println!("{}", certain_line(&flow));
+    print!("{}", interference_lines(&flow));
     Ok(true)
+}
+
+/// The names that interfere and how many are live at once, by the original, with a key too.
+fn interference_lines(flow: &Flow) -> String {
+    let Some(found) = sides::original_interference(flow) else { return format!("{NO_ORIGINAL}\n") };
+    let met = found.rows.iter().enumerate().filter(|(_, row)| **row != 0);
+    let meets: String =
+        met.map(|(x, &row)| format!("name {x} meets{}\n", text::list(text::members(row)))).collect();
+    format!("{meets}{} live at once\n", found.most)
 }
 
 /// The certain names by the original, or by the answerer where the original may have fallen back or says
@@ -96,7 +107,8 @@ fn answer_file(path: &Path) -> Outcome {
 fn certain_line(flow: &Flow) -> String {
     match sides::original_certain(flow) {
         None if flow.handler.is_some() => {
-            format!("certain {:016x}, all by the answerer: {NO_KEY}", answerer::certain_names(flow, None))
+            let word = answerer::certain_names(flow, None);
+            format!("certain {word:016x}, this and all above by the answerer: {NO_KEY}")
         }
         Some(original) if original.compared().is_none() => {
             let word = answerer::certain_names(flow, None);
@@ -223,10 +235,12 @@ fn list_store() -> Outcome {
     for (number, case) in store::cases().iter().enumerate() {
         let right = store::answer(case)?;
         let (answer, certain) = (right.outcome.answer, right.outcome.certain);
-        let Lent { masks, live_in, live_out, work } = case.lent;
-        print!("{number}: {} | areas {masks} {live_in} {live_out} {work} | ", case.name);
-        print!("{} {} {} | ", answer.number, answer.place, answer.visits);
-        println!("{} {} {:016x}", certain.number, certain.place, certain.word);
+        let interference = right.outcome.interference;
+        let Lent { masks, live_in, live_out, work, rows } = case.lent;
+        print!("{number}: {} | areas {masks} {live_in} {live_out} {work} {rows} | ", case.name);
+        print!("{} {} {} | ", answer.number, answer.place, answer.found);
+        print!("{} {} {:016x} | ", certain.number, certain.place, certain.found);
+        println!("{} {} {}", interference.number, interference.place, interference.found);
     }
     Ok(true)
 }
@@ -274,13 +288,19 @@ fn run(words: &[&str]) -> Outcome {
             print!("{}", saved::key_masks(&fit(Path::new(path))?));
             Ok(true)
         }
+        ["cells", path] => {
+            print!("{}", answerer::interfering_names(&fit(Path::new(path))?, None).print());
+            Ok(true)
+        }
         ["definitions"] => {
             print!("{}", reading::Library::load(&root()).believed(&root()));
             Ok(true)
         }
         ["flow", from, path] => write_flow(Path::new(from), Path::new(path)),
         ["bench-reader"] => Ok(bench::readers()),
-        ["bench"] => Ok(bench::whole_call() & bench::key_call() & bench::certain_call()),
+        ["bench"] => Ok({
+            bench::whole_call() & bench::key_call() & bench::certain_call() & bench::interference_call()
+        }),
         ["bench-beside", archive] => match sides::beside(Path::new(archive)) {
             Some(measured) => measured.map(|()| true),
             None => {

@@ -8,6 +8,7 @@ use crate::ast::{VarKind, VarName};
 use crate::cfg::{Cfg, CfgNode, StmtPath};
 use crate::flow::{Flow, Kind, Statement};
 use crate::given::{self, Lists};
+use crate::interference::Interference;
 use crate::ir::{DimSpec, Line, Module, Stmt};
 
 #[allow(dead_code)]
@@ -101,7 +102,7 @@ mod dataflow {
     }
 }
 
-use dataflow::{DefinedBeforeUse, VarInterference};
+use dataflow::{DefinedBeforeUse, InterferenceGraph, VarInterference};
 
 /// A flow in the original's types.
 pub struct Original {
@@ -160,9 +161,10 @@ fn graph(flow: &Flow) -> Cfg {
 impl Original {
     /// `None` for a flow with an interrupt key.
     pub fn new(flow: &Flow) -> Option<Original> {
-        if flow.handler.is_some() {
-            return None;
-        }
+        flow.handler.is_none().then(|| Original::of(flow))
+    }
+
+    fn of(flow: &Flow) -> Original {
         let arrays: Vec<VarName> = (0..flow.arrays.into()).map(|i| name(i, VarKind::Float)).collect();
         let names: Vec<VarName> = (0..flow.names.into()).map(|i| name(i, VarKind::Float)).collect();
         let members = |set: u64| {
@@ -175,12 +177,12 @@ impl Original {
             read: members(s.read),
         };
         let stmts = flow.statements.iter().map(|s| stmt(&s.kind, &arrays)).collect();
-        Some(Original {
-            module: Module { lines: vec![Line { stmts }], cfg: graph(flow), on_key: false },
+        Original {
+            module: Module { lines: vec![Line { stmts }], cfg: graph(flow), on_key: flow.handler.is_some() },
             lists: Rc::new(flow.statements.iter().map(lists).collect()),
             arrays,
             names,
-        })
+        }
     }
 
     /// The masks of each statement.
@@ -228,12 +230,28 @@ impl Original {
         given::hand_back(&self.module, &self.lists);
         dataflow::defined_visits(&self.module)
     }
+}
 
-    /// For each name, the names it interferes with, as a word.
-    pub fn interference(&self) -> Vec<u64> {
-        given::hand_back(&self.module, &self.lists);
-        let graph = VarInterference.run(&self.module, &mut Registry::default());
-        let meets = |v| self.names.iter().rev().fold(0, |w, u| w << 1 | u64::from(graph.interferes(v, u)));
-        self.names.iter().map(meets).collect()
+/// A flow for the original's interference alone, which knows of a key: it asks whether there is one.
+pub struct Names(Original);
+
+impl Names {
+    pub fn new(flow: &Flow) -> Names {
+        Names(Original::of(flow))
+    }
+
+    /// The original's own graph, its live sets solved on the way.
+    pub fn graph(&self) -> InterferenceGraph {
+        given::hand_back(&self.0.module, &self.0.lists);
+        VarInterference.run(&self.0.module, &mut Registry::default())
+    }
+
+    /// For each name the names it interferes with, and the size of the largest live-in set: the original's live
+    /// sets take no notice of a key.
+    pub fn interference(&self) -> Interference {
+        let (graph, names) = (self.graph(), &self.0.names);
+        let row = |v| names.iter().rev().fold(0, |w, u| w << 1 | u64::from(graph.interferes(v, u)));
+        let most = self.0.live_sets().iter().map(|(live_in, _)| live_in.len()).max();
+        Interference { rows: names.iter().map(row).collect(), most: most.unwrap_or(0) as u64 }
     }
 }

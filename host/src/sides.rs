@@ -1,9 +1,10 @@
 //! The sides of a comparison that may be absent: the original Rust and the proved library. Each
 //! answers `None` where it was not there at build time, the original also for a flow with an interrupt
-//! key, of which its runs know nothing.
+//! key, of which its runs know nothing; its interference does.
 
-use crate::answerer::{Answer, Areas, Certain};
+use crate::answerer::{Answer, Areas};
 use crate::flow::{Flow, Refusal};
+use crate::interference::Interference;
 
 pub const NO_ORIGINAL: &str = "the original Rust is not here: what needs it is skipped";
 pub const NO_KEY: &str = "the original knows no interrupt key";
@@ -78,6 +79,17 @@ pub fn original_certain(_: &Flow) -> Option<OriginalCertain> {
     None
 }
 
+/// The names that interfere by the original, with a key too, and how many are live at once by its live sets.
+#[cfg(original)]
+pub fn original_interference(flow: &Flow) -> Option<Interference> {
+    Some(crate::original::Names::new(flow).interference())
+}
+
+#[cfg(not(original))]
+pub fn original_interference(_: &Flow) -> Option<Interference> {
+    None
+}
+
 /// Something to time.
 pub type Run<'a> = Box<dyn FnMut() + 'a>;
 
@@ -113,6 +125,18 @@ pub fn original_certain_run(_: &Flow) -> Option<Run<'static>> {
     None
 }
 
+/// The original's `VarInterference`, with the live solve that it asks for.
+#[cfg(original)]
+pub fn original_interference_run(flow: &Flow) -> Option<Run<'static>> {
+    let names = crate::original::Names::new(flow);
+    Some(Box::new(move || drop(std::hint::black_box(names.graph()))))
+}
+
+#[cfg(not(original))]
+pub fn original_interference_run(_: &Flow) -> Option<Run<'static>> {
+    None
+}
+
 #[cfg(proved)]
 pub fn proved_check(file: &[u8]) -> Option<Result<(), Refusal>> {
     Some(crate::door::check(file))
@@ -134,12 +158,22 @@ pub fn proved_states(_: &[u8], _: &mut Areas) -> Option<Answer> {
 }
 
 #[cfg(proved)]
-pub fn proved_certain(file: &[u8], work: &mut [u64]) -> Option<Certain> {
+pub fn proved_certain(file: &[u8], work: &mut [u64]) -> Option<Answer> {
     Some(crate::door::certain_in(file, work))
 }
 
 #[cfg(not(proved))]
-pub fn proved_certain(_: &[u8], _: &mut [u64]) -> Option<Certain> {
+pub fn proved_certain(_: &[u8], _: &mut [u64]) -> Option<Answer> {
+    None
+}
+
+#[cfg(proved)]
+pub fn proved_interference(file: &[u8], rows: &mut [u64], work: &mut [u64]) -> Option<Answer> {
+    Some(crate::door::interference_in(file, rows, work))
+}
+
+#[cfg(not(proved))]
+pub fn proved_interference(_: &[u8], _: &mut [u64], _: &mut [u64]) -> Option<Answer> {
     None
 }
 

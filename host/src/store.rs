@@ -1,7 +1,7 @@
 //! The stored answers: a fixed list of files with their right answers, in one file that a program
 //! replays without Rust.
 
-use crate::answerer::{Answer, Certain, Fault, States};
+use crate::answerer::{self, Answer, Fault, States};
 use crate::cases::{self, Case};
 use crate::generate::{self, Family};
 use crate::judge::{self, Lent, Outcome, Right};
@@ -17,11 +17,20 @@ const LONGEST: usize = 700;
 /// How many flows show a fault before no more are taken for its sake.
 const ENOUGH: usize = 8;
 
-/// Whether a fault shows against the original; visits, masks where there are sure arrays, and all of a flow
+/// Faults of which the original says nothing: it has another count of visits, and no areas.
+const ALONE: [Fault; 5] = [
+    Fault::VisitsFitTheBound,
+    Fault::RowsOneShort,
+    Fault::RowsBeyond,
+    Fault::RowsOfRefused,
+    Fault::InterferenceWorkKept,
+];
+
+/// Whether a fault shows against the original; visits, areas, masks where there are sure arrays, and all of a flow
 /// with a key are the answerer's alone.
 fn shows(fault: Fault, file: &[u8], lent: Lent, right: &Right) -> bool {
     let (at_all, against_original) = judge::shows(fault, file, lent, right);
-    let alone = fault == Fault::VisitsFitTheBound || right.sure.some || right.has_key();
+    let alone = ALONE.contains(&fault) || right.sure.some || right.has_key();
     if alone { at_all } else { against_original }
 }
 
@@ -39,7 +48,7 @@ fn random_cases() -> Vec<Case> {
         if file.len() > LONGEST {
             continue;
         }
-        let lent = Lent::for_file(&file, (index % 3) as usize);
+        let lent = Lent::in_turn(&file, index);
         let right = judge::right(&file, lent);
         let wanted = Fault::ALL.into_iter().zip(&mut shown).filter(|(_, times)| **times < ENOUGH);
         let shows: Vec<&mut usize> =
@@ -61,8 +70,8 @@ pub fn cases() -> Vec<Case> {
     let differences = cases::differences().into_iter().map(|(name, flow)| (name, flow.bytes()));
     let differences = differences.chain([("refused", cases::refused())]);
     let differences = differences.map(|(name, file)| Case::new(name, file, 1)).collect();
-    [worked, cases::refusals(), cases::certain(), cases::sure(), cases::key(), random_cases(), differences]
-        .concat()
+    let rules = [cases::certain(), cases::sure(), cases::key(), cases::interference()].concat();
+    [worked, cases::refusals(), rules, random_cases(), differences].concat()
 }
 
 /// The right answer to a case; an error where original and answerer part, also without sure arrays.
@@ -79,6 +88,16 @@ fn put_u32(out: &mut Vec<u8>, value: usize) {
     out.extend_from_slice(&u32::try_from(value).unwrap().to_le_bytes());
 }
 
+fn put_words(out: &mut Vec<u8>, words: &[u64]) {
+    words.iter().for_each(|word| out.extend_from_slice(&word.to_le_bytes()));
+}
+
+fn put_answer(out: &mut Vec<u8>, Answer { number, place, found }: Answer) {
+    out.push(number as u8);
+    put_u32(out, place as usize);
+    put_words(out, &[found]);
+}
+
 fn put_case(out: &mut Vec<u8>, case: &Case, right: &Right) {
     out.push(1);
     for (times, block) in &case.blocks {
@@ -87,7 +106,7 @@ fn put_case(out: &mut Vec<u8>, case: &Case, right: &Right) {
         out.extend_from_slice(block);
     }
     out.extend_from_slice(&[0, 0]);
-    let Lent { masks, live_in, live_out, work } = case.lent;
+    let Lent { masks, live_in, live_out, work, rows } = case.lent;
     for length in [masks, live_in, live_out, work] {
         put_u32(out, length);
     }
@@ -96,16 +115,17 @@ fn put_case(out: &mut Vec<u8>, case: &Case, right: &Right) {
     put_u32(out, answer.place as usize);
     if let Some(flow) = right.flow.as_ref().filter(|_| answer.number == 0) {
         let n = flow.statements.len();
-        put_u32(out, answer.visits as usize);
+        put_u32(out, answer.found as usize);
         out.extend_from_slice(&areas.masks[..n * usize::from(flow.arrays)]);
-        for word in areas.live_in[..n].iter().chain(&areas.live_out[..n]) {
-            out.extend_from_slice(&word.to_le_bytes());
-        }
+        put_words(out, &areas.live_in[..n]);
+        put_words(out, &areas.live_out[..n]);
     }
-    let Certain { number, place, word } = right.outcome.certain;
-    out.push(number as u8);
-    put_u32(out, place as usize);
-    out.extend_from_slice(&word.to_le_bytes());
+    put_answer(out, right.outcome.certain);
+    put_u32(out, rows);
+    put_answer(out, right.outcome.interference);
+    if let Some(flow) = right.flow.as_ref().filter(|_| right.outcome.interference.number == 0) {
+        put_words(out, &right.outcome.rows[..flow.names.into()]);
+    }
 }
 
 /// The stored answers, as bytes.
@@ -164,24 +184,35 @@ impl Bytes<'_> {
     fn stored(&mut self) -> Stored {
         let file = self.file();
         let [masks, live_in, live_out, work] = [0; 4].map(|_| self.number(4));
-        let lent = Lent { masks, live_in, live_out, work };
+        let mut outcome = Outcome::before(Lent { masks, live_in, live_out, work, rows: 0 });
         let (number, place) = (self.number(1) as u64, self.number(4) as u64);
-        let mut answer = Answer { number, place, visits: 0 };
-        let mut areas = lent.areas();
+        outcome.answer = Answer { number, place, found: 0 };
         if number == 0 {
-            answer.visits = self.number(4) as u64;
+            let visits = self.number(4) as u64;
             let (n, arrays) = (usize::from(u16::from_le_bytes([file[2], file[3]])), usize::from(file[4]));
             let masks = self.take(n * arrays);
             let (live_in, live_out) = (self.words(n), self.words(n));
-            areas.write(&States { masks, live_in, live_out, visits: answer.visits });
+            outcome.answer.found = visits;
+            outcome.areas.write(&States { masks, live_in, live_out, visits });
         }
-        let mut certain_work = lent.areas().work;
-        let (number, place) = (self.number(1) as u64, self.number(4) as u64);
-        let certain = Certain { number, place, word: self.number(8) as u64 };
+        outcome.certain = self.answer(&mut outcome.certain_work);
+        let rows = self.number(4);
+        outcome.rows = answerer::patterned_words(rows);
+        outcome.interference = self.answer(&mut outcome.interference_work);
+        if outcome.interference.number == 0 {
+            let words = self.words(file[5].into());
+            outcome.rows[..words.len()].copy_from_slice(&words);
+        }
+        Stored { file, lent: Lent { masks, live_in, live_out, work, rows }, outcome }
+    }
+
+    /// An answer that has found one word; where it accepts, it leaves the work area zero.
+    fn answer(&mut self, work: &mut [u64]) -> Answer {
+        let [number, place, found] = [1, 4, 8].map(|width| self.number(width) as u64);
         if number == 0 {
-            certain_work.fill(0);
+            work.fill(0);
         }
-        Stored { file, lent, outcome: Outcome { answer, areas, certain, certain_work } }
+        Answer { number, place, found }
     }
 }
 

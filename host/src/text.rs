@@ -34,7 +34,7 @@ const LONGEST: usize = 255;
 
 // ----- Printing -----------------------------------------------------------
 
-fn counted(count: usize, name: &str) -> String {
+pub fn counted(count: usize, name: &str) -> String {
     format!("{count} {name}{}", if count == 1 { "" } else { "s" })
 }
 

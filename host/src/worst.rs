@@ -1,6 +1,7 @@
 //! A search for the file that takes the proved call longest: families of flows that each drive
-//! one part of it to its limit, with knobs that are turned while the time grows. A file is made
-//! again from its recipe (family, knobs, seed), so only recipes are stored, in `worst.txt`.
+//! one part of it to its limit, with knobs that are turned while the time grows; one of them is for the
+//! call for interference. A file is made again from its recipe (family, knobs, seed), so only recipes are
+//! stored, in `worst.txt`.
 
 use std::fmt;
 use std::path::PathBuf;
@@ -8,7 +9,7 @@ use std::time::{Duration, Instant};
 
 use crate::flow::{Flow, Kind, MAX_ARRAYS, MAX_FILE, MAX_STATEMENTS, Statement};
 use crate::generate;
-use crate::judge::Lent;
+use crate::judge::{Lent, Outcome};
 use crate::random::Random;
 use crate::sides;
 
@@ -38,9 +39,12 @@ enum Family {
     Key,
     /// Calls that are not opaque, with long lists of lines, and an interrupt key.
     KeyCalls,
+    /// For the call for interference: a dense graph in which names come to be live one at a time, with other sets
+    /// of them at each statement.
+    Names,
 }
 
-const FAMILIES: [Family; 9] = [
+const FAMILIES: [Family; 10] = [
     Family::Returns,
     Family::Bodies,
     Family::Calls,
@@ -50,6 +54,7 @@ const FAMILIES: [Family; 9] = [
     Family::Sure,
     Family::Key,
     Family::KeyCalls,
+    Family::Names,
 ];
 
 // ----- Recipes ------------------------------------------------------------
@@ -109,6 +114,7 @@ impl Recipe {
             Family::Sure => sure(self.knobs, random),
             Family::Key => key(self.knobs, random),
             Family::KeyCalls => key_calls(self.knobs, random),
+            Family::Names => names(self.knobs, random),
         }
         .bytes()
     }
@@ -368,6 +374,11 @@ fn sure([share, fill, gates, direction]: Knobs, random: &mut Random) -> Flow {
         let more = (1..each).map(|_| target(random, first, chain + 1, i, direction));
         flow.statements[i].successors.extend(more);
     }
+    turned_around(flow, turned)
+}
+
+/// The same flow, with its statements in the opposite order of the file if it is turned.
+fn turned_around(flow: Flow, turned: bool) -> Flow {
     let place: Vec<usize> = (0..N).map(|i| if turned { N - 1 - i } else { i }).collect();
     generate::moved(flow, &place, line)
 }
@@ -399,6 +410,34 @@ fn key_calls([share, fill, known, at]: Knobs, random: &mut Random) -> Flow {
     flow
 }
 
+/// Knobs: the successors in the dense graph, how many names come one at a time, how many statements write some, and
+/// where edges go; in the upper half of the last the file is turned around. The graph leads on to a chain that passes
+/// one gate after the other, and each gate reads a name: so each is live one statement later than the one before.
+fn names([fill, gates, written, direction]: Knobs, random: &mut Random) -> Flow {
+    let gates = part(64, gates);
+    let (chain, gate) = (N - 2 * gates, N - gates);
+    let (turned, direction) = (direction > TURNS / 2, direction % (TURNS / 2 + 1) * 2);
+    let statement = |i: usize| match i {
+        _ if i < chain => ordinary(i),
+        _ if i < gate => {
+            let next = (i + 1).min(gate - 1);
+            Statement::new(line(i), Kind::Other, &[(i + gates) as u16, next as u16], &[])
+        }
+        _ => Statement { read: 1 << (i - gate), ..Statement::new(line(i), Kind::Other, &[], &[]) },
+    };
+    let mut flow = flow((0..N).map(statement).collect(), Vec::new());
+    let each = room(&flow, chain, 2, fill);
+    for i in 0..chain {
+        let more = (1..each).map(|_| target(random, 0, chain + 1, i, direction));
+        flow.statements[i].successors.extend(more);
+        if random.below(TURNS) < written {
+            (flow.statements[i].written, flow.statements[i].read) =
+                (random.next() & random.next(), 1 << random.below(64));
+        }
+    }
+    turned_around(flow, turned)
+}
+
 // ----- The search ---------------------------------------------------------
 
 /// How long this thread was on a processor, where the system says so, as Linux does.
@@ -407,18 +446,33 @@ fn processor_time() -> Option<Duration> {
     text.split(' ').next()?.parse().ok().map(Duration::from_nanos)
 }
 
-/// How long the call takes, the shortest of some runs, and its visits; `None` without the call.
+impl Family {
+    /// What the call that the family is for has found.
+    fn found(self, found: u64) -> String {
+        match self {
+            Family::Names => format!("{found} names at once"),
+            _ => format!("{found} visits"),
+        }
+    }
+}
+
+/// How long the call takes, the shortest of some runs, and what it finds; `None` without the call.
 /// It is the time on a processor if that can be had: another's work is no matter of the file's.
-fn measure(file: &[u8], runs: usize) -> Option<(Duration, u64)> {
-    let mut areas = Lent::for_file(file, 0).areas();
+fn measure(family: Family, file: &[u8], runs: usize) -> Option<(Duration, u64)> {
+    let mut outcome = Outcome::before(Lent::for_file(file, 0));
     let mut best = (Duration::MAX, 0);
     for _ in 0..runs {
         let (start, on_processor) = (Instant::now(), processor_time());
-        let answer = sides::proved_states(file, &mut areas)?;
+        let answer = match family {
+            Family::Names => {
+                sides::proved_interference(file, &mut outcome.rows, &mut outcome.interference_work)?
+            }
+            _ => sides::proved_states(file, &mut outcome.areas)?,
+        };
         let wall = start.elapsed();
         let taken = processor_time().zip(on_processor).map_or(wall, |(end, start)| end - start);
         assert_eq!(answer.number, 0, "a file of the search is refused");
-        best = best.min((taken, answer.visits));
+        best = best.min((taken, answer.found));
     }
     Some(best)
 }
@@ -443,9 +497,9 @@ fn climb(
             _ => Recipe::any(family, random),
         };
         let file = recipe.file();
-        let (time, visits) = measure(&file, 1)?;
+        let (time, found) = measure(family, &file, 1)?;
         if best.is_none_or(|(_, longest)| time > longest) {
-            println!("{recipe}: {time:.2?}, {visits} visits, {} bytes", file.len());
+            println!("{recipe}: {time:.2?}, {}, {} bytes", family.found(found), file.len());
             best = Some((recipe, time));
         }
     }
@@ -467,11 +521,12 @@ pub fn again() -> Result<bool, String> {
     let mut longest = Duration::ZERO;
     for recipe in stored() {
         let file = recipe.file();
-        let Some((time, visits)) = measure(&file, 3) else {
+        let Some((time, found)) = measure(recipe.family, &file, 3) else {
             println!("{}", sides::NO_LIBRARY);
             return Ok(true);
         };
-        println!("{recipe}: {time:.2?}, the shortest of 3 runs, {visits} visits, {} bytes", file.len());
+        let found = recipe.family.found(found);
+        println!("{recipe}: {time:.2?}, the shortest of 3 runs, {found}, {} bytes", file.len());
         longest = longest.max(time);
     }
     println!("longest {longest:.2?} (limit {LIMIT:?})");
@@ -492,6 +547,12 @@ pub fn key_files() -> [Vec<u8>; 3] {
         recipe(Family::Key, [20, TURNS / 2, 30, TURNS]),
         recipe(Family::KeyCalls, [TURNS, 20, 20, 10]),
     ]
+}
+
+/// Files of as many statements as there may be, with names that come to be live one at a time, in both orders.
+pub fn names_files() -> [Vec<u8>; 2] {
+    [8, TURNS / 2 + 8]
+        .map(|direction| Recipe { family: Family::Names, knobs: [20, TURNS, 20, direction], seed: 1 }.file())
 }
 
 /// The file of stored recipe `number`, from 0.
@@ -561,6 +622,17 @@ mod tests {
                 let flow = crate::flow::read(&recipe.file()).unwrap();
                 assert!(!crate::answerer::key_parts(&flow).unwrap().opaque, "{recipe}");
             }
+        }
+    }
+
+    /// All names are live at once in one file, and other names at most statements.
+    #[test]
+    fn names_files_have_many_sets() {
+        for file in names_files() {
+            let flow = crate::flow::read(&file).unwrap();
+            let live_in = crate::answerer::states(&flow, None).live_in;
+            assert!(live_in.windows(2).filter(|two| two[1] & !two[0] != 0).count() > 200);
+            assert_eq!(crate::answerer::interfering_names(&flow, None).most, 64);
         }
     }
 

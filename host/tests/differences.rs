@@ -33,9 +33,10 @@ fn masks_and_live_sets_are_the_originals() {
 fn a_refused_file() {
     let refusal = Refusal { number: 3, place: 0 };
     assert_eq!(flow::read(&cases::refused()), Err(refusal));
-    if let Some(outcome) =
-        judge::proved_outcome(&cases::refused(), Lent { masks: 4, live_in: 4, live_out: 4, work: 256 })
-    {
+    if let Some(outcome) = judge::proved_outcome(
+        &cases::refused(),
+        Lent { masks: 4, live_in: 4, live_out: 4, work: 256, rows: 1 },
+    ) {
         assert_eq!(outcome.answer, refusal.into());
     }
 }

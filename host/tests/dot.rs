@@ -70,14 +70,14 @@ fn interrupt_key() {
 }
 
 #[test]
-fn certain_names() {
+fn certain_names_and_names_at_once() {
     let p5 = &cases::worked()[0].flow;
-    assert!(picture(p5).contains("label=\"certain names none\""));
+    assert!(picture(p5).contains("label=\"certain names none\\n1 live at once\""));
     let mut flow = p5.clone();
     (flow.names, flow.statements[0].written) = (2, 0b11);
     let names: Vec<String> =
         text::members(answerer::certain_names(&flow, None)).map(|x| x.to_string()).collect();
-    assert!(!names.is_empty() && picture(&flow).contains(&format!("certain names {}\"", names.join(" "))));
+    assert!(!names.is_empty() && picture(&flow).contains(&format!("certain names {}\\n", names.join(" "))));
     assert!(!picture(&Flow { names: 0, ..Flow::default() }).contains("label"));
 }
 

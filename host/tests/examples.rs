@@ -4,7 +4,7 @@ use std::path::{Path, PathBuf};
 
 use yarnuskel_host::judge::{self, Lent};
 use yarnuskel_host::sides::{NO_LIBRARY, NO_ORIGINAL};
-use yarnuskel_host::{cases, flow, saved, text};
+use yarnuskel_host::{answerer, cases, flow, saved, text};
 
 fn examples() -> PathBuf {
     Path::new(env!("CARGO_MANIFEST_DIR")).parent().unwrap().join("examples")
@@ -55,6 +55,21 @@ fn the_readme_shows_what_sure_arrays_change() {
     );
 }
 
+/// The names of the example for cells, and the cells that they share.
+#[test]
+fn the_readme_shows_names_and_cells() {
+    let readme = std::fs::read_to_string(examples().join("README.md")).unwrap();
+    let found = answerer::interfering_names(&flow::read(&stored("cells")).unwrap(), None);
+    let shown: String = found.print().lines().map(|line| format!("    {line}\n")).collect();
+    assert!(
+        readme.contains(&shown),
+        "examples/README.md is to hold what `cells ../examples/cells.flow` prints:\n{shown}"
+    );
+    // Fewer cells than names, though more than are live at once.
+    let cells = found.cells().into_iter().max().unwrap() + 1;
+    assert!(found.most < cells as u64 && cells < found.rows.len());
+}
+
 /// The masks of the interrupt key's example, without the key and with it.
 #[test]
 fn the_readme_shows_what_the_key_changes() {
@@ -78,6 +93,9 @@ const MASKS: [(&str, &[u8]); 7] = [
     ("table", &[1, 1, 4, 1, 4, 3, 4, 3, 4, 3, 4, 3]),
 ];
 
+/// How many names are live at once.
+const MOST: [(&str, u64); 3] = [("cells", 3), ("key", 1), ("names", 3)];
+
 /// A word of certain names.
 const CERTAIN: [(&str, u64); 2] = [("fallback", 0b1), ("names", 0b1001)];
 
@@ -91,7 +109,10 @@ fn answered_as_they_say() {
             assert_eq!(right.outcome.areas.masks, *masks, "{name}");
         }
         if let Some((_, word)) = CERTAIN.iter().find(|(with, _)| *with == name) {
-            assert_eq!(right.outcome.certain.word, *word, "{name}");
+            assert_eq!(right.outcome.certain.found, *word, "{name}");
+        }
+        if let Some((_, most)) = MOST.iter().find(|(with, _)| *with == name) {
+            assert_eq!(right.outcome.interference.found, *most, "{name}");
         }
         assert!(right.original_agrees(&right.outcome), "{name} by the original");
         if right.original.is_none() && !right.has_key() {

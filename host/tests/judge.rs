@@ -101,6 +101,19 @@ fn key_flows_show_their_faults() {
     }
 }
 
+/// Each flow for a rule of interference tells it from the fault there, and the original has the same names meet.
+#[test]
+fn interference_flows_show_their_faults() {
+    for (name, fault, flow) in cases::interference_flows() {
+        let found = answerer::interfering_names(&flow, None);
+        assert_ne!(answerer::interfering_names(&flow, Some(fault)), found, "{name}");
+        match sides::original_interference(&flow) {
+            Some(original) => assert_eq!(original, found, "{name} by the original"),
+            None => println!("{NO_ORIGINAL}"),
+        }
+    }
+}
+
 #[test]
 fn original_and_answerer_agree() {
     let count = 8_000;
@@ -121,6 +134,12 @@ fn original_and_answerer_agree() {
     assert!(20 * keys.opaque > keys.flows, "too few flows with an opaque handler");
     assert!(8 * keys.touches > keys.flows, "too few flows with a handler that touches arrays");
     assert!(5 * keys.other > keys.flows, "too few flows with another mask than without the key");
+    let meetings = &comparison.meetings;
+    assert!(2 * meetings.some > meetings.flows, "too few flows with names that interfere");
+    assert!(6 * meetings.by_write > meetings.flows, "too few flows with a pair by a write alone");
+    assert!(12 * meetings.unreached > meetings.flows, "too few flows with a pair where nothing reaches");
+    assert!(meetings.short > 100 && meetings.most == 64, "too few flows at the limits of interference");
+    assert!(cfg!(not(original)) || meetings.compared + meetings.compared_key == meetings.flows);
 }
 
 #[test]

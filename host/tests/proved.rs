@@ -55,15 +55,17 @@ fn random_files_by_the_proved_call() {
     no_differences(20_000, judge::compare_proved(20_000, SEED), NO_LIBRARY);
 }
 
-/// The flows of the benchmarks are at the limits of size, and so are those with many sure arrays and those
-/// with an interrupt key.
+/// The flows of the benchmarks are at the limits of size, and so are those with many sure arrays, those with an
+/// interrupt key, and those with many sets of names.
 #[test]
 fn large_flows_by_the_proved_call() {
     let flows = bench::flows().into_iter().chain([("names", bench::one_name_at_a_time())]);
-    let flows = flows.chain(bench::key_flows());
+    let flows = flows.chain(bench::key_flows()).chain(bench::growing_flows());
     let sure = worst::sure_files().map(|file| ("sure arrays", file));
     let key = worst::key_files().map(|file| ("the key", file));
-    for (name, file) in flows.map(|(name, flow)| (name, flow.bytes())).chain(sure).chain(key) {
+    let names = worst::names_files().map(|file| ("interference", file));
+    let files = flows.map(|(name, flow)| (name, flow.bytes())).chain(sure).chain(key).chain(names);
+    for (name, file) in files {
         let lent = Lent::for_file(&file, 1);
         match judge::proved_outcome(&file, lent) {
             Some(outcome) => assert!(outcome == judge::outcome(&file, lent, None), "{name}"),
@@ -102,6 +104,8 @@ fn the_wrapper_sizes_its_areas() {
         assert_eq!(door::states(&file).map(|_| ()), expected, "file {index}");
         let certain = yarnuskel_host::flow::read(&file).map(|flow| answerer::certain_names(&flow, None));
         assert_eq!(door::certain(&file), certain, "file {index}");
+        let found = yarnuskel_host::flow::read(&file).map(|flow| answerer::interfering_names(&flow, None));
+        assert_eq!(door::interference(&file), found, "file {index}");
     }
 }
 
@@ -110,26 +114,36 @@ fn the_wrapper_sizes_its_areas() {
 #[test]
 fn the_loaded_library_is_the_linked_one() {
     use yarnuskel_host::beside::{self, Build};
+    use yarnuskel_host::judge::Outcome;
     let build = Build::load(&beside::own()).unwrap();
     for stored in stored() {
         let mut areas = stored.lent.areas();
         assert_eq!(build.states(&stored.file, &mut areas), stored.outcome.answer);
         assert!(areas == stored.outcome.areas);
+        let Outcome { mut certain_work, mut rows, mut interference_work, .. } = Outcome::before(stored.lent);
+        assert_eq!(build.certain(&stored.file, &mut certain_work), Some(stored.outcome.certain));
+        let interference = build.interference(&stored.file, &mut rows, &mut interference_work);
+        assert_eq!(interference, Some(stored.outcome.interference));
+        assert!(rows == stored.outcome.rows && interference_work == stored.outcome.interference_work);
     }
     assert!(Build::load(&root().join("README.md")).is_err());
 }
 
-/// A work area one word short, exact and longer: changed by no refusal, and zero after an answer.
+/// A work area one word short, exact and longer, and rows so for each of them: changed by no refusal; after an answer
+/// the work area is zero, and behind the names the rows are as they were.
 #[test]
-fn work_areas_of_certain_names() {
-    for case in cases::certain().into_iter().chain(cases::key()) {
+fn areas_of_the_calls_for_names() {
+    let lengths = |least: usize| [0, least.saturating_sub(1), least, least + 1, 2 * least + 3];
+    for case in [cases::certain(), cases::key(), cases::interference()].concat() {
         let file = case.file();
-        let work = Lent::for_file(&file, 0).work;
-        for length in [0, work.saturating_sub(1), work, work + 1, 2 * work + 3] {
-            let lent = Lent { masks: 0, live_in: 0, live_out: 0, work: length };
-            match judge::proved_outcome(&file, lent) {
-                Some(outcome) => assert!(outcome == judge::outcome(&file, lent, None), "{}", case.name),
-                None => return println!("{NO_LIBRARY}"),
+        let least = Lent::for_file(&file, 0);
+        for work in lengths(least.work) {
+            for rows in lengths(least.rows) {
+                let lent = Lent { work, rows, ..Lent::default() };
+                match judge::proved_outcome(&file, lent) {
+                    Some(outcome) => assert!(outcome == judge::outcome(&file, lent, None), "{}", case.name),
+                    None => return println!("{NO_LIBRARY}"),
+                }
             }
         }
     }
@@ -199,6 +213,11 @@ fn example_programs() {
     }
 }
 
+fn example_flows() -> impl Iterator<Item = PathBuf> {
+    let files = std::fs::read_dir(root().join("examples")).unwrap().map(|entry| entry.unwrap().path());
+    files.filter(|path| path.extension().is_some_and(|e| e == "flow"))
+}
+
 /// What the example programs `certain` print of a file.
 fn certain_text(file: &[u8]) -> String {
     match flow::read(file).map(|flow| answerer::certain_names(&flow, None)) {
@@ -210,10 +229,32 @@ fn certain_text(file: &[u8]) -> String {
 #[test]
 fn example_programs_of_certain_names() {
     let Some(programs) = Programs::of("certain") else { return println!("{NO_LIBRARY}") };
-    let files = std::fs::read_dir(root().join("examples")).unwrap().map(|entry| entry.unwrap().path());
-    for file in files.filter(|path| path.extension().is_some_and(|e| e == "flow")) {
+    for file in example_flows() {
         programs.print(&file, &certain_text(&std::fs::read(&file).unwrap()));
     }
+}
+
+/// What the example programs `interference` print of a file.
+fn interference_text(file: &[u8]) -> String {
+    match flow::read(file).map(|flow| answerer::interfering_names(&flow, None)) {
+        Ok(found) => found.print(),
+        Err(refusal) => format!("refused {} at {}\n", refusal.number, refusal.place),
+    }
+}
+
+/// The flows under examples/, and the limits of names.
+#[test]
+fn example_programs_of_interference() {
+    let Some(programs) = Programs::of("interference") else { return println!("{NO_LIBRARY}") };
+    for file in example_flows() {
+        programs.print(&file, &interference_text(&std::fs::read(&file).unwrap()));
+    }
+    let path = std::env::temp_dir().join(format!("yarnuskel-interference-{}.flow", std::process::id()));
+    for case in cases::interference() {
+        std::fs::write(&path, case.file()).unwrap();
+        programs.print(&path, &interference_text(&case.file()));
+    }
+    std::fs::remove_file(path).unwrap();
 }
 
 fn run_with_input(program: &Path, input: &[u8]) -> String {

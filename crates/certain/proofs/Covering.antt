@@ -1,9 +1,9 @@
 -- The certain names from what all statements write and read and from their sets: what is written and not read too early is certain, and nothing else is. Where no name is both written and
 -- read, that is what is written. By induction on the statements. Assumes nothing.
 use Prim.Native.Nat.{ℕ, _+_, _-_, _^_, _<_, min}
-use mathlib.Core.Bool.{Bool, true}
+use mathlib.Core.Bool.{true}
 use mathlib.Core.List.{List}
-use mathlib.Core.Logic.{_⊎_, ⊎-elim}
+use mathlib.Core.Logic.{⊎-elim}
 use mathlib.Core.Option.{none}
 use mathlib.Core.Path.{_≡_, sym, _∙_, ap, subst}
 use native.Mathlib.Decide.{ℕ-discrete}
@@ -22,37 +22,15 @@ use Rattle.theory.proofs.Lists.{same-test}
 use Rattle.theory.proofs.Names.{namesWord-unique}
 use Rattle.theory.proofs.Certain.{unwritten-reached, unwritten-free, certain-sound, certain-complete}
 use Rattle.statements.specs.contracts.Ready.{Ready}
+use Rattle.statements.specs.contracts.Uses.{Gathered}
 use Rattle.statements.proofs.Keeps.{ready-size, ready-formed}
 use Rattle.statements.proofs.WellFormed.{names-is}
-use Rattle.statements.proofs.Names.{member-bit, bit-member, or-first, or-second, or-either, bit-below, word-below, read-word, read-name, written-name, names-word, no-name}
+use Rattle.statements.proofs.Names.{member-bit, bit-member, or-either, bit-below, word-below, read-word, read-name, written-name, names-word, no-name}
 use Rattle.certain.specs.contracts.Layout.{setAt}
 use Rattle.certain.specs.contracts.Unwritten.{Solved}
-use Rattle.certain.specs.contracts.CertainNames.{Used, Covered, Early}
+use Rattle.certain.specs.contracts.CertainNames.{Covered, Early}
 
--- What the statements write and read
-
-pub used-none : {f : Flow} → Used f 0 0 0
-used-none = record { writer = λ x e. absurd (omega (arith, bit-of-zero x)); all-written = λ x k l. absurd (omega arith); all-read = λ x k l. absurd (omega arith) }
-
--- a member of a word that grew by the word of statement i
-more : (i word w : ℕ) (uses : ℕ → ℕ → Bool) → ((x : ℕ) → uses i x ≡ true → bit w x ≡ 1) → ((x k : ℕ) → k < i → uses k x ≡ true → bit word x ≡ 1)
-    → (x k : ℕ) → k < i + 1 → uses k x ≡ true → bit (bitOr word w) x ≡ 1
-more i word w uses here before x k l e = go (ℕ-discrete k i)
-  where
-    go : Dec (k ≡ i) → bit (bitOr word w) x ≡ 1
-    go (yes d) = or-second word w x (here x (subst (λ z. uses z x ≡ true) d e))
-    go (no d) = or-first word w x (before x k (omega (arith, d)) e)
-
-pub used-more : {f : Flow} {i written read w r : ℕ} → Used f i written read → statement f i .written ≡ w → statement f i .read ≡ r → Used f (i + 1) (bitOr written w) (bitOr read r)
-used-more {f} {i} {written} {read} {w} {r} u p q = record {
-  writer = λ x e.
-      ⊎-elim (λ d. let t = u .writer x d in (t .0, omega (arith, t .1), t .2)) (λ d. (i, omega arith, bit-member (statement f i .written) x (subst (λ z. bit z x ≡ 1) (sym p) d)))
-      (or-either written w x e);
-  all-written = more i written w (writes f) (λ x e. subst (λ z. bit z x ≡ 1) p (member-bit (statement f i .written) x e)) (u .all-written);
-  all-read = more i read r (reads f) (λ x e. subst (λ z. bit z x ≡ 1) q (member-bit (statement f i .read) x e)) (u .all-read);
-}
-
--- What they read too early
+-- What the statements read too early
 
 pub early-none : {f : Flow} → Early f 0 0
 early-none = record { reader = λ x e. absurd (omega (arith, bit-of-zero x)); others = λ x k l. absurd (omega arith) }
@@ -119,12 +97,12 @@ module _ {s ws : List ℕ} {n : ℕ} (r : Ready s ws n) where
       (λ x l. same-test (member w x) (certain (flowOf s) x) (λ e. certain-complete (ready-formed r) (sound x (member-bit w x e)))
       (λ e. bit-member w x (all x (certain-sound (ready-formed r) x e))))
 
-  module _ (unkeyed : flowOf s .handler ≡ none) {written read : ℕ} (u : Used (flowOf s) n written read) where
+  module _ (unkeyed : flowOf s .handler ≡ none) {written read : ℕ} (u : Gathered (flowOf s) n written read) where
     writer : (x : ℕ) → bit written x ≡ 1 → (i : ℕ) × (i < size (flowOf s)) × (writes (flowOf s) i x ≡ true)
-    writer x e = let t = u .writer x e in (t .0, omega (arith, t .1, ready-size r), t .2)
+    writer x e = let t = u .written .user x e in (t .0, omega (arith, t .1, ready-size r), t .2)
 
     has-writer : (x : ℕ) → Certain (flowOf s) x → bit written x ≡ 1
-    has-writer x t = u .all-written x (t .writer .0) (omega (arith, t .writer .1, ready-size r)) (t .writer .2)
+    has-writer x t = u .written .all x (t .writer .0) (omega (arith, t .writer .1, ready-size r)) (t .writer .2)
 
     -- no name is both written and read
     pub apart : bitAnd written read ≡ 0 → written ≡ certainWord (flowOf s)
@@ -132,7 +110,7 @@ module _ {s ws : List ℕ} {n : ℕ} (r : Ready s ws n) where
       where
         clash : (x : ℕ) → bit written x ≡ 1 → (k : ℕ) → k < size (flowOf s) → reads (flowOf s) k x ≡ true → ⊥
         clash x e k l d =
-            let one = u .all-read x k (omega (arith, ready-size r)) d in
+            let one = u .read .all x k (omega (arith, ready-size r)) d in
             let zero : bit (bitAnd written read) x ≡ 0 = ap (λ z. bit z x) disjoint ∙ bit-of-zero x in
             omega (arith, bit-and written read x)
 
@@ -141,7 +119,7 @@ module _ {s ws : List ℕ} {n : ℕ} (r : Ready s ws n) where
       where
         bits : (x : ℕ) → bit (without written early) x ≡ min (bit written x) (1 - bit early x)
         bits x =
-            bit-without written early x (word-below written 64 (λ x e. let t = u .writer x e in names-word r (written-name r (t .0) x (t .2))))
+            bit-without written early x (word-below written 64 (λ x e. let t = u .written .user x e in names-word r (written-name r (t .0) x (t .2))))
             (word-below early 64 (λ x e. let t = c .reader x e in names-word r (read-name r (t .0) x (t .2))))
 
         sound : (x : ℕ) → bit (without written early) x ≡ 1 → Certain (flowOf s) x

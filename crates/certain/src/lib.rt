@@ -10,10 +10,11 @@ ghost use Rattle.theory.specs.Certain.{certainWord};
 ghost use Rattle.statements.specs.contracts.Ready.{Ready};
 ghost use Rattle.certain.specs.contracts.Layout as at;
 ghost use Rattle.certain.specs.contracts.Unwritten.{Pushed, PushedAll, Visited, Begun, Solved};
-ghost use Rattle.certain.specs.contracts.CertainNames.{CertainStart, Used, Early};
+ghost use Rattle.certain.specs.contracts.CertainNames.{CertainStart, Early};
 use flow::StmtId;
 use statements::fields;
 use statements::layout;
+use statements::uses;
 
 // Every name.
 const ALL: u64 = 0xffff_ffff_ffff_ffff;
@@ -95,28 +96,6 @@ fn solve(file: &[u8], work: &mut [u64], n: usize, entry: StmtId)
     }
 }
 
-// The names that some statement writes, and those that some statement reads.
-struct Uses {
-    written: u64,
-    read: u64,
-}
-
-fn gather_uses(file: &[u8], work: &[u64], n: usize) -> Uses
-    requires { ⌜ Ready (now file) (now work) n ⌝ }
-    ensures { λ r. ⌜ Used (flowOf (now (file .entry))) n (r .written) (r .read) ⌝ }
-{
-    let mut written: u64 = 0;
-    let mut read: u64 = 0;
-    let mut i = 0;
-    while i < n {
-        let p = fields::offset(file, work, n, StmtId(i));
-        written = written | records::written(file, p);
-        read = read | records::read(file, p);
-        i += 1;
-    }
-    Uses { written, read }
-}
-
 // The names that some statement reads where a walk may come without a write, or no walk comes.
 fn early(file: &[u8], work: &[u64], n: usize) -> u64
     requires { ⌜ Ready (now file) (now work) n × Solved (flowOf (now file)) (now work) (now work) n ⌝ }
@@ -139,7 +118,7 @@ pub fn certain_names(file: &[u8], work: &mut [u64], n: usize, entry: StmtId) -> 
     requires { ⌜ CertainStart (now file) (now work) n (entry .0) ⌝ }
     ensures { λ r. ⌜ r ≡ certainWord (flowOf (now (file .entry))) ⌝ }
 {
-    let all = gather_uses(file, work, n);
+    let all = uses::gather_uses(file, work, n);
     let written = all.written;
     let read = all.read;
     if (written & read) == 0 {

@@ -83,7 +83,7 @@ module _ (s : List ℕ) {h : Header} (e : h ≡ headerOf s) where
   unfolding flowOf
   no-handler q = told-none (handlerOf s) (sym (ap (λ (x : Header). x .handler) e) ∙ q)
 
-  has-handler : (k : StmtId) → h .handler ≡ H.the-variants.At k → flowOf s .handler ≡ some (k .0)
+  pub has-handler : (k : StmtId) → h .handler ≡ H.the-variants.At k → flowOf s .handler ≡ some (k .0)
   unfolding flowOf
   has-handler k q = told-at (handlerOf s) k (sym (ap (λ (x : Header). x .handler) e) ∙ q)
 

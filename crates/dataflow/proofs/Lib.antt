@@ -21,3 +21,4 @@ pub mod Promised
 pub mod Told
 pub mod Judging
 pub mod JudgingWork
+pub mod JudgingRows

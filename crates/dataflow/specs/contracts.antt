@@ -4,3 +4,4 @@ pub mod Sent
 pub mod Solving
 pub mod Phases
 pub mod Bytes
+pub mod Conflicts

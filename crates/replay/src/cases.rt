@@ -2,6 +2,7 @@
 ghost use Prim.Native.Nat.{_≤_};
 ghost use lib.ListN.{length};
 use crate::answers;
+use crate::conflicts;
 use crate::data;
 use crate::names;
 
@@ -23,6 +24,27 @@ fn told(case: u64, same: bool) -> u64
     1
 }
 
+// Whether every call answers the case as it must.
+fn answered(
+    s: &[u8],
+    file: &[u8],
+    case: data::Case,
+    sizes: data::Sizes,
+    places: data::Places,
+    masks: &mut [u8],
+    live_in: &mut [u64],
+    live_out: &mut [u64],
+    rows: &mut [u64],
+    work: &mut [u64],
+) -> bool
+    requires { ⌜ (case .answers ≤ length (now s)) × (case .size ≤ length (now file)) × (places .names ≤ length (now s)) × (places .conflicts ≤ length (now s)) ⌝ }
+{
+    let states = answers::lend(s, file, case, sizes, masks, live_in, live_out, work);
+    let certain = names::lend(s, places.names, file, case, work);
+    let interference = conflicts::lend(s, places.conflicts, file, case, sizes, rows, work);
+    states & certain & interference
+}
+
 // How a case was answered, and where the next one stands.
 struct Replayed {
     next: usize,
@@ -37,6 +59,7 @@ fn replay_case(
     masks: &mut [u8],
     live_in: &mut [u64],
     live_out: &mut [u64],
+    rows: &mut [u64],
     work: &mut [u64],
 ) -> Replayed
     requires { ⌜ at ≤ length (now s) ⌝ }
@@ -44,12 +67,22 @@ fn replay_case(
 {
     let case = data::read_case(s, at, file);
     let sizes = data::answer_sizes(file);
-    let at = data::end(s, case, sizes);
-    let states = answers::lend(s, file, case, sizes, masks, live_in, live_out, work);
-    let certain = names::lend(s, at, file, case, work);
+    let places = data::find_places(s, case, sizes);
+    let same = answered(
+        s,
+        file,
+        case,
+        sizes,
+        places,
+        masks,
+        live_in,
+        live_out,
+        rows,
+        work,
+    );
     Replayed {
-        next: data::after_names(s, at),
-        different: told(number, states & certain),
+        next: places.next,
+        different: told(number, same),
     }
 }
 
@@ -59,6 +92,7 @@ pub fn replay(
     masks: &mut [u8],
     live_in: &mut [u64],
     live_out: &mut [u64],
+    rows: &mut [u64],
     work: &mut [u64],
 ) -> Counts {
     let mut p = 0;
@@ -69,7 +103,7 @@ pub fn replay(
         if data::byte(s, p) != 1 {
             break;
         }
-        let replayed = replay_case(s, p + 1, cases, file, masks, live_in, live_out, work);
+        let replayed = replay_case(s, p + 1, cases, file, masks, live_in, live_out, rows, work);
         p = replayed.next;
         different += replayed.different;
         cases += 1;

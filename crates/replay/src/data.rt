@@ -24,11 +24,19 @@ pub struct Blocks {
     pub size: usize,
 }
 
-// How much the answer to an accepted file takes: the words of a live area, and the stored bytes of the masks and of a live area.
+// How much the answer to an accepted file takes: the words of a live area, the stored bytes of the masks and of a live area, and the words of the names.
 pub struct Sizes {
     pub statements: usize,
     pub masks: usize,
     pub live: usize,
+    pub names: usize,
+}
+
+// Where the answers after the first stand, and where the next case does.
+pub struct Places {
+    pub names: usize,
+    pub conflicts: usize,
+    pub next: usize,
 }
 
 pub fn least(a: usize, b: usize) -> usize
@@ -141,18 +149,19 @@ fn mask_bytes(n: u64, arrays: u64) -> usize
 }
 
 pub fn answer_sizes(file: &[u8]) -> Sizes
-    ensures { λ r. ⌜ (r .masks ≤ 16711425) × (r .live ≤ 524280) ⌝ }
+    ensures { λ r. ⌜ (r .masks ≤ 16711425) × (r .live ≤ 524280) × (r .names ≤ 255) ⌝ }
 {
     let n = byte(file, 2) + 256 * byte(file, 3);
     Sizes {
         statements: n as usize,
         masks: mask_bytes(n, byte(file, 4)),
         live: 8 * n as usize,
+        names: byte(file, 5) as usize,
     }
 }
 
 // The place after the first answer of a case. An accepted one has visits, masks, live-in and live-out words too.
-pub fn end(s: &[u8], case: Case, sizes: Sizes) -> usize
+fn end(s: &[u8], case: Case, sizes: Sizes) -> usize
     requires { ⌜ (case .answers ≤ length (now s)) × (sizes .masks ≤ 16711425) × (sizes .live ≤ 524280) ⌝ }
     ensures { λ r. ⌜ (case .answers ≤ r) × (r ≤ length (now (s .entry))) ⌝ }
 {
@@ -163,9 +172,33 @@ pub fn end(s: &[u8], case: Case, sizes: Sizes) -> usize
 }
 
 // The place after the answer about certain names at `at`, which every case has: 13 bytes.
-pub fn after_names(s: &[u8], at: usize) -> usize
+fn after_names(s: &[u8], at: usize) -> usize
     requires { ⌜ at ≤ length (now s) ⌝ }
     ensures { λ r. ⌜ (at ≤ r) × (r ≤ length (now (s .entry))) ⌝ }
 {
     skip(s, at, 13)
+}
+
+// The place after the answer about names that interfere at `at`, which every case has: the length of the rows and 13 bytes. An accepted one has a word a name too.
+fn after_conflicts(s: &[u8], at: usize, sizes: Sizes) -> usize
+    requires { ⌜ (at ≤ length (now s)) × (sizes .names ≤ 255) ⌝ }
+    ensures { λ r. ⌜ (at ≤ r) × (r ≤ length (now (s .entry))) ⌝ }
+{
+    if number(s, skip(s, at, 4), 1) != 0 {
+        return skip(s, at, 17);
+    }
+    skip(s, at, 17 + 8 * sizes.names)
+}
+
+pub fn find_places(s: &[u8], case: Case, sizes: Sizes) -> Places
+    requires { ⌜ (case .answers ≤ length (now s)) × (sizes .masks ≤ 16711425) × (sizes .live ≤ 524280) × (sizes .names ≤ 255) ⌝ }
+    ensures { λ r. ⌜ (r .names ≤ length (now (s .entry))) × (r .conflicts ≤ length (now (s .entry))) × (case .answers ≤ r .next) × (r .next ≤ length (now (s .entry))) ⌝ }
+{
+    let names = end(s, case, sizes);
+    let conflicts = after_names(s, names);
+    Places {
+        names,
+        conflicts,
+        next: after_conflicts(s, conflicts, sizes),
+    }
 }

@@ -3,6 +3,7 @@
 mod answers;
 mod areas;
 mod cases;
+mod conflicts;
 mod data;
 mod names;
 
@@ -13,6 +14,7 @@ fn main() {
     let mut masks = [0u8; 131200];
     let mut live_in = [0u64; 2100];
     let mut live_out = [0u64; 2100];
+    let mut rows = [0u64; 200];
     let mut work = [0u64; 131200];
     let counts = cases::replay(
         &stored[..size],
@@ -20,6 +22,7 @@ fn main() {
         &mut masks,
         &mut live_in,
         &mut live_out,
+        &mut rows,
         &mut work,
     );
     io::print_decimal(1, counts.cases);

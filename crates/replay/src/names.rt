@@ -10,7 +10,7 @@ use crate::data::number;
 use crate::data::skip;
 
 // The answer that stands at `at`: its number in 1 byte, its place in 4 and its word in 8.
-fn told(s: &[u8], at: usize, refusal: u64, place: u64, word: u64) -> bool
+pub fn told(s: &[u8], at: usize, refusal: u64, place: u64, word: u64) -> bool
     requires { ⌜ at ≤ length (now s) ⌝ }
 {
     if refusal != number(s, at, 1) {

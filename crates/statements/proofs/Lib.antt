@@ -8,3 +8,4 @@ pub mod Members
 pub mod Copies
 pub mod Noted
 pub mod Told
+pub mod UsedNames

@@ -3,3 +3,4 @@
 pub mod doubled;
 pub mod fields;
 pub mod layout;
+pub mod uses;

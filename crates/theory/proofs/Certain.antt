@@ -5,9 +5,7 @@ use mathlib.Core.Bool.{Bool, true, false, not, _&&_, _||_, and-false}
 use mathlib.Core.Logic.{_⊎_, inl, inr, ⊎-elim}
 use mathlib.Core.Option.{Option, none, some}
 use mathlib.Core.Path.{_≡_, refl, sym, _∙_, ap}
-use native.Mathlib.Nat.{zero-div}
 use native.Mathlib.Omega.{arith}
-use lib.Pow.{pow-pos}
 use borrow.Author.Tests.{not-true}
 use Rattle.flow.specs.Flow.{Flow, size}
 use Rattle.theory.specs.Lists.{any, upTo, allBelow}
@@ -21,7 +19,7 @@ use Rattle.theory.proofs.Lists.{clash, not-so, or-cases, and-both, and-
 use Rattle.theory.proofs.Below.{allBelow-at, allBelow-all}
 use Rattle.theory.proofs.Reach.{reached-sound, reached-complete}
 use Rattle.theory.proofs.Live.{In-unwritten, unwritten-In, unwritten-below}
-use Rattle.theory.proofs.Names.{namesWord-member, namesWord-lt, namesWord-unique}
+use Rattle.theory.proofs.Names.{namesWord-member, namesWord-lt, namesWord-empty}
 
 -- Walks
 
@@ -157,23 +155,15 @@ certainWord-sound {f} w x l h = certain-sound w x (sym (certainWord-member f x l
 pub certainWord-complete : {f : Flow} → WellFormed f → {x : ℕ} → x < f .names → Certain f x → member (certainWord f) x ≡ true
 certainWord-complete {f} w {x} l c = certainWord-member f x l ∙ certain-complete w c
 
--- a word with no names
-word-empty : (f : Flow) → ((x : ℕ) → certain f x ≡ false) → certainWord f ≡ 0
-unfolding certainWord
-word-empty f h = sym (namesWord-unique f (certain f) 0 (pow-pos (f .names)) (λ x l. absent x ∙ sym (h x)))
-  where
-    absent : (x : ℕ) → member 0 x ≡ false
-    absent x = simp zero-div
-
 -- with no statements no name is written
 pub certainWord-none : (f : Flow) → size f ≡ 0 → certainWord f ≡ 0
-unfolding certain any upTo
-certainWord-none f e = word-empty f (λ x. rw e (and-false (byHandler (f .handler) true (λ h. false))))
+unfolding certain certainWord any upTo
+certainWord-none f e = namesWord-empty f (certain f) (λ x. rw e (and-false (byHandler (f .handler) true (λ h. false))))
 
 -- with a handler no name is certain
 pub certainWord-handler : (f : Flow) {h : ℕ} → f .handler ≡ some h → certainWord f ≡ 0
-unfolding certain
-certainWord-handler f {h} e = word-empty f (λ x. fails (f .handler) _ e)
+unfolding certain certainWord
+certainWord-handler f {h} e = namesWord-empty f (certain f) (λ x. fails (f .handler) _ e)
   where
     fails : (o : Option ℕ) (b : Bool) → o ≡ some h → (byHandler o true (λ h. false) && b) ≡ false
     fails o b e = rw e refl

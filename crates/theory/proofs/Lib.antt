@@ -8,6 +8,7 @@ pub mod Sure
 pub mod Live
 pub mod Names
 pub mod Certain
+pub mod Interference
 pub mod Cases
 pub mod MaskLaws
 pub mod Pulls

@@ -3,7 +3,7 @@
 use Prim.Native.Nat.{ℕ, zero, suc, _+_, _*_, _-_, _/_, _%_, _^_, _<_}
 use mathlib.Core.Bool.{Bool, true, false}
 use mathlib.Core.Path.{_≡_, refl, sym, _∙_, ap, subst}
-use native.Mathlib.Nat.{two-pow-succ, pow-succ', add-mul-div-right, div-eq-of-lt, div-lt-iff-lt-mul, add-mul-mod-self-right, mod-lt, mod-add-div', mul-assoc, zero-add}
+use native.Mathlib.Nat.{two-pow-succ, pow-succ', add-mul-div-right, div-eq-of-lt, div-lt-iff-lt-mul, add-mul-mod-self-right, mod-lt, mod-add-div', mul-assoc, zero-add, zero-div}
 use native.Mathlib.Omega.{arith}
 use lib.Dec.{eqb}
 use lib.Pow.{pow-pos, pow-add}
@@ -92,6 +92,13 @@ module _ (f : Flow) (p : ℕ → Bool) where
   pub namesWord-unique : (w : ℕ) → w < 2 ^ (f .names) → ((x : ℕ) → x < f .names → member w x ≡ p x) → w ≡ namesWord f p
   unfolding namesWord wordBelow
   namesWord-unique = word-unique (f .names) p
+
+-- a word without names
+pub namesWord-empty : (f : Flow) (p : ℕ → Bool) → ((x : ℕ) → p x ≡ false) → namesWord f p ≡ 0
+namesWord-empty f p h = sym (namesWord-unique f p 0 (pow-pos (f .names)) (λ x l. absent x ∙ sym (h x)))
+  where
+    absent : (x : ℕ) → member 0 x ≡ false
+    absent x = simp zero-div
 
 pub liveInWord-member : (f : Flow) (i x : ℕ) → x < f .names → member (liveInWord f i) x ≡ liveIn f x i
 unfolding liveInWord

@@ -1,7 +1,7 @@
 -- Document 01, "Flows worked through", as one table: P1 to P10 and the line "Also", then a file for each point of "Where a port goes astray" and for each rule, those of
--- requests E1 to E3 too, that a wrong definition would fail. A case is a step, or a file as bytes with the verdict on it and what is known of it: masks, visits, term 1's bound,
--- live sets, listing, certain names, sure arrays.
-use Prim.Native.Nat.{ℕ, _-_, _*_, _/_, _^_}
+-- requests E1 to E3 and E5 too, that a wrong definition would fail. A case is a step, or a file as bytes with the verdict on it and what is known of it: masks, visits, term 1's bound,
+-- live sets, listing, certain names, sure arrays, names that interfere.
+use Prim.Native.Nat.{ℕ, _+_, _-_, _*_, _/_, _^_}
 use Prim.Native.Char.{code}
 use Prim.Native.String.{String, [] as []ˢ, _∷_ as _∷ˢ_}
 use mathlib.Core.Bool.{Bool, true, false, _&&_}
@@ -23,6 +23,7 @@ use Rattle.theory.specs.Doubled.{doubled}
 use Rattle.theory.specs.Computed.{maskOf, visitsOf}
 use Rattle.theory.specs.Live.{bitOf, liveInWord, liveOutWord}
 use Rattle.theory.specs.Certain.{certainWord}
+use Rattle.theory.specs.Interference.{interferenceWord, mostLive}
 use Rattle.theory.specs.Listing.{listing, longText}
 
 -- what is known of a file
@@ -40,6 +41,12 @@ pub data Fact : Type 0 where
   certain : ℕ → Fact
   -- request E1's one area, of this length: refused by this number, or 0
   work : ℕ → ℕ → Fact
+  -- name by name, the word of those that it interferes with
+  interference : List ℕ → Fact
+  -- how many names are live at once
+  at-once : ℕ → Fact
+  -- request E5's areas, for rows and work of these lengths: refused by this number, or 0
+  rows : ℕ → ℕ → ℕ → Fact
 
 pub data Case : Type 0 where
   -- an effect on a mask, and what it gives
@@ -451,6 +458,24 @@ callingHandler body =
     ++ FL 50 4
     ++ FE
 
+-- Request E5
+
+-- name 0 is read at 1; 0 writes name 1, which nothing reads
+abbrev pub deadStore : List ℕ
+deadStore = FH 2 0 2 0 ++ uses 10 (1 ∷ []) 2 0 ++ uses 20 [] 0 1 ++ FE
+
+-- name 0 is read for the last time where name 1 is written, and name 1 where name 2 is, which nothing uses with them
+abbrev pub handedOver : List ℕ
+handedOver = FH 4 0 4 0 ++ uses 10 (1 ∷ []) 1 0 ++ uses 20 (2 ∷ []) 2 1 ++ uses 30 (3 ∷ []) 4 2 ++ uses 40 [] 0 4 ++ FE
+
+-- nothing reaches statement 1, which reads names 0 and 1, nor 2, which writes names 1 and 2
+abbrev pub unreachedPairs : List ℕ
+unreachedPairs = FH 3 0 3 0 ++ uses 10 [] 0 1 ++ uses 20 [] 0 3 ++ uses 30 [] 6 0 ++ FE
+
+-- three names are live in the loop, and two at its start
+abbrev pub nameLoop : List ℕ
+nameLoop = FH 4 0 4 0 ++ uses 10 (1 ∷ []) 1 0 ++ uses 20 (2 ∷ 3 ∷ []) 6 1 ++ uses 30 (1 ∷ []) 0 6 ++ uses 40 [] 8 2 ++ FE
+
 abbrev pub cases : List Case
 cases =
     -- P1 to P4
@@ -570,6 +595,24 @@ cases =
     -- a handler that is no statement
     ∷ refused (withKey 4 p5) 5 134 (prints ("R 5 134" ∷ []) ∷ [])
     ∷ refused (withKey 0 p10) 5 8 []
+    -- request E5: no pair in P5, whose one name is read
+    ∷ accepted p5 (interference (0 ∷ []) ∷ at-once 1 ∷ rows 1 256 0 ∷ rows 0 256 10 ∷ rows 1 255 10 ∷ rows 2 257 0 ∷ [])
+    ∷ accepted p10 (interference [] ∷ at-once 0 ∷ rows 0 0 0 ∷ [])
+    ∷ accepted twoNames (interference (2 ∷ 1 ∷ []) ∷ at-once 2 ∷ [])
+    -- a pair by a write alone, by two writes of one statement, at a start alone, and none where one name's last use is another's first
+    ∷ accepted deadStore (live-in (1 ∷ 1 ∷ []) ∷ live-out (1 ∷ 0 ∷ []) ∷ interference (2 ∷ 1 ∷ []) ∷ at-once 1 ∷ [])
+    ∷ accepted (FH 1 0 2 0 ++ uses 10 [] 3 0 ++ FE) (interference (2 ∷ 1 ∷ []) ∷ at-once 0 ∷ [])
+    ∷ accepted (FH 1 0 2 0 ++ uses 10 [] 0 3 ++ FE) (interference (2 ∷ 1 ∷ []) ∷ at-once 2 ∷ [])
+    ∷ accepted handedOver (interference (0 ∷ 0 ∷ 0 ∷ 0 ∷ []) ∷ at-once 1 ∷ [])
+    ∷ accepted unreachedPairs (interference (2 ∷ 5 ∷ 2 ∷ []) ∷ at-once 2 ∷ [])
+    ∷ accepted nameLoop (live-in (0 ∷ 1 ∷ 7 ∷ 2 ∷ []) ∷ live-out (1 ∷ 7 ∷ 1 ∷ 0 ∷ []) ∷ interference (6 ∷ 5 ∷ 3 ∷ 0 ∷ []) ∷ at-once 3 ∷ [])
+    -- with a handler all names that are used, and no others; the live sets take no notice of it
+    ∷ accepted (withKey 3 handedOver) (interference (6 ∷ 5 ∷ 3 ∷ 0 ∷ []) ∷ at-once 1 ∷ [])
+    ∷ accepted (withKey 0 (FH 2 0 3 0 ++ uses 10 [] 1 0 ++ uses 20 [] 4 0 ++ FE)) (interference (4 ∷ 0 ∷ 1 ∷ []) ∷ at-once 0 ∷ [])
+    ∷ accepted (withKey 0 (FH 2 0 2 0 ++ uses 10 [] 0 1 ++ uses 20 [] 0 2 ++ FE)) (interference (2 ∷ 1 ∷ []) ∷ at-once 1 ∷ [])
+    -- n 0 with 64 names; the first and the last of 64
+    ∷ accepted (FH 0 0 64 0 ++ FE) (interference (replicate 64 0) ∷ at-once 0 ∷ rows 64 0 0 ∷ rows 63 0 10 ∷ [])
+    ∷ accepted (FH 1 0 64 0 ++ uses 10 [] 0 (2 ^ 63 + 1) ++ FE) (interference (2 ^ 63 ∷ replicate 62 0 ++ (1 ∷ [])) ∷ at-once 2 ∷ [])
     ∷ []
 
 -- Whether a case is right
@@ -605,6 +648,9 @@ factHolds v f (prints ls) = sameList (listing v f) (concatMap bytes ls)
 factHolds v f (areas m i o w k) = eqb (verdictNumber (verdict (areaChecks (size f) (f .arrays) m i o w))) k
 factHolds v f (certain w) = eqb (certainWord f) w
 factHolds v f (work w k) = eqb (verdictNumber (verdict (areaCheck (workWords (size f)) w ∷ []))) k
+factHolds v f (interference ws) = sameList (map (interferenceWord f) (upTo (f .names))) ws
+factHolds v f (at-once k) = eqb (mostLive f) k
+factHolds v f (rows r w k) = eqb (verdictNumber (verdict (areaCheck (workWords (size f)) w ∷ areaCheck (f .names) r ∷ []))) k
 
 abbrev pub factsHold : Verdict → Flow → List Fact → Bool
 factsHold v f [] = true

@@ -10,6 +10,7 @@ pub mod Masks
 pub mod Computed
 pub mod Live
 pub mod Certain
+pub mod Interference
 pub mod Runs
 pub mod Listing
 pub mod Cases

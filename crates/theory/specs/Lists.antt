@@ -1,6 +1,6 @@
 -- Small functions on lists and on numbers below a bound that the other definitions are written with. Membership in a list is
 -- `List·Memᴰ`, here called `In`; `elem` is its test.
-use Prim.Native.Nat.{ℕ, zero, suc, _+_}
+use Prim.Native.Nat.{ℕ, zero, suc, _+_, max}
 use mathlib.Core.Bool.{Bool, true, false, cond, not, _&&_, _||_}
 use mathlib.Core.List.{List, [], _∷_, _++_, List·Memᴰ}
 use mathlib.Core.Option.{Option, none, some}
@@ -46,6 +46,11 @@ upTo (suc k) = upTo k ++ (k ∷ [])
 unfoldable pub sumBelow : ℕ → (ℕ → ℕ) → ℕ
 sumBelow zero f = 0
 sumBelow (suc k) f = sumBelow k f + f k
+
+-- the largest of f 0, f 1, .. of k numbers, 0 of none
+unfoldable pub maxBelow : ℕ → (ℕ → ℕ) → ℕ
+maxBelow zero f = 0
+maxBelow (suc k) f = max (maxBelow k f) (f k)
 
 -- the test passes at every number below k
 unfoldable pub allBelow : ℕ → (ℕ → Bool) → Bool

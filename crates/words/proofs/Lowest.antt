@@ -21,7 +21,7 @@ module _ (w : ℕ) (h : w < 2 ^ 64) (some : 0 < w) where
   off : (k : ℕ) → bit (without w (2 ^ trailingZeros 64 w)) k ≡ min (bit w k) (1 - bit (2 ^ trailingZeros 64 w) k)
   off k = bit-without w (2 ^ trailingZeros 64 w) k h (pow-lt {j = 64} lowest-lt)
 
-  lowest-off : bit (without w (2 ^ trailingZeros 64 w)) (trailingZeros 64 w) ≡ 0
+  pub lowest-off : bit (without w (2 ^ trailingZeros 64 w)) (trailingZeros 64 w) ≡ 0
   lowest-off = omega (arith, off (trailingZeros 64 w), bit-pow-same (trailingZeros 64 w))
 
   pub lowest-other : (k : ℕ) → k ≢ trailingZeros 64 w → bit (without w (2 ^ trailingZeros 64 w)) k ≡ bit w k

@@ -7,8 +7,9 @@ use Rattle.dataflow.specs.declared.Answer.{Answer}
 use Rattle.dataflow.specs.declared.Answer.the-variants.{Accepted, Refused}
 use Rattle.dataflow.specs.Promise.{Promise}
 use Rattle.dataflow.specs.Certain.{CertainPromise}
+use Rattle.dataflow.specs.Interference.{InterferencePromise}
 
--- the paper's number and place for each answer, and what an accepted call found: the count of visits, or the word of certain names
+-- the paper's number and place for each answer, and what an accepted call found: the count of visits, the word of certain names, or how many names are live at once
 abbrev pub numberOfAnswer : Answer → ℕ
 numberOfAnswer (Accepted v) = 0
 numberOfAnswer (Refused r) = numberOf r
@@ -36,3 +37,11 @@ pub record CertainDoor (s work work′ : List ℕ) (place certain r : ℕ) : Typ
   pub place-is : place ≡ placeOfAnswer answer
   pub certain-is : certain ≡ foundOfAnswer answer
   pub promise : CertainPromise s work work′ answer
+
+-- the door of the names that get in each other's way
+pub record InterferenceDoor (s rows rows′ work work′ : List ℕ) (place most r : ℕ) : Type 0 where
+  pub answer : Answer
+  pub number : r ≡ numberOfAnswer answer
+  pub place-is : place ≡ placeOfAnswer answer
+  pub most-is : most ≡ foundOfAnswer answer
+  pub promise : InterferencePromise s rows rows′ work work′ answer

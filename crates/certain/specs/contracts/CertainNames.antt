@@ -1,4 +1,4 @@
--- What the certain names are found from: the names that are written, those that are read, and those that are read too early.
+-- What the certain names are found from: the names that are read too early.
 use Prim.Native.Nat.{ℕ, _<_}
 use mathlib.Core.Bool.{true}
 use mathlib.Core.List.{List}
@@ -7,7 +7,7 @@ use mathlib.Core.Path.{_≡_}
 use Rattle.words.specs.contracts.Row.{bit}
 use Rattle.flow.specs.Flow.{Flow}
 use Rattle.flow.specs.Format.{flowOf}
-use Rattle.theory.specs.Live.{reads, writes}
+use Rattle.theory.specs.Live.{reads}
 use Rattle.theory.specs.Certain.{Reached, Unwritten}
 use Rattle.statements.specs.contracts.Ready.{Ready}
 
@@ -16,12 +16,6 @@ pub record CertainStart (s ws : List ℕ) (n entry : ℕ) : Type 0 where
   pub no-handler : flowOf s .handler ≡ none
   pub entry-is : entry ≡ flowOf s .entry
   pub small : entry < n
-
--- the words of the names that the first n statements write, and of those that they read
-pub record Used (f : Flow) (n written read : ℕ) : Type 0 where
-  pub writer : (x : ℕ) → bit written x ≡ 1 → (k : ℕ) × (k < n) × (writes f k x ≡ true)
-  pub all-written : (x k : ℕ) → k < n → writes f k x ≡ true → bit written x ≡ 1
-  pub all-read : (x k : ℕ) → k < n → reads f k x ≡ true → bit read x ≡ 1
 
 -- a walk comes to statement i, and each of them has a write of x earlier
 abbrev pub Covered : Flow → ℕ → ℕ → Type 0

@@ -1,0 +1,4 @@
+pub mod LowestFirst
+pub mod Paired
+pub mod Counted
+pub mod Interfering
