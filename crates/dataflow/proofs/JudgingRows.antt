@@ -4,13 +4,12 @@ use Prim.Native.Nat.{ℕ, _^_, _<_, _≤_}
 use mathlib.Core.Bool.{Bool, true, false, cond, _&&_}
 use mathlib.Core.List.{List}
 use mathlib.Core.Path.{_≡_, refl, ap, sym, _∙_, subst}
-use native.Mathlib.Nat.{zero-add}
 use native.Mathlib.Omega.{arith}
 use lib.Count.{ones}
 use lib.Dec.{leb}
 use lib.ListN.{length, getD, replicate}
 use Rattle.words.specs.contracts.Change.{noted, zeroed}
-use Rattle.words.proofs.Zeroed.{zeroed-word}
+use Rattle.words.proofs.Zeroed.{zeroed-first}
 use Rattle.flow.specs.declared.Refusal.{Refusal}
 use Rattle.flow.specs.declared.Refusal.the-variants.{Areas}
 use Rattle.flow.specs.declared.Header.{Header}
@@ -26,19 +25,17 @@ use Rattle.records.specs.contracts.Fields.{notedWord}
 use Rattle.records.proofs.Statements.{size-is}
 use Rattle.theory.specs.Lists.{maxBelow}
 use Rattle.theory.specs.Live.{member}
-use Rattle.theory.specs.Interference.{interferenceWord, liveCount, mostLive}
+use Rattle.theory.specs.Interference.{liveCount, mostLive}
 use Rattle.theory.specs.contracts.WellFormed.{WellFormed}
 use Rattle.theory.proofs.Interference.{interferenceWord-lt, interferenceWord-sound, interferenceWord-complete, interferenceWord-sym, interferenceWord-itself, interferenceWord-none, mostLive-largest, mostLive-attained, mostLive-none}
-use Rattle.statements.specs.contracts.Layout.{matrixAt}
-use Rattle.statements.specs.contracts.Ready.{Ready, Keeps}
+use Rattle.statements.specs.contracts.Ready.{Ready}
 use Rattle.statements.proofs.Keeps.{ready-size, ready-keeps, keeps-zeroed}
 use Rattle.statements.proofs.Noted.{ready-noted}
 use Rattle.statements.proofs.WellFormed.{names-is, well-formed}
 use Rattle.live.specs.contracts.LiveNames.{LiveNames}
-use Rattle.interference.specs.contracts.Rows.{WordsOf, RowsStart, LiveSets, Rows}
+use Rattle.interference.specs.contracts.Rows.{RowsStart, LiveSets, Rows}
 use Rattle.interference.proofs.Counted.{most-is}
 use Rattle.dataflow.specs.declared.Answer.the-variants.{Accepted, Refused}
-use Rattle.dataflow.specs.Promise.{Written}
 use Rattle.dataflow.specs.Interference.{judgedRows, InterferenceFound, InterferencePromise}
 use Rattle.dataflow.specs.contracts.Conflicts.{FitRows, ConflictsFound}
 use Rattle.dataflow.proofs.Judging.{not-both, same-refusal}
@@ -109,8 +106,7 @@ module _ (s rows work : List ℕ) where
       record {
         rows-are = subst (λ (l : List ℕ). Rows (flowOf s) rows l) (sym e) (record {
           word = λ x l.
-              subst (λ k. getD (zeroed rows 0 names) k 0 ≡ 0) (zero-add x) (zeroed-word rows 0 names (omega arith) x (omega arith))
-              ∙ sym (interferenceWord-none (flowOf s) none x);
+              zeroed-first rows names x (omega arith) (omega arith) ∙ sym (interferenceWord-none (flowOf s) none x);
           kept = keeps-zeroed rows 0 names (omega arith) (omega arith);
         });
         most-is = sym (mostLive-none (flowOf s) none);

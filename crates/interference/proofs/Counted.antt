@@ -1,14 +1,13 @@
 -- The ones of a live-in word are the names of that set, and so the most ones are how many names are live at once. By the sum of a word's bits.
 -- Assumes nothing.
-use Prim.Native.Nat.{ℕ, zero, suc, _+_, _/_, _%_, _^_, _<_}
+use Prim.Native.Nat.{ℕ, zero, suc, _+_, _<_}
 use mathlib.Core.Bool.{Bool, true, false}
 use mathlib.Core.List.{List}
-use mathlib.Core.Path.{_≡_, refl, sym, ap, ap₂, _∙_, subst}
+use mathlib.Core.Path.{_≡_, refl, sym, ap, ap₂, _∙_}
 use native.Mathlib.Omega.{arith}
 use lib.Count.{ones}
 use lib.ListN.{getD}
 use Rattle.words.specs.contracts.Row.{bit, tally}
-use Rattle.words.proofs.Bit.{bit-lt}
 use Rattle.words.proofs.Tally.{ones-tally}
 use Rattle.flow.specs.Flow.{Flow, size}
 use Rattle.theory.specs.Lists.{sumBelow, maxBelow}

@@ -1,26 +1,24 @@
 -- The pairs of the words that a statement starts and ends with are those of the definition, and so are the pairs of the names that are used, with a handler: a word with these pairs is the word
 -- of the definition, since no other word has its bits. Assumes nothing.
 use Prim.Native.Nat.{ℕ, _+_, _^_, _<_, _≤_}
-use mathlib.Core.Bool.{true}
 use mathlib.Core.List.{List}
 use mathlib.Core.Logic.{_⊎_, inl, inr, ⊎-elim}
 use mathlib.Core.Option.{Option, none, some}
-use mathlib.Core.Path.{_≡_, refl, sym, _∙_, subst}
+use mathlib.Core.Path.{_≡_, sym, _∙_, subst}
 use native.Mathlib.Decide.{ℕ-discrete}
-use native.Mathlib.Nat.{lt-of-lt-of-le, zero-add}
+use native.Mathlib.Nat.{lt-of-lt-of-le}
 use native.Mathlib.Omega.{arith}
 use lib.Bits.{bitOr}
 use lib.ListN.{length, getD}
 use lib.Pow.{pow-mono}
 use Rattle.words.specs.contracts.Row.{bit}
 use Rattle.words.specs.contracts.Change.{zeroed}
-use Rattle.words.proofs.Zeroed.{zeroed-word}
-use Rattle.flow.specs.Flow.{Flow, size, statement}
+use Rattle.words.proofs.Zeroed.{zeroed-first}
+use Rattle.flow.specs.Flow.{size, statement}
 use Rattle.flow.specs.Format.{flowOf}
 use Rattle.records.proofs.Files.{limited}
-use Rattle.theory.specs.Live.{member, LiveIn, LiveOut, liveInWord, liveOutWord}
+use Rattle.theory.specs.Live.{member, LiveIn, liveInWord, liveOutWord}
 use Rattle.theory.specs.Interference.{After, Used, Together, Interferes, interferes, interferenceWord}
-use Rattle.theory.specs.contracts.WellFormed.{WellFormed}
 use Rattle.theory.proofs.Lists.{same-test}
 use Rattle.theory.proofs.Names.{namesWord-unique, liveInWord-lt, liveInWord-sound, liveInWord-complete, liveOutWord-lt, liveOutWord-sound, liveOutWord-complete}
 use Rattle.theory.proofs.Interference.{interferes-sound, interferes-complete, interferes-used, handler-all}
@@ -30,8 +28,8 @@ use Rattle.statements.proofs.Keeps.{ready-size, ready-formed, keeps-trans, keep
 use Rattle.statements.proofs.WellFormed.{names-is}
 use Rattle.statements.proofs.Names.{member-bit, bit-member, or-first, or-second, or-either, bit-below, word-below, read-name, written-name}
 use Rattle.interference.specs.contracts.Clique.{CliqueAdded, NewCliqueAdded, Both, Pairs}
-use Rattle.interference.specs.contracts.Rows.{RowsRoom, afterWord, Seen, BothUsed, Noted, Rows}
-use Rattle.interference.proofs.Paired.{pairs-as, pairs-none, pairs-added, added-keeps, Going, going-none, going-as, going-new}
+use Rattle.interference.specs.contracts.Rows.{afterWord, Seen, BothUsed, Noted, Rows}
+use Rattle.interference.proofs.Paired.{pairs-as, pairs-none, pairs-added, added-keeps, Going, going-as, going-new}
 
 module _ {s ws : List ℕ} {n : ℕ} (r : Ready s ws n) where
   -- a name that is used is one of the flow's
@@ -142,7 +140,7 @@ module _ {s ws : List ℕ} {n : ℕ} (r : Ready s ws n) where
 
   module _ (rows : List ℕ) {vs : List ℕ} {names : ℕ} (count : names ≡ flowOf s .names) (room : flowOf s .names ≤ length rows) (clear : vs ≡ zeroed rows 0 names) where
     cleared : Pairs vs (flowOf s .names) (λ x y. ⊥)
-    cleared = pairs-none (λ x l. subst (λ (z : List ℕ). getD z x 0 ≡ 0) (sym clear) (subst (λ z. getD (zeroed rows 0 names) z 0 ≡ 0) (zero-add x) (zeroed-word rows 0 names (omega arith) x (omega arith))))
+    cleared = pairs-none (λ x l. subst (λ (z : List ℕ). getD z x 0 ≡ 0) (sym clear) (zeroed-first rows names x (omega arith) (omega arith)))
 
     kept-clear : Keeps 0 (flowOf s .names) rows vs
     kept-clear = subst (λ (z : List ℕ). Keeps 0 (flowOf s .names) rows z) (sym clear) (keeps-zeroed rows 0 names (omega arith) (omega arith))

@@ -1,21 +1,20 @@
 -- The clique of a set is added name by name, the lowest first: the words of the names that are left are as they were, and all others are done. By the laws of the lowest bit.
 -- Assumes nothing.
 use Prim.Native.Nat.{ℕ, _^_, _<_}
-use mathlib.Core.Bool.{Bool, true, false, cond}
+use mathlib.Core.Bool.{Bool, cond}
 use mathlib.Core.List.{List}
 use mathlib.Core.Logic.{_≢_}
 use mathlib.Core.Path.{_≡_, refl, sym, ap, _∙_}
 use native.Mathlib.Decide.{ℕ-discrete}
 use native.Mathlib.Omega.{arith}
-use borrow.Author.Tests.{eqb-true, eqb-false, eq-eqb, ne-eqb}
+use borrow.Author.Tests.{eq-eqb, ne-eqb}
 use lib.Bits.{bitOr}
 use lib.Count.{trailingZeros}
-use lib.Dec.{eqb}
 use lib.ListN.{length, getD, length-set}
 use Rattle.words.specs.contracts.Row.{bit}
 use Rattle.words.specs.contracts.Change.{Joined, joined, without}
-use Rattle.words.proofs.Bit.{bit-lt, bit-of-zero}
-use Rattle.words.proofs.Lowest.{lowest-lt, lowest-one, lowest-off, lowest-other}
+use Rattle.words.proofs.Bit.{bit-of-zero}
+use Rattle.words.proofs.Lowest.{lowest-one, lowest-off, lowest-other}
 use Rattle.words.proofs.Inserted.{joined-word, joined-other}
 use Rattle.statements.proofs.Names.{bit-below}
 use Rattle.interference.specs.contracts.Clique.{cliqueWord, CliqueAdded}

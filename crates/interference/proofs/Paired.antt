@@ -3,11 +3,10 @@
 use Prim.Native.Nat.{ℕ, _-_, _^_, _<_, _≤_, min, max}
 use mathlib.Core.List.{List}
 use mathlib.Core.Logic.{_⊎_, inl, inr, ⊎-elim}
-use mathlib.Core.Path.{_≡_, refl, sym, ap, _∙_, subst}
+use mathlib.Core.Path.{_≡_, sym, ap, _∙_, subst}
 use native.Mathlib.Decide.{ℕ-discrete}
 use native.Mathlib.Nat.{lt-of-lt-of-le}
 use native.Mathlib.Omega.{arith}
-use lib.Bits.{bitOr}
 use lib.ListN.{getD}
 use lib.Pow.{pow-lt, pow-mono}
 use Rattle.words.specs.contracts.Row.{bit}
@@ -16,7 +15,7 @@ use Rattle.words.proofs.Bit.{bit-lt, bit-or, bit-high, bit-of-zero, bit-without
 use Rattle.statements.specs.contracts.Ready.{Keeps}
 use Rattle.statements.proofs.Keeps.{keeps-refl, keeps-trans}
 use Rattle.statements.proofs.Names.{bit-below}
-use Rattle.interference.specs.contracts.Clique.{cliqueWord, CliqueAdded, NewCliqueAdded, Both, Pairs}
+use Rattle.interference.specs.contracts.Clique.{CliqueAdded, NewCliqueAdded, Both, Pairs}
 use Rattle.interference.proofs.LowestFirst.{clique-member, clique-other}
 
 -- the same pairs said otherwise

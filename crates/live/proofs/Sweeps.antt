@@ -14,7 +14,7 @@ use Rattle.words.specs.contracts.Row.{bit}
 use Rattle.words.specs.contracts.Change.{differs, zeroed}
 use Rattle.words.proofs.Bit.{bit-of-zero}
 use Rattle.words.proofs.Rewritten.{differs-false}
-use Rattle.words.proofs.Zeroed.{zeroed-word}
+use Rattle.words.proofs.Zeroed.{zeroed-first}
 use Rattle.flow.specs.Flow.{Flow}
 use Rattle.flow.specs.Format.{flowOf}
 use Rattle.theory.proofs.Lists.{clash, or-first, or-second}
@@ -155,4 +155,4 @@ swept-zero {f} {n} {ins} {ins′} room e = record {
 }
   where
     word : (i : ℕ) → i < n → getD ins′ i 0 ≡ 0
-    word i l = ap (λ z. getD z i 0) e ∙ subst (λ z. getD (zeroed ins 0 n) z 0 ≡ 0) (zero-add i) (zeroed-word ins 0 n (omega arith) i l)
+    word i l = ap (λ z. getD z i 0) e ∙ zeroed-first ins n i (omega arith) l

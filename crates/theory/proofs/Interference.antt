@@ -10,12 +10,11 @@ use borrow.Author.Tests.{not-true, eqb-false, ne-eqb, eq-eqb}
 use lib.Dec.{eqb}
 use Rattle.flow.specs.Flow.{Flow, size}
 use Rattle.theory.specs.Lists.{any, upTo, maxBelow}
-use Rattle.theory.specs.Body.{successors}
 use Rattle.theory.specs.Key.{byHandler}
 use Rattle.theory.specs.contracts.WellFormed.{WellFormed}
 use Rattle.theory.specs.Live.{member, reads, writes, LiveIn, LiveOut, liveIn, liveOut}
 use Rattle.theory.specs.Interference.{After, Used, Together, Interferes, after, used, togetherAt, together, interferes, interferenceWord, liveCount, mostLive}
-use Rattle.theory.proofs.Lists.{clash, or-cases, or-left, or-right, and-both, and-true, same-test, any-In, any-find, none-any, upTo-In, In-upTo}
+use Rattle.theory.proofs.Lists.{or-cases, or-left, or-right, and-both, and-true, same-test, any-In, any-find, upTo-In, In-upTo}
 use Rattle.theory.proofs.Below.{maxBelow-at, maxBelow-attained}
 use Rattle.theory.proofs.Live.{liveIn-sound, liveIn-complete, liveOut-sound, liveOut-complete}
 use Rattle.theory.proofs.Names.{namesWord-member, namesWord-lt, namesWord-empty}

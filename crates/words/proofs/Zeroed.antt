@@ -41,9 +41,13 @@ zeroed-run ws from end x fits l m =
     let here : from + (x - from) ≡ x = omega arith in
     subst (λ (y : ℕ). getD (zeroed ws from (end - from)) y 0 ≡ 0) here (zeroed-word ws from (end - from) (omega arith) (x - from) (omega arith))
 
+-- the first words of a slice
+pub zeroed-first : (ws : List ℕ) (width x : ℕ) → width ≤ length ws → x < width → getD (zeroed ws 0 width) x 0 ≡ 0
+zeroed-first ws width x fits l = subst (λ (y : ℕ). getD (zeroed ws 0 width) y 0 ≡ 0) (zero-add x) (zeroed-word ws 0 width (omega arith) x l)
+
 -- a slice zeroed whole
 pub zeroed-all : (ws : List ℕ) → zeroed ws 0 (length ws) ≡ replicate (length ws) 0
 zeroed-all ws =
     ext-getD 0 (zeroed ws 0 (length ws)) (replicate (length ws) 0) (length-zeroed ws 0 (length ws) ∙ sym (length-replicate (length ws) 0))
-    (λ x l. subst (λ (y : ℕ). getD (zeroed ws 0 (length ws)) y 0 ≡ 0) (zero-add x) (zeroed-word ws 0 (length ws) (omega arith) x (omega (arith, length-zeroed ws 0 (length ws))))
+    (λ x l. zeroed-first ws (length ws) x (omega arith) (omega (arith, length-zeroed ws 0 (length ws)))
     ∙ sym (getD-replicate (length ws) x 0 0 (omega (arith, length-zeroed ws 0 (length ws)))))

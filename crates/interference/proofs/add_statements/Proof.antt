@@ -1,6 +1,6 @@
 -- `add_statements` meets its contract. The invariant: the words hold the pairs of the first i statements, those of the last set among them.
 -- Assumes nothing.
-use Prim.Native.Nat.{ℕ, _+_, _-_, _^_, _<_, _≤_}
+use Prim.Native.Nat.{ℕ, _-_, _^_, _<_, _≤_}
 use mathlib.Core.List.{List}
 use mathlib.Core.Path.{_≡_, sym, ap₂, _∙_, subst}
 use native.Mathlib.Nat.{lt-of-lt-of-le}
@@ -13,7 +13,7 @@ use Rattle.flow.specs.Format.{flowOf}
 use Rattle.theory.specs.Live.{liveInWord, liveOutWord}
 use Rattle.theory.proofs.Names.{liveInWord-lt}
 use Rattle.statements.proofs.Keeps.{ready-most}
-use Rattle.interference.specs.contracts.Rows.{afterWord, Seen, Noted}
+use Rattle.interference.specs.contracts.Rows.{afterWord, Seen}
 use Rattle.interference.proofs.Paired.{Going, going-none}
 use Rattle.interference.proofs.Interfering.{after-lt, going-statement}
 use borrow.Author.Needs.{needs}
