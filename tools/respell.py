@@ -79,7 +79,7 @@ def foreign(path):
 def mapping(root):
     kinds = {}
     for p in files(os.path.join(root, "crates"), ".antt"):
-        if os.path.basename(p) in ("Proof.antt", "Answers.antt", "Invariants.antt"):
+        if os.path.basename(p) == "Proof.antt":
             continue
         for n, k in declared(p):
             if kinds.get(n) != "lemma":

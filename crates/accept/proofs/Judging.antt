@@ -16,7 +16,7 @@ use Rattle.flow.specs.declared.Checked.TheVariants.{Unfit}
 use Rattle.flow.specs.Limits.{work_words}
 use Rattle.flow.specs.Flow.{Flow, size}
 use Rattle.flow.specs.Format.{Verdict, fit, unfit, first, check, verdict, each, file_checks, flow_of, statements_of, arrays_of}
-use Rattle.flow.specs.Clauses.Answers.{FitFile, headerOf, checkedOf}
+use Rattle.flow.specs.Clauses.Answers.{FitFile, header_of, checked_of}
 use Rattle.flow.proofs.Verdicts.{fit_append, unfit-append, unfit-at}
 use Rattle.flow.proofs.Reading.{unfit-answer}
 use Rattle.records.proofs.Statements.{size_is}
@@ -107,8 +107,8 @@ module _ (s proposal work : List ℕ) where
   refusing : (r : Refusal) → judged_proposal s proposal (length work) ≡ unfit r → AcceptPromise s proposal work work (Refused r)
   refusing r e = record { refused = λ x h. (same_refusal e h, refl); accepted = λ h. absurd (not_both h e) }
 
-  pub file-refused : {c : Checked} (r : Refusal) → c ≡ checkedOf (verdict (file_checks s)) (headerOf s) → c ≡ Unfit r → AcceptPromise s proposal work work (Refused r)
-  file-refused r e h = refusing r (unfit-append (file_checks s) _ (unfit-answer (verdict (file_checks s)) (headerOf s) (sym e ∙ h)))
+  pub file-refused : {c : Checked} (r : Refusal) → c ≡ checked_of (verdict (file_checks s)) (header_of s) → c ≡ Unfit r → AcceptPromise s proposal work work (Refused r)
+  file-refused r e h = refusing r (unfit-append (file_checks s) _ (unfit-answer (verdict (file_checks s)) (header_of s) (sym e ∙ h)))
 
   -- the work area, the proposal's length and its bytes, by the header's numbers
   module _ (h : FitFile s) {a b : Bool} (work-told : leb (work_words (statements_of s)) (length work) ≡ a) (length-told : leb (2 * (statements_of s * arrays_of s)) (length proposal) ≡ b) where

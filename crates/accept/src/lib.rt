@@ -6,7 +6,7 @@ pub mod rows;
 pub mod table;
 
 // The answer to a flow file, a proposal and the work area lent with them.
-#[derive(Drop)]
+#[derive(Clone, Copy)]
 pub enum Answer {
     Yes,
     No,

@@ -39,7 +39,7 @@ fn short_word(s: &[u8], at: usize, count: usize) -> u64
 }
 
 // One word of each of the three sets of a row of masks.
-#[derive(Drop)]
+#[derive(Clone, Copy)]
 pub struct Sets {
     pub none: u64,
     pub auto: u64,

@@ -21,7 +21,7 @@ use Rattle.theory.specs.Lists as lists
 use Rattle.theory.specs.Lists.{In, any}
 use Rattle.theory.specs.Reach.{Reach}
 use Rattle.theory.specs.Body as theory
-use Rattle.theory.specs.Body.{kind, references, continuationOf, entered, if_some, callees, is_return, successors, or_else, walk_next, Walks, Calls, Touches, wipes, Calls⁺, Opaque, OpaqueCall, CallTouches, walked, touches, opaque_call, call_touches}
+use Rattle.theory.specs.Body.{kind, references, continuation_of, entered, if_some, callees, is_return, successors, or_else, walk_next, Walks, Calls, Touches, wipes, Calls⁺, Opaque, OpaqueCall, CallTouches, walked, touches, opaque_call, call_touches}
 use Rattle.theory.specs.Clauses.WellFormed.{WellFormed}
 use Rattle.theory.proofs.Lists.{clash, or_cases, or-first, or-second, any_find, In-elem, elem-In}
 use Rattle.theory.proofs.Body.{walked-sound, touches-sound, touches-complete, touches-equation, opaque-complete, opaque_call-sound, call_touches-sound}
@@ -58,21 +58,21 @@ pub record NotHidden (f : Flow) (ws : List ℕ) (n c : ℕ) : Type 0 where
   pub call : opaque_call f c ≡ false
   pub touched : Holds (call_touched_by ws n c) (call_touches f c)
 
-no_callees : (f : Flow) (c : ℕ) → continuationOf (kind f c) ≡ none → callees f c ≡ []
+no_callees : (f : Flow) (c : ℕ) → continuation_of (kind f c) ≡ none → callees f c ≡ []
 unfolding callees
 no_callees f c h = ap (λ o. if_some o (entered f c) []) h
 
-ordinary : (f : Flow) (ws : List ℕ) (n c : ℕ) → continuationOf (kind f c) ≡ none → NotHidden f ws n c
+ordinary : (f : Flow) (ws : List ℕ) (n c : ℕ) → continuation_of (kind f c) ≡ none → NotHidden f ws n c
 unfolding opaque_call call_touches any
 ordinary f ws n c h = record {
   call = ap (any (theory.opaque f)) (no_callees f c h);
   touched = λ a l t. clash (call_touches f c a) t (ap (any (λ b. touches f b a)) (no_callees f c h));
 }
 
-none-opaque-there : {f : Flow} {ws : List ℕ} {n c : ℕ} → ((k : ℕ) → continuationOf (kind f c) ≡ some k → call ws n c ≢ unentered) → call ws n c ≢ opaque → CallState f ws n c → NotHidden f ws n c
-none-opaque-there {f} {ws} {n} {c} done d (CallState.is_none e) = go (continuationOf (kind f c)) refl
+none-opaque-there : {f : Flow} {ws : List ℕ} {n c : ℕ} → ((k : ℕ) → continuation_of (kind f c) ≡ some k → call ws n c ≢ unentered) → call ws n c ≢ opaque → CallState f ws n c → NotHidden f ws n c
+none-opaque-there {f} {ws} {n} {c} done d (CallState.is_none e) = go (continuation_of (kind f c)) refl
   where
-    go : (o : Option ℕ) → continuationOf (kind f c) ≡ o → NotHidden f ws n c
+    go : (o : Option ℕ) → continuation_of (kind f c) ≡ o → NotHidden f ws n c
     go none q = ordinary f ws n c q
     go (some k) q = absurd (done k q e)
 none-opaque-there done d (CallState.is_transparent e n o t) = record { call = o; touched = t }
@@ -106,7 +106,7 @@ return-wipes (Kind.dim items) h = clash false h refl
 return-wipes (Kind.gosub l c) h = refl
 return-wipes (Kind.on_gosub ls c) h = refl
 
-pub return-ordinary : (k : Kind) → is_return k ≡ true → continuationOf k ≡ none
+pub return-ordinary : (k : Kind) → is_return k ≡ true → continuation_of k ≡ none
 return-ordinary Kind.other h = refl
 return-ordinary Kind.return h = refl
 return-ordinary Kind.clr h = refl
@@ -117,7 +117,7 @@ return-ordinary (Kind.on_gosub ls c) h = clash false h refl
 
 return_stops : (f : Flow) (e j : ℕ) → is_return (kind f e) ≡ true → In j (walk_next f e) → ⊥
 unfolding walk_next
-return_stops f e j h m = Memᴰ.not-nil (subst (λ b. In j (cond b [] (or_else (continuationOf (kind f e)) (successors f e)))) h m)
+return_stops f e j h m = Memᴰ.not-nil (subst (λ b. In j (cond b [] (or_else (continuation_of (kind f e)) (successors f e)))) h m)
 
 -- the walk of a RETURN is itself
 pub return-stays : (f : Flow) {e i : ℕ} → is_return (kind f e) ≡ true → Walks f e i → i ≡ e

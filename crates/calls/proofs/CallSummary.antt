@@ -15,7 +15,7 @@ use Rattle.words.specs.Clauses.Row.{bit}
 use Rattle.flow.specs.Flow.{Flow, size, enters}
 use Rattle.theory.specs.Lists.{In, concat_map, option_list}
 use Rattle.theory.specs.Body as theory
-use Rattle.theory.specs.Body.{kind, call_lines, continuationOf, entered, if_some, callees, Calls⁺, Opaque, OpaqueCall, CallTouches, touches, opaque_call, call_touches}
+use Rattle.theory.specs.Body.{kind, call_lines, continuation_of, entered, if_some, callees, Calls⁺, Opaque, OpaqueCall, CallTouches, touches, opaque_call, call_touches}
 use Rattle.theory.specs.Clauses.WellFormed.{WellFormed}
 use Rattle.theory.proofs.Lists.{clash, or_cases, or-first, or-second, any_find, none_any, In-concat_map, In-option_list}
 use Rattle.theory.proofs.Body.{touches-sound, opaque-sound, opaque_call-complete, call_touches-complete}
@@ -92,7 +92,7 @@ call-nothing {f} {c = c} {k} p l e = record {
   found = p.found;
 }
 
-module _ (f : Flow) (c : ℕ) {k' : ℕ} (cont : continuationOf (kind f c) ≡ some k') where
+module _ (f : Flow) (c : ℕ) {k' : ℕ} (cont : continuation_of (kind f c) ≡ some k') where
   callees_are : callees f c ≡ entered f c
   unfolding callees
   callees_are = ap (λ o. if_some o (entered f c) []) cont

@@ -11,7 +11,7 @@ use Rattle.flow.specs.Flow.{size}
 use Rattle.flow.specs.declared.StmtId.{StmtId}
 use Rattle.flow.specs.declared.Handler as H
 use Rattle.flow.specs.declared.Header.{Header}
-use Rattle.flow.specs.Clauses.Answers.{handlerFrom, FitFile, FitRecord}
+use Rattle.flow.specs.Clauses.Answers.{handler_from, FitFile, FitRecord}
 use Rattle.records.specs.Clauses.Fields.{LineParts, call_line_count, call_line_at}
 use Rattle.flow.specs.Format.{flow_of, statements_of, line_count, handler_of, record_place, successor_count, successor_at}
 use Rattle.records.proofs.Files.{limited, record-fit}
@@ -91,11 +91,11 @@ ready-again e r = rw e r
 
 -- the handler that the header tells is the flow's
 
-pub told_at : (o : Option ℕ) (k : StmtId) → handlerFrom o ≡ H.TheVariants.At k → o ≡ some k.0
+pub told_at : (o : Option ℕ) (k : StmtId) → handler_from o ≡ H.TheVariants.At k → o ≡ some k.0
 told_at none k e = let z : ◌≡◌ {A = ℕ} 0 1 = cc in absurd (omega arith)
 told_at (some t) k e = let q : record { 0 = t } ≡ k = cc in ap (λ (x : StmtId). some x.0) q
 
-pub told_none : (o : Option ℕ) → handlerFrom o ≡ H.TheVariants.None → o ≡ none
+pub told_none : (o : Option ℕ) → handler_from o ≡ H.TheVariants.None → o ≡ none
 told_none none e = refl
 told_none (some t) e = let z : ◌≡◌ {A = ℕ} 0 1 = cc in absurd (omega arith)
 

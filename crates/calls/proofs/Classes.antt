@@ -15,7 +15,7 @@ use Rattle.words.proofs.NextMember.{first}
 use Rattle.flow.specs.declared.Base.{Base}
 use Rattle.flow.specs.Flow.{Flow, size, enters}
 use Rattle.theory.specs.Lists.{elem, concat_map, option_list}
-use Rattle.theory.specs.Body.{kind, successors, call_lines, continuationOf, entered, is_return, opaque_call}
+use Rattle.theory.specs.Body.{kind, successors, call_lines, continuation_of, entered, is_return, opaque_call}
 use Rattle.theory.specs.Doubled.{at}
 use Rattle.theory.proofs.Lists.{clash}
 use Rattle.statements.specs.Clauses.Layout.{calls_at, row_at}
@@ -27,31 +27,31 @@ use Rattle.calls.proofs.BodySummary.{return-ordinary}
 
 -- no call that is not opaque: whatever the statement is, its edges carry no touched step
 abbrev pub Plain : Flow → ℕ → Type 0
-Plain f i = (k : ℕ) → continuationOf (kind f i) ≡ some k → opaque_call f i ≡ true
+Plain f i = (k : ℕ) → continuation_of (kind f i) ≡ some k → opaque_call f i ≡ true
 
 pub none-some : {P : Type 0} {k : ℕ} → ◌≡◌ {A = Option ℕ} none (some k) → P
 none-some e = let z : ◌≡◌ {A = ℕ} 0 1 = cc in absurd (omega arith)
 
 module _ {A : Type 0} (f : Flow) (i : ℕ) (r l : A) (c : ℕ → A) where
-  by_return : is_return (kind f i) ≡ true → by_kind f i r l c (continuationOf (kind f i)) ≡ r
+  by_return : is_return (kind f i) ≡ true → by_kind f i r l c (continuation_of (kind f i)) ≡ r
   by_return h = rw (return-ordinary (kind f i) h, h) refl
 
-  by_call : (k : ℕ) → continuationOf (kind f i) ≡ some k → opaque_call f i ≡ false → by_kind f i r l c (continuationOf (kind f i)) ≡ c k
+  by_call : (k : ℕ) → continuation_of (kind f i) ≡ some k → opaque_call f i ≡ false → by_kind f i r l c (continuation_of (kind f i)) ≡ c k
   by_call k e h = rw (e, h) refl
 
-  by_listed : is_return (kind f i) ≡ false → Plain f i → by_kind f i r l c (continuationOf (kind f i)) ≡ l
-  by_listed h op = go (continuationOf (kind f i)) refl
+  by_listed : is_return (kind f i) ≡ false → Plain f i → by_kind f i r l c (continuation_of (kind f i)) ≡ l
+  by_listed h op = go (continuation_of (kind f i)) refl
     where
-      go : (o : Option ℕ) → continuationOf (kind f i) ≡ o → by_kind f i r l c (continuationOf (kind f i)) ≡ l
+      go : (o : Option ℕ) → continuation_of (kind f i) ≡ o → by_kind f i r l c (continuation_of (kind f i)) ≡ l
       go none e = rw (e, h) refl
       go (some k) e = rw (e, op k e) refl
 
   -- what holds in each case holds
   by_cases : (P : A → Type 0) → (is_return (kind f i) ≡ true → Plain f i → P r) → (is_return (kind f i) ≡ false → Plain f i → P l)
-      → ((k : ℕ) → continuationOf (kind f i) ≡ some k → opaque_call f i ≡ false → P (c k)) → P (by_kind f i r l c (continuationOf (kind f i)))
-  by_cases P x y z = go (continuationOf (kind f i)) refl (is_return (kind f i)) refl (opaque_call f i) refl
+      → ((k : ℕ) → continuation_of (kind f i) ≡ some k → opaque_call f i ≡ false → P (c k)) → P (by_kind f i r l c (continuation_of (kind f i)))
+  by_cases P x y z = go (continuation_of (kind f i)) refl (is_return (kind f i)) refl (opaque_call f i) refl
     where
-      go : (o : Option ℕ) → continuationOf (kind f i) ≡ o → (t : Bool) → is_return (kind f i) ≡ t → (u : Bool) → opaque_call f i ≡ u → P (by_kind f i r l c (continuationOf (kind f i)))
+      go : (o : Option ℕ) → continuation_of (kind f i) ≡ o → (t : Bool) → is_return (kind f i) ≡ t → (u : Bool) → opaque_call f i ≡ u → P (by_kind f i r l c (continuation_of (kind f i)))
       go none e true h u q = rw (e, h) (x h (λ k s. none-some (sym e ∙ s)))
       go none e false h u q = rw (e, h) (y h (λ k s. none-some (sym e ∙ s)))
       go (some k) e true h u q = none-some (sym (return-ordinary (kind f i) h) ∙ e)
@@ -63,7 +63,7 @@ module _ (f : Flow) (b : Base) (i : ℕ) where
   unfolding slots slots_of
   slots-return h = by_return f i _ _ _ h
 
-  pub slots-call : (k : ℕ) → continuationOf (kind f i) ≡ some k → opaque_call f i ≡ false → slots f (at b i) ≡ call_slots f b i k
+  pub slots-call : (k : ℕ) → continuation_of (kind f i) ≡ some k → opaque_call f i ≡ false → slots f (at b i) ≡ call_slots f b i k
   unfolding slots slots_of
   slots-call k e h = by_call f i _ _ _ k e h
 
@@ -73,40 +73,40 @@ module _ (f : Flow) (b : Base) (i : ℕ) where
 
 -- What it says of a statement that it is a call, not opaque, or is not
 
-pub call_says : (f : Flow) (i : ℕ) → transparent_call f i ≡ true → (k : ℕ) × (continuationOf (kind f i) ≡ some k) × (opaque_call f i ≡ false)
+pub call_says : (f : Flow) (i : ℕ) → transparent_call f i ≡ true → (k : ℕ) × (continuation_of (kind f i) ≡ some k) × (opaque_call f i ≡ false)
 unfolding transparent_call
-call_says f i = by_cases f i _ _ _ (λ (t : Bool). t ≡ true → (k : ℕ) × (continuationOf (kind f i) ≡ some k) × (opaque_call f i ≡ false))
+call_says f i = by_cases f i _ _ _ (λ (t : Bool). t ≡ true → (k : ℕ) × (continuation_of (kind f i) ≡ some k) × (opaque_call f i ≡ false))
     (λ h p e. clash false e refl) (λ h p e. clash false e refl) (λ k q o e. (k, q, o))
 
 pub plain_says : (f : Flow) (i : ℕ) → transparent_call f i ≡ false → Plain f i
 unfolding transparent_call
 plain_says f i = by_cases f i _ _ _ (λ (t : Bool). t ≡ false → Plain f i) (λ h p e. p) (λ h p e. p) (λ k q o e. clash true refl e)
 
-pub no_call : (f : Flow) (i : ℕ) → continuationOf (kind f i) ≡ none → transparent_call f i ≡ false
+pub no_call : (f : Flow) (i : ℕ) → continuation_of (kind f i) ≡ none → transparent_call f i ≡ false
 unfolding transparent_call
 no_call f i e = go (is_return (kind f i)) refl
   where
-    go : (t : Bool) → is_return (kind f i) ≡ t → by_kind f i false false (λ k. true) (continuationOf (kind f i)) ≡ false
+    go : (t : Bool) → is_return (kind f i) ≡ t → by_kind f i false false (λ k. true) (continuation_of (kind f i)) ≡ false
     go true h = rw (e, h) refl
     go false h = rw (e, h) refl
 
 -- the state of the call says so
 pub call-state : {f : Flow} {ws : List ℕ} {n i : ℕ} → CallSummaries f ws n → i < n → eqb (get_or ws (calls_at n + i) 0) transparent ≡ transparent_call f i
 unfolding transparent_call
-call-state {f} {ws} {n} {i} h l = go (continuationOf (kind f i)) refl
+call-state {f} {ws} {n} {i} h l = go (continuation_of (kind f i)) refl
   where
-    go : (o : Option ℕ) → continuationOf (kind f i) ≡ o → eqb (get_or ws (calls_at n + i) 0) transparent ≡ transparent_call f i
+    go : (o : Option ℕ) → continuation_of (kind f i) ≡ o → eqb (get_or ws (calls_at n + i) 0) transparent ≡ transparent_call f i
     go none e = let free : get_or ws (calls_at n + i) 0 ≡ 0 = h.ordinary i l e in ne_eqb (get_or ws (calls_at n + i) 0) transparent (λ q. omega arith) ∙ sym (no_call f i e)
     go (some k) e = at (opaque_call f i) refl
       where
-        at : (t : Bool) → opaque_call f i ≡ t → eqb (get_or ws (calls_at n + i) 0) transparent ≡ by_kind f i false false (λ k. true) (continuationOf (kind f i))
+        at : (t : Bool) → opaque_call f i ≡ t → eqb (get_or ws (calls_at n + i) 0) transparent ≡ by_kind f i false false (λ k. true) (continuation_of (kind f i))
         at true q = ne_eqb (get_or ws (calls_at n + i) 0) transparent (λ s. let is : get_or ws (calls_at n + i) 0 ≡ opaque = h.call i k l e ∙ ap (λ (t : Bool). cond t opaque transparent) q in omega arith) ∙ sym (rw (e, q) refl)
         at false q = eq-eqb _ transparent (h.call i k l e ∙ ap (λ (t : Bool). cond t opaque transparent) q) ∙ sym (rw (e, q) refl)
 
 -- What a call's row holds
 
 pub call-row : {f : Flow} {ws : List ℕ} {n i : ℕ} {x : Call} → size f ≡ n → Linked f ws n → i < n → row_at n i + (n + 63) / 64 ≤ length ws
-    → continuationOf (kind f i) ≡ some x.continuation.0 → opaque_call f i ≡ false
+    → continuation_of (kind f i) ≡ some x.continuation.0 → opaque_call f i ≡ false
     → x.lines ≡ length (call_lines (kind f i)) → x.successors ≡ length (successors f i) → x.row ≡ row_at n i → CallOf f ws i x
 call-row {f} {ws} {n} {i} {x} z h l room q o lines successors row = record {
   continues = q;

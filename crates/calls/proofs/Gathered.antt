@@ -23,7 +23,7 @@ use Rattle.words.proofs.Row.{has-lt, has_both, has-cong}
 use Rattle.flow.specs.Flow.{Flow, size}
 use Rattle.theory.specs.Lists.{any, elem, concat_map, up_to}
 use Rattle.theory.specs.Reach.{Reach}
-use Rattle.theory.specs.Body.{kind, continuationOf, is_return, entered, callees, walked, opaque_call, call_touches}
+use Rattle.theory.specs.Body.{kind, continuation_of, is_return, entered, callees, walked, opaque_call, call_touches}
 use Rattle.theory.specs.Sure.{sure}
 use Rattle.theory.specs.Clauses.WellFormed.{WellFormed}
 use Rattle.theory.specs.Doubled.{returns_to, is_some}
@@ -211,25 +211,25 @@ module _ (f : Flow) where
 
 -- Call by call
 
-returns_nowhere : (f : Flow) (r k c : ℕ) → continuationOf (kind f c) ≡ none → returns_to f r k c ≡ false
+returns_nowhere : (f : Flow) (r k c : ℕ) → continuation_of (kind f c) ≡ none → returns_to f r k c ≡ false
 unfolding returns_to callees
 returns_nowhere f r k c e = rw e refl
 
 module _ {f : Flow} {ws : List ℕ} {n hi : ℕ} (c : ℕ) where
-  pub call_none : continuationOf (kind f c) ≡ none → Joins f ws ws n hi (λ r k. returns_to f r k c)
+  pub call_none : continuation_of (kind f c) ≡ none → Joins f ws ws n hi (λ r k. returns_to f r k c)
   call_none e = joins-same joins-none (λ r k lr lk is. sym (returns_nowhere f r k c e))
 
   pub call-transparent : Summary f ws n c → (get_or ws (calls_at n + c) 0 ≡ opaque → ⊥) → Joins f ws ws n hi (λ r k. returns_to f r k c)
   unfolding returns_to
-  call-transparent s h = joins-same joins-none (λ r k lr lk is. sym (go r k (continuationOf (kind f c)) refl))
+  call-transparent s h = joins-same joins-none (λ r k lr lk is. sym (go r k (continuation_of (kind f c)) refl))
     where
-      go : (r k : ℕ) (o : Option ℕ) → continuationOf (kind f c) ≡ o → returns_to f r k c ≡ false
+      go : (r k : ℕ) (o : Option ℕ) → continuation_of (kind f c) ≡ o → returns_to f r k c ≡ false
       go r k none e = returns_nowhere f r k c e
       go r k (some m) e =
           let not_opaque : opaque_call f c ≡ false = not_so (opaque_call f c) (λ t. h (s.call m e ∙ ap (λ (b : Bool). cond b opaque transparent) t)) in
-          rw not_opaque (and-false (is_some (continuationOf (kind f c)) k))
+          rw not_opaque (and-false (is_some (continuation_of (kind f c)) k))
 
-  pub call-opaque : {vs : List ℕ} (k : ℕ) → Summary f ws n c → get_or ws (calls_at n + c) 0 ≡ opaque → continuationOf (kind f c) ≡ some k
+  pub call-opaque : {vs : List ℕ} (k : ℕ) → Summary f ws n c → get_or ws (calls_at n + c) 0 ≡ opaque → continuation_of (kind f c) ≡ some k
       → Joins f ws vs n hi (from_bodies f (entered f c) k) → Joins f ws vs n hi (λ r j. returns_to f r j c)
   unfolding returns_to callees
   call-opaque k s h e js = joins-same js (λ r j lr lj is. rw (e, is_opaque (opaque_call f c) (sym (s.call k e) ∙ h)) (and_comm (bodies r) (eqb j k) ∙ ap (λ (t : Bool). t && bodies r) (eqb_sym j k)))

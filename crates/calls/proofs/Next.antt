@@ -9,7 +9,7 @@ use Rattle.flow.specs.declared.Base.{Base}
 use Rattle.flow.specs.declared.Base.TheVariants.{Zero, N}
 use Rattle.flow.specs.Flow.{Flow, size}
 use Rattle.theory.specs.Lists.{In, any, concat_map, option_list, select, up_to}
-use Rattle.theory.specs.Body.{kind, successors, continuationOf, is_return, opaque_call}
+use Rattle.theory.specs.Body.{kind, successors, continuation_of, is_return, opaque_call}
 use Rattle.theory.specs.Doubled.{Node, Edge, at, plain, offset, returns_to, return_edges, listed_edges, edges_of, edges}
 use Rattle.theory.proofs.Lists.{In-map}
 
@@ -28,6 +28,6 @@ none_continue f b i {x} none h m = go (is_return (kind f i)) b m
     go false b m = plain-only (at b) (successors f i) m
 none_continue f b i {x} (some k) h m = plain-only (at b) (successors f i) (rw (h k refl) at m)
 
-pub plain-edge : (f : Flow) (v : Node) {x : Edge} → ((k : ℕ) → continuationOf (kind f v.stmt) ≡ some k → opaque_call f v.stmt ≡ true) → In x (edges f v) → x.continues ≡ false
+pub plain-edge : (f : Flow) (v : Node) {x : Edge} → ((k : ℕ) → continuation_of (kind f v.stmt) ≡ some k → opaque_call f v.stmt ≡ true) → In x (edges f v) → x.continues ≡ false
 unfolding edges
-plain-edge f v op m = none_continue f v.base v.stmt (continuationOf (kind f v.stmt)) op m
+plain-edge f v op m = none_continue f v.base v.stmt (continuation_of (kind f v.stmt)) op m

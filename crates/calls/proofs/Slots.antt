@@ -14,7 +14,7 @@ use Rattle.flow.specs.declared.Base.{Base}
 use Rattle.flow.specs.declared.Base.TheVariants.{Zero, N}
 use Rattle.flow.specs.Flow.{Flow, enters}
 use Rattle.theory.specs.Lists.{In, elem, select, concat_map, option_list}
-use Rattle.theory.specs.Body.{kind, successors, call_lines, continuationOf, entered, is_return, opaque_call}
+use Rattle.theory.specs.Body.{kind, successors, call_lines, continuation_of, entered, is_return, opaque_call}
 use Rattle.theory.specs.Doubled.{Node, Edge, at, plain, number, node, same_node, return_edges, listed_edges, call_edges, edges_of, edges, once}
 use Rattle.theory.specs.Queue.{Arc, brings, join, enqueue, step_all}
 use Rattle.theory.proofs.Lists.{In-elem, In-map, select-In, concat_map-append}
@@ -125,7 +125,7 @@ edges_of_lem f b i (some k) = go (opaque_call f i)
 
 same_edges : (f : Flow) (v : Node) → Same (edges f v) (present (slots f v))
 unfolding edges slots
-same_edges f v = edges_of_lem f v.base v.stmt (continuationOf (kind f v.stmt))
+same_edges f v = edges_of_lem f v.base v.stmt (continuation_of (kind f v.stmt))
 
 in_each : {x : Edge} (xs : List Edge) → Alike xs → In x xs → In x (once xs)
 unfolding once Alike

@@ -17,7 +17,7 @@ use Rattle.words.proofs.Bit.{bit-lt, bit_of_zero}
 use Rattle.flow.specs.Flow.{Flow, size}
 use Rattle.theory.specs.Lists.{In, sum_below}
 use Rattle.theory.specs.Body as theory
-use Rattle.theory.specs.Body.{kind, continuationOf, entered, if_some, is_return, callees, touches, opaque_call, call_touches}
+use Rattle.theory.specs.Body.{kind, continuation_of, entered, if_some, is_return, callees, touches, opaque_call, call_touches}
 use Rattle.theory.specs.Sure.{sure}
 use Rattle.theory.specs.Clauses.WellFormed.{WellFormed}
 use Rattle.theory.proofs.Lists.{clash, sum_below-le, sum_below-lt}
@@ -104,7 +104,7 @@ pub record SummedBelow (f : Flow) (ws₀ ws : List ℕ) (n c : ℕ) : Type 0 whe
   pub high : c ≤ n
   pub summing : Summing f ws n
   pub onward : Onward ws₀ ws n
-  pub done : (d k : ℕ) → d < c → continuationOf (kind f d) ≡ some k → call ws n d ≢ unentered
+  pub done : (d k : ℕ) → d < c → continuation_of (kind f d) ≡ some k → call ws n d ≢ unentered
   pub handler : (e : ℕ) → e < n → f.handler ≡ some e → body ws n e ≢ unentered
 
 pub below-first : {f : Flow} {ws vs : List ℕ} {n : ℕ} → HandlerSummed f ws vs n → SummedBelow f vs vs n 0
@@ -123,13 +123,13 @@ below_next {f} {ws₀} {ws} {vs} {n} {c} p l s = record {
   handler = λ e h q z. p.handler e h q (s.onward.still_entered e h (λ y. omega arith) z);
 }
   where
-    done : (d k : ℕ) → d < c + 1 → continuationOf (kind f d) ≡ some k → Dec (d ≡ c) → call vs n d ≢ unentered
-    done d k h q (yes e) = subst (λ x. call vs n x ≢ unentered) (sym e) (s.done k (subst (λ x. continuationOf (kind f x) ≡ some k) e q))
+    done : (d k : ℕ) → d < c + 1 → continuation_of (kind f d) ≡ some k → Dec (d ≡ c) → call vs n d ≢ unentered
+    done d k h q (yes e) = subst (λ x. call vs n x ≢ unentered) (sym e) (s.done k (subst (λ x. continuation_of (kind f x) ≡ some k) e q))
     done d k h q (no e) = λ z. let low : d < c = omega (arith, e) in p.done d k low q (s.onward.still_summed d (let b = p.high in omega arith) z)
 
 -- In the end
 
-ordinary : {f : Flow} {ws : List ℕ} {n c : ℕ} → continuationOf (kind f c) ≡ none → CallState f ws n c → call ws n c ≡ unentered
+ordinary : {f : Flow} {ws : List ℕ} {n c : ℕ} → continuation_of (kind f c) ≡ none → CallState f ws n c → call ws n c ≡ unentered
 ordinary h (CallState.is_none e) = e
 ordinary h (CallState.is_transparent e d o t) = absurd (none-some h d.continues)
 ordinary h (CallState.is_opaque e d o) = absurd (none-some h d.continues)
@@ -168,11 +168,11 @@ members {w} {p} l in_p holds = record { word = l; member = λ a m. go a m (p a) 
         off (no d) = omega (arith, bit-lt w a, d)
 
 -- a statement with a callee is a call with a continuation
-callee_continues : (f : Flow) (c : ℕ) {b : ℕ} → In b (callees f c) → (k : ℕ) × (continuationOf (kind f c) ≡ some k)
+callee_continues : (f : Flow) (c : ℕ) {b : ℕ} → In b (callees f c) → (k : ℕ) × (continuation_of (kind f c) ≡ some k)
 unfolding callees
-callee_continues f c {b} m = go (continuationOf (kind f c)) refl m
+callee_continues f c {b} m = go (continuation_of (kind f c)) refl m
   where
-    go : (o : Option ℕ) → continuationOf (kind f c) ≡ o → In b (if_some o (entered f c) []) → (k : ℕ) × (continuationOf (kind f c) ≡ some k)
+    go : (o : Option ℕ) → continuation_of (kind f c) ≡ o → In b (if_some o (entered f c) []) → (k : ℕ) × (continuation_of (kind f c) ≡ some k)
     go none q m = absurd (Memᴰ.not-nil m)
     go (some k) q m = (k, q)
 

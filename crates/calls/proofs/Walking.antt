@@ -23,7 +23,7 @@ use Rattle.words.proofs.Inserted.{length_inserted, inserted-other, insert_same, 
 use Rattle.flow.specs.Flow.{Flow}
 use Rattle.theory.specs.Lists.{In}
 use Rattle.theory.specs.Reach.{Reach}
-use Rattle.theory.specs.Body.{kind, successors, continuationOf, is_return, or_else, walk_next, Walks}
+use Rattle.theory.specs.Body.{kind, successors, continuation_of, is_return, or_else, walk_next, Walks}
 use Rattle.theory.proofs.Reach.{reach_below}
 use Rattle.statements.specs.Clauses.Layout.{row_at, row_words, matrix_at, queue_at, entered_row_at}
 use Rattle.statements.specs.Clauses.Ready.{Keeps}
@@ -270,9 +270,9 @@ module _ (f : Flow) (i : ℕ) where
   pub met-return : (ws : List ℕ) (n e top : ℕ) → is_return (kind f i) ≡ true → Met ws ws n e top top (walk_next f i)
   unfolding walk_next
   met-return ws n e top h =
-      subst (λ b. Met ws ws n e top top (cond b [] (or_else (continuationOf (kind f i)) (successors f i)))) (sym h) (met-none ws n e top)
+      subst (λ b. Met ws ws n e top top (cond b [] (or_else (continuation_of (kind f i)) (successors f i)))) (sym h) (met-none ws n e top)
 
-  pub met_next : {ws vs : List ℕ} {n e top height : ℕ} {o : Option ℕ} → is_return (kind f i) ≡ false → continuationOf (kind f i) ≡ o
+  pub met_next : {ws vs : List ℕ} {n e top height : ℕ} {o : Option ℕ} → is_return (kind f i) ≡ false → continuation_of (kind f i) ≡ o
       → Met ws vs n e top height (or_else o (successors f i)) → Met ws vs n e top height (walk_next f i)
   unfolding walk_next
   met_next {ws} {vs} {n} {e} {top} {height} h q m =

@@ -5,7 +5,7 @@ ghost use Rattle.words.specs.Clauses.Row.{has};
 ghost use Rattle.flow.specs.Flow.{enters};
 ghost use Rattle.flow.specs.Format.{flow_of};
 ghost use Rattle.records.specs.Clauses.Fields.{line_entry_of};
-ghost use Rattle.theory.specs.Body.{kind, call_lines, continuationOf};
+ghost use Rattle.theory.specs.Body.{kind, call_lines, continuation_of};
 ghost use Rattle.statements.specs.Clauses.Ready.{Ready, Indexed, RecordOf};
 ghost use Rattle.calls.specs.Clauses.Held.{Linked};
 ghost use Rattle.calls.specs.Clauses.Class.{transparent_call, CallOf};
@@ -15,7 +15,7 @@ use flow::{Continuation, KIND_GOSUB, LineEntry, StmtId};
 use statements::layout;
 
 // Where the call goes on, how many lines it names and successors it lists, and the place of its row of the matrix, which holds the statements that it enters.
-#[derive(Drop)]
+#[derive(Clone, Copy)]
 pub struct Call {
     pub continuation: StmtId,
     pub lines: usize,
@@ -38,7 +38,7 @@ pub fn is_call(file: &[u8], work: &[u64], n: usize, i: StmtId, place: usize) -> 
 // Where the call i goes on, which is not opaque.
 fn continuation_of(file: &[u8], i: StmtId, place: usize) -> StmtId
     requires { RecordOf file.now i.0 place × (transparent_call (flow_of file.now) i.0 ≡ true) }
-    ensures { continuationOf (kind (flow_of file.now) i.0) ≡ some result.0 }
+    ensures { continuation_of (kind (flow_of file.now) i.0) ≡ some result.0 }
 {
     match records::continuation(file, place) {
         Continuation::To(k) => k,

@@ -16,7 +16,7 @@ use flow::{LineEntry, StmtId};
 use statements::{fields, layout};
 
 // Where the list stands, or 0, and how many entries it has.
-#[derive(Drop)]
+#[derive(Clone, Copy)]
 pub struct Order {
     pub at: usize,
     pub count: usize,

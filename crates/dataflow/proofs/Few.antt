@@ -17,7 +17,7 @@ use Rattle.flow.specs.Format.{flow_of}
 use Rattle.flow.specs.Limits.{max_file, max_statements, max_arrays}
 use Rattle.records.proofs.Files.{limited}
 use Rattle.theory.specs.Lists.{any, elem, select, concat_map, option_list, up_to, sum_below}
-use Rattle.theory.specs.Body.{kind, successors, call_lines, continuationOf, is_return, entered, opaque_call}
+use Rattle.theory.specs.Body.{kind, successors, call_lines, continuation_of, is_return, entered, opaque_call}
 use Rattle.theory.specs.Doubled.{Node, Edge, at, plain, node, same_node, once, edges, edges_of, listed_edges, return_edges, call_edges, returns_to, number, edge_effects, key_arcs, arcs_of, doubled}
 use Rattle.theory.specs.Queue.{Arc, arc_count, visit_bound}
 use Rattle.theory.proofs.Lists.{length-up_to, sum_below-le}
@@ -94,7 +94,7 @@ module _ (f : Flow) (b : Base) (i most : ℕ) (sized : size f ≤ most) (next : 
 
   edges_few : length (edges f (at b i)) ≤ most + most + 1
   unfolding edges edges_of
-  edges_few = go (continuationOf (kind f i))
+  edges_few = go (continuation_of (kind f i))
     where
       either : (c : Bool) → length (cond c (return_edges f b i) (listed_edges f b i)) ≤ most
       either true = return-few

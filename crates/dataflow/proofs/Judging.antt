@@ -18,8 +18,8 @@ use Rattle.flow.specs.declared.Checked.TheVariants.{Fit, Unfit}
 use Rattle.flow.specs.Limits.{work_words}
 use Rattle.flow.specs.Flow.{size}
 use Rattle.flow.specs.Format.{Verdict, fit, unfit, verdict, file_checks, area_checks, flow_of, statements_of, arrays_of}
-use Rattle.flow.specs.Clauses.Answers.{FitFile, isFit}
-use Rattle.flow.specs.Clauses.Answers.{headerOf, checkedOf}
+use Rattle.flow.specs.Clauses.Answers.{FitFile, is_fit}
+use Rattle.flow.specs.Clauses.Answers.{header_of, checked_of}
 use Rattle.flow.proofs.Verdicts.{fit_append, unfit-append}
 use Rattle.flow.proofs.AreaVerdict.{area-verdict, areas-fit}
 use Rattle.flow.proofs.Reading.{fit-answer, unfit-answer, accepts}
@@ -49,10 +49,10 @@ module _ (s masks is_live_in is_live_out work : List ℕ) where
     accepted = λ h. absurd (not_both h e);
   }
 
-  pub file-refused : {c : Checked} (r : Refusal) → c ≡ checkedOf (verdict (file_checks s)) (headerOf s) → c ≡ Unfit r
+  pub file-refused : {c : Checked} (r : Refusal) → c ≡ checked_of (verdict (file_checks s)) (header_of s) → c ≡ Unfit r
       → Promise s masks masks is_live_in is_live_in is_live_out is_live_out work work (Refused r)
   file-refused r e h =
-      refusing r refl (unfit-append (file_checks s) _ (unfit-answer (verdict (file_checks s)) (headerOf s) (sym e ∙ h)))
+      refusing r refl (unfit-append (file_checks s) _ (unfit-answer (verdict (file_checks s)) (header_of s) (sym e ∙ h)))
 
   areas_of : Verdict
   areas_of = verdict (area_checks (size (flow_of s)) (flow_of s).arrays (length masks) (length is_live_in) (length is_live_out) (length work))
@@ -63,7 +63,7 @@ module _ (s masks is_live_in is_live_out work : List ℕ) where
   same-areas = ap (λ n. verdict (area_checks n (flow_of s).arrays (length masks) (length is_live_in) (length is_live_out) (length work))) (size_is s)
       ∙ ap (λ k. verdict (area_checks (statements_of s) k (length masks) (length is_live_in) (length is_live_out) (length work))) (arrays-is s)
 
-  judged-areas : FitFile s → (b : Bool) → isFit (verdict (area_checks (statements_of s) (arrays_of s) (length masks) (length is_live_in) (length is_live_out) (length work))) ≡ b
+  judged-areas : FitFile s → (b : Bool) → is_fit (verdict (area_checks (statements_of s) (arrays_of s) (length masks) (length is_live_in) (length is_live_out) (length work))) ≡ b
       → judged s (length masks) (length is_live_in) (length is_live_out) (length work) ≡ cond b fit (unfit Areas)
   unfolding areas_of
   judged-areas h b e =
@@ -74,11 +74,11 @@ module _ (s masks is_live_in is_live_out work : List ℕ) where
       (sym (areas-fit (statements_of s) (arrays_of s) (length masks) (length is_live_in) (length is_live_out) (length work)) ∙ e)
 
   pub areas-refused : {work' : List ℕ} → FitFile s → work' ≡ work
-      → isFit (verdict (area_checks (statements_of s) (arrays_of s) (length masks) (length is_live_in) (length is_live_out) (length work))) ≡ false
+      → is_fit (verdict (area_checks (statements_of s) (arrays_of s) (length masks) (length is_live_in) (length is_live_out) (length work))) ≡ false
       → Promise s masks masks is_live_in is_live_in is_live_out is_live_out work work' (Refused Areas)
   areas-refused h same e = refusing Areas same (judged-areas h false e)
 
-  pub judged-fit : FitFile s → isFit (verdict (area_checks (statements_of s) (arrays_of s) (length masks) (length is_live_in) (length is_live_out) (length work))) ≡ true
+  pub judged-fit : FitFile s → is_fit (verdict (area_checks (statements_of s) (arrays_of s) (length masks) (length is_live_in) (length is_live_out) (length work))) ≡ true
       → judged s (length masks) (length is_live_in) (length is_live_out) (length work) ≡ fit
   judged-fit h e = judged-areas h true e
 
@@ -99,7 +99,7 @@ all_true true true false d e = false-true e
 all_true true false c d e = false-true e
 all_true false b c d e = false-true e
 
-pub rooms : (n arrays masks is_live_in is_live_out work : ℕ) → isFit (verdict (area_checks n arrays masks is_live_in is_live_out work)) ≡ true
+pub rooms : (n arrays masks is_live_in is_live_out work : ℕ) → is_fit (verdict (area_checks n arrays masks is_live_in is_live_out work)) ≡ true
     → Rooms n arrays masks is_live_in is_live_out work
 rooms n arrays masks is_live_in is_live_out work e =
     let t = all_true (leb (n * arrays) masks) (leb n is_live_in) (leb n is_live_out) (leb (work_words n) work) (sym (areas-fit n arrays masks is_live_in is_live_out work) ∙ e) in
@@ -111,14 +111,14 @@ rooms n arrays masks is_live_in is_live_out work e =
     }
 
 -- an accepted flow keeps the promise from what the phases left
-pub accepting : (s masks masks' is_live_in liveIn' is_live_out liveOut' work work' : List ℕ) (v : ℕ) → FitFile s
+pub accepting : (s masks masks' is_live_in live_in' is_live_out live_out' work work' : List ℕ) (v : ℕ) → FitFile s
     → judged s (length masks) (length is_live_in) (length is_live_out) (length work) ≡ fit
-    → Findings (flow_of s) masks masks' is_live_in liveIn' is_live_out liveOut' v
+    → Findings (flow_of s) masks masks' is_live_in live_in' is_live_out live_out' v
     → work' ≡ replicate (length work) 0
-    → Promise s masks masks' is_live_in liveIn' is_live_out liveOut' work work' (Accepted v)
-accepting s masks masks' is_live_in liveIn' is_live_out liveOut' work work' v h e solved empty = record {
+    → Promise s masks masks' is_live_in live_in' is_live_out live_out' work work' (Accepted v)
+accepting s masks masks' is_live_in live_in' is_live_out live_out' work work' v h e solved empty = record {
   refused = λ x r. absurd (not_both e r);
-  accepted = λ _. (v, refl, promised (flow_of s) (well_formed h) masks masks' is_live_in liveIn' is_live_out liveOut' work work' v solved empty);
+  accepted = λ _. (v, refl, promised (flow_of s) (well_formed h) masks masks' is_live_in live_in' is_live_out live_out' work work' v solved empty);
 }
 
 -- with no statements the phases have nothing to do
@@ -137,17 +137,17 @@ nothing-solved s masks is_live_in is_live_out z =
     }
 
 -- what the reader's answer says of a file that it found fit
-module _ (s : List ℕ) {c : Checked} (h : Header) (e : c ≡ checkedOf (verdict (file_checks s)) (headerOf s)) (told : c ≡ Fit h) where
+module _ (s : List ℕ) {c : Checked} (h : Header) (e : c ≡ checked_of (verdict (file_checks s)) (header_of s)) (told : c ≡ Fit h) where
   pub file-fit : FitFile s
-  file-fit = record { checked = fit-answer (verdict (file_checks s)) (headerOf s) h (sym e ∙ told) }
+  file-fit = record { checked = fit-answer (verdict (file_checks s)) (header_of s) h (sym e ∙ told) }
 
-  pub header_is : h ≡ headerOf s
+  pub header_is : h ≡ header_of s
   header_is = (accepts s h (sym e ∙ told)).1
 
-  pub areas_by : (masks is_live_in is_live_out work : ℕ) (b : Bool) → isFit (verdict (area_checks h.statements h.arrays masks is_live_in is_live_out work)) ≡ b
-      → isFit (verdict (area_checks (statements_of s) (arrays_of s) masks is_live_in is_live_out work)) ≡ b
+  pub areas_by : (masks is_live_in is_live_out work : ℕ) (b : Bool) → is_fit (verdict (area_checks h.statements h.arrays masks is_live_in is_live_out work)) ≡ b
+      → is_fit (verdict (area_checks (statements_of s) (arrays_of s) masks is_live_in is_live_out work)) ≡ b
   areas_by masks is_live_in is_live_out work b =
-      subst (λ (x : Header). isFit (verdict (area_checks x.statements x.arrays masks is_live_in is_live_out work)) ≡ b) header_is
+      subst (λ (x : Header). is_fit (verdict (area_checks x.statements x.arrays masks is_live_in is_live_out work)) ≡ b) header_is
 
 -- a list that was zeroed whole, by its length before
 pub zeroed_whole : (ws : List ℕ) (n : ℕ) → length ws ≡ n → zeroed ws 0 n ≡ replicate n 0

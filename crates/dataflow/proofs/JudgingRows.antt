@@ -18,7 +18,7 @@ use Rattle.flow.specs.declared.Checked.TheVariants.{Unfit}
 use Rattle.flow.specs.Limits.{work_words}
 use Rattle.flow.specs.Flow.{Flow, size}
 use Rattle.flow.specs.Format.{fit, unfit, first, verdict, file_checks, flow_of, statements_of, names_of}
-use Rattle.flow.specs.Clauses.Answers.{FitFile, headerOf, checkedOf}
+use Rattle.flow.specs.Clauses.Answers.{FitFile, header_of, checked_of}
 use Rattle.flow.proofs.Verdicts.{fit_append, unfit-append}
 use Rattle.flow.proofs.Reading.{unfit-answer}
 use Rattle.records.specs.Clauses.Fields.{noted_word}
@@ -65,8 +65,8 @@ module _ (s rows work : List ℕ) where
   refusing : (r : Refusal) → judged_rows s (length rows) (length work) ≡ unfit r → InterferencePromise s rows rows work work (Refused r)
   refusing r e = record { refused = λ x h. (same_refusal e h, refl, refl); accepted = λ h. absurd (not_both h e) }
 
-  pub file-refused : {c : Checked} (r : Refusal) → c ≡ checkedOf (verdict (file_checks s)) (headerOf s) → c ≡ Unfit r → InterferencePromise s rows rows work work (Refused r)
-  file-refused r e h = refusing r (unfit-append (file_checks s) _ (unfit-answer (verdict (file_checks s)) (headerOf s) (sym e ∙ h)))
+  pub file-refused : {c : Checked} (r : Refusal) → c ≡ checked_of (verdict (file_checks s)) (header_of s) → c ≡ Unfit r → InterferencePromise s rows rows work work (Refused r)
+  file-refused r e h = refusing r (unfit-append (file_checks s) _ (unfit-answer (verdict (file_checks s)) (header_of s) (sym e ∙ h)))
 
   -- the two areas by the header's numbers
   judged-areas : FitFile s → (a b : Bool) → leb (work_words (statements_of s)) (length work) ≡ a → leb (names_of s) (length rows) ≡ b

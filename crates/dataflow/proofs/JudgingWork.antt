@@ -16,7 +16,7 @@ use Rattle.flow.specs.declared.Checked.{Checked}
 use Rattle.flow.specs.declared.Checked.TheVariants.{Unfit}
 use Rattle.flow.specs.Limits.{work_words}
 use Rattle.flow.specs.Format.{fit, unfit, first, verdict, file_checks, flow_of, statements_of, handler_of}
-use Rattle.flow.specs.Clauses.Answers.{FitFile, headerOf, checkedOf}
+use Rattle.flow.specs.Clauses.Answers.{FitFile, header_of, checked_of}
 use Rattle.flow.proofs.Verdicts.{fit_append, unfit-append}
 use Rattle.flow.proofs.Reading.{unfit-answer}
 use Rattle.records.proofs.Statements.{size_is}
@@ -38,8 +38,8 @@ module _ (s work : List ℕ) where
   refusing : (r : Refusal) → judged_work s (length work) ≡ unfit r → CertainPromise s work work (Refused r)
   refusing r e = record { refused = λ x h. (same_refusal e h, refl); accepted = λ h. absurd (not_both h e) }
 
-  pub file-refused : {c : Checked} (r : Refusal) → c ≡ checkedOf (verdict (file_checks s)) (headerOf s) → c ≡ Unfit r → CertainPromise s work work (Refused r)
-  file-refused r e h = refusing r (unfit-append (file_checks s) _ (unfit-answer (verdict (file_checks s)) (headerOf s) (sym e ∙ h)))
+  pub file-refused : {c : Checked} (r : Refusal) → c ≡ checked_of (verdict (file_checks s)) (header_of s) → c ≡ Unfit r → CertainPromise s work work (Refused r)
+  file-refused r e h = refusing r (unfit-append (file_checks s) _ (unfit-answer (verdict (file_checks s)) (header_of s) (sym e ∙ h)))
 
   judged-work : FitFile s → (b : Bool) → leb (work_words (statements_of s)) (length work) ≡ b → judged_work s (length work) ≡ cond b fit (unfit Areas)
   unfolding verdict
@@ -78,7 +78,7 @@ module _ (s work : List ℕ) where
   none-certain z = sym (certain_word-none (flow_of s) (size_is s ∙ z))
 
 -- the handler that the header tells is the flow's; with one no name is certain
-module _ (s : List ℕ) {h : Header} (e : h ≡ headerOf s) where
+module _ (s : List ℕ) {h : Header} (e : h ≡ header_of s) where
   pub no_handler : h.handler ≡ H.TheVariants.None → (flow_of s).handler ≡ none
   unfolding flow_of
   no_handler q = told_none (handler_of s) (sym (ap (λ (x : Header). x.handler) e) ∙ q)

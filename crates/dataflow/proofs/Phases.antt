@@ -15,7 +15,7 @@ use Rattle.flow.specs.declared.Header.{Header}
 use Rattle.flow.specs.Flow.{size}
 use Rattle.flow.specs.Format.{flow_of, line_count}
 use Rattle.words.specs.Clauses.Change.{noted}
-use Rattle.flow.specs.Clauses.Answers.{headerOf}
+use Rattle.flow.specs.Clauses.Answers.{header_of}
 use Rattle.records.specs.Clauses.Fields.{noted_word, PartsNoted}
 use Rattle.flow.specs.Limits.{max_statements}
 use Rattle.records.proofs.Files.{limited}
@@ -155,7 +155,7 @@ linked {s} {h} {ws} {vs} {us} begun key some l k c =
         zeroed-other vs queue (end - queue) x (λ j y z. m (omega arith)) ∙ k.above x (omega (arith, m)) ∙ begun.zero x (omega (arith, m)) b
 
 -- the numbers of the flow, by the header
-module _ (s : List ℕ) {h : Header} (e : h ≡ headerOf s) where
+module _ (s : List ℕ) {h : Header} (e : h ≡ header_of s) where
   sizes : size (flow_of s) ≡ h.statements
   sizes = size_is s ∙ ap (λ (x : Header). x.statements) (sym e)
 
@@ -189,7 +189,7 @@ masked {s} {h} {ws} {vs} {masks} {masks'} {visits} blank room clear rule e = rec
   };
 }
   where
-    header : h ≡ headerOf s
+    header : h ≡ header_of s
     header = blank.indexed.header
 
     joined : (i a : ℕ) → i < h.statements → a < h.arrays → both_copies vs h.statements (set_words h.arrays) i a ≡ mask_left (flow_of s) rule.left i a
@@ -235,13 +235,13 @@ pub wrote : {n : ℕ} {f : ℕ → ℕ} {ws vs : List ℕ} → ((i : ℕ) → i 
 wrote w k = record { size = k.size; written = w; kept = k.above }
 
 -- all phases together
-pub solved : {s : List ℕ} {h : Header} {masks masks' is_live_in liveIn' is_live_out liveOut' vs : List ℕ} {visits : ℕ} → h ≡ headerOf s
+pub solved : {s : List ℕ} {h : Header} {masks masks' is_live_in live_in' is_live_out live_out' vs : List ℕ} {visits : ℕ} → h ≡ header_of s
     → Masked s h masks masks' vs visits
-    → Written h.statements (live_in_word (flow_of s)) is_live_in liveIn'
-    → Written h.statements (live_out_word (flow_of s)) is_live_out liveOut'
-    → Findings (flow_of s) masks masks' is_live_in liveIn' is_live_out liveOut' visits
-solved {s} {h} {masks} {masks'} {is_live_in} {liveIn'} {is_live_out} {liveOut'} e m i o = record {
+    → Written h.statements (live_in_word (flow_of s)) is_live_in live_in'
+    → Written h.statements (live_out_word (flow_of s)) is_live_out live_out'
+    → Findings (flow_of s) masks masks' is_live_in live_in' is_live_out live_out' visits
+solved {s} {h} {masks} {masks'} {is_live_in} {live_in'} {is_live_out} {live_out'} e m i o = record {
   found = m.found;
-  live_in = subst (λ k. Written k (live_in_word (flow_of s)) is_live_in liveIn') (sym (sizes s e)) i;
-  live_out = subst (λ k. Written k (live_out_word (flow_of s)) is_live_out liveOut') (sym (sizes s e)) o;
+  live_in = subst (λ k. Written k (live_in_word (flow_of s)) is_live_in live_in') (sym (sizes s e)) i;
+  live_out = subst (λ k. Written k (live_out_word (flow_of s)) is_live_out live_out') (sym (sizes s e)) o;
 }

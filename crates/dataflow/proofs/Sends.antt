@@ -18,7 +18,7 @@ use Rattle.flow.specs.declared.Base.{Base}
 use Rattle.flow.specs.declared.Base.TheVariants.{Zero, N}
 use Rattle.flow.specs.Flow.{Flow, size}
 use Rattle.theory.specs.Lists.{In, any, elem, differ}
-use Rattle.theory.specs.Body.{kind, continuationOf, entered, opaque_call, call_touches}
+use Rattle.theory.specs.Body.{kind, continuation_of, entered, opaque_call, call_touches}
 use Rattle.theory.specs.Key.{handler_touches}
 use Rattle.theory.specs.Sure.{sure}
 use Rattle.theory.specs.Doubled.{Node, Edge, at, same_base, same_node, node, edges, statement_effects, entering, own_effects, key_effects, edge_effects}
@@ -125,7 +125,7 @@ and_no true = refl
 and_no false = refl
 
 -- the edge to the continuation of a call that is not opaque is also one to an entered statement in base n alone
-continuing : (f : Flow) (v : Node) {k : ℕ} {x : Edge} → continuationOf (kind f v.stmt) ≡ some k → opaque_call f v.stmt ≡ false → In x (edges f v) → x.continues ≡ true → x.to ≡ at v.base k
+continuing : (f : Flow) (v : Node) {k : ℕ} {x : Edge} → continuation_of (kind f v.stmt) ≡ some k → opaque_call f v.stmt ≡ false → In x (edges f v) → x.continues ≡ true → x.to ≡ at v.base k
 continuing f v {k} {x} c o m e = same-node x.to (at v.base k) (sym (continues-at f v.base v.stmt c o m) ∙ e)
 
 any-entered : (b : Base) (k : ℕ) (l : List ℕ) → any (λ j. same_node (at b k) (at N j)) l ≡ (same_base b N && elem k l)
@@ -135,7 +135,7 @@ any-entered N k [] = refl
 any-entered Zero k (j ∷ l) = any-entered Zero k l
 any-entered N k (j ∷ l) = ap (λ t. eqb k j || t) (any-entered N k l)
 
-entering-is : (f : Flow) (v : Node) {k : ℕ} {x : Edge} → continuationOf (kind f v.stmt) ≡ some k → opaque_call f v.stmt ≡ false → In x (edges f v) → x.continues ≡ true
+entering-is : (f : Flow) (v : Node) {k : ℕ} {x : Edge} → continuation_of (kind f v.stmt) ≡ some k → opaque_call f v.stmt ≡ false → In x (edges f v) → x.continues ≡ true
     → entering f v.stmt x ≡ enters_again f v.base v.stmt
 unfolding entering
 entering-is f v {k} c o m e =

@@ -31,23 +31,23 @@ same-visits e h = cc
 same_refusal : {r : Answer} {x y : Refusal} → r ≡ Refused x → r ≡ Refused y → x ≡ y
 same_refusal e h = cc
 
-module _ {s masks masks' live_in liveIn' is_live_out liveOut' work work' : List ℕ} {r : Answer} (p : Promise s masks masks' live_in liveIn' is_live_out liveOut' work work' r) where
+module _ {s masks masks' live_in live_in' is_live_out live_out' work work' : List ℕ} {r : Answer} (p : Promise s masks masks' live_in live_in' is_live_out live_out' work work' r) where
   abbrev found : Verdict
   found = judged s (length masks) (length live_in) (length is_live_out) (length work)
 
-  pub told-accepted : {v : ℕ} → r ≡ Accepted v → (judged s (length masks) (length live_in) (length is_live_out) (length work) ≡ fit) × Answered (flow_of s) masks masks' live_in liveIn' is_live_out liveOut' work work' v
+  pub told-accepted : {v : ℕ} → r ≡ Accepted v → (judged s (length masks) (length live_in) (length is_live_out) (length work) ≡ fit) × Answered (flow_of s) masks masks' live_in live_in' is_live_out live_out' work work' v
   told-accepted {v} told = by found refl
     where
-      by : (x : Verdict) → found ≡ x → (found ≡ fit) × Answered (flow_of s) masks masks' live_in liveIn' is_live_out liveOut' work work' v
+      by : (x : Verdict) → found ≡ x → (found ≡ fit) × Answered (flow_of s) masks masks' live_in live_in' is_live_out live_out' work work' v
       by fit e =
           let a = p.accepted e in
-          (e, subst (λ k. Answered (flow_of s) masks masks' live_in liveIn' is_live_out liveOut' work work' k) (same-visits a.1 told) a.2)
+          (e, subst (λ k. Answered (flow_of s) masks masks' live_in live_in' is_live_out live_out' work work' k) (same-visits a.1 told) a.2)
       by (unfit x) e = absurd (not_both told (p.refused x e).0)
 
-  pub told-refused : {x : Refusal} → r ≡ Refused x → (judged s (length masks) (length live_in) (length is_live_out) (length work) ≡ unfit x) × Untouched masks masks' live_in liveIn' is_live_out liveOut' work work'
+  pub told-refused : {x : Refusal} → r ≡ Refused x → (judged s (length masks) (length live_in) (length is_live_out) (length work) ≡ unfit x) × Untouched masks masks' live_in live_in' is_live_out live_out' work work'
   told-refused {x} told = by found refl
     where
-      by : (y : Verdict) → found ≡ y → (found ≡ unfit x) × Untouched masks masks' live_in liveIn' is_live_out liveOut' work work'
+      by : (y : Verdict) → found ≡ y → (found ≡ unfit x) × Untouched masks masks' live_in live_in' is_live_out live_out' work work'
       by fit e = absurd (not_both (p.accepted e).1 told)
       by (unfit y) e = let a = p.refused y e in (subst (λ (z : Refusal). found ≡ unfit z) (same_refusal a.0 told) e, a.1)
 
@@ -56,7 +56,7 @@ pub fit-file : (s : List ℕ) (masks live_in is_live_out work : ℕ) → judged 
 fit-file s masks live_in is_live_out work e = record { checked = fit-left (file_checks s) _ e }
 
 -- the count and the bytes are those of the computed form
-module _ {f : Flow} {masks masks' live_in liveIn' is_live_out liveOut' work work' : List ℕ} {v : ℕ} (wf : WellFormed f) (done : Answered f masks masks' live_in liveIn' is_live_out liveOut' work work' v) where
+module _ {f : Flow} {masks masks' live_in live_in' is_live_out live_out' work work' : List ℕ} {v : ℕ} (wf : WellFormed f) (done : Answered f masks masks' live_in live_in' is_live_out live_out' work work' v) where
   pub visits_computed : v ≡ visits_of f
   visits_computed = go (opaque_handler f) refl
     where

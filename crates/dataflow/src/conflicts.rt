@@ -1,6 +1,6 @@
 // The call that finds the names that get in each other's way: the file is judged, then the areas; only then is anything written.
 ghost use Rattle.std.specs.Prelude.{◌≤◌, ◌≡◌, length};
-ghost use Rattle.flow.specs.Clauses.Answers.{headerOf};
+ghost use Rattle.flow.specs.Clauses.Answers.{header_of};
 ghost use Rattle.flow.specs.Format.{flow_of};
 ghost use Rattle.interference.specs.Clauses.Rows.{RowsStart, LiveSets, Rows};
 ghost use Rattle.dataflow.specs.Interference.{InterferencePromise};
@@ -21,7 +21,7 @@ fn write_rows(
     live_out: &[u64],
     rows: &mut [u64],
 )
-    requires { RowsStart file.now work.now rows.old h.names h.statements × LiveSets (flow_of file.now) h.statements live_in.now live_out.now × (h ≡ headerOf file.now) }
+    requires { RowsStart file.now work.now rows.old h.names h.statements × LiveSets (flow_of file.now) h.statements live_in.now live_out.now × (h ≡ header_of file.now) }
     ensures { Rows (flow_of file.now) rows.old rows.new }
 {
     let handler = h.handler;

@@ -7,7 +7,7 @@ pub mod transfer;
 pub mod write;
 
 // The answer to a flow file and the areas lent with it.
-#[derive(Drop)]
+#[derive(Clone, Copy)]
 pub enum Answer {
     // With the count of visits, the word of certain names, or how many names are live at once.
     Accepted(u64),

@@ -7,7 +7,7 @@ use lib.Dec.{leb}
 use Rattle.flow.specs.declared.Refusal.TheVariants.{Areas}
 use Rattle.flow.specs.Limits.{work_words}
 use Rattle.flow.specs.Format.{fit, unfit, first, verdict, area_checks}
-use Rattle.flow.specs.Clauses.Answers.{isFit}
+use Rattle.flow.specs.Clauses.Answers.{is_fit}
 
 abbrev pub long_enough : (n arrays masks live_in is_live_out work : ℕ) → Bool
 long_enough n arrays masks live_in is_live_out work =
@@ -25,9 +25,9 @@ module _ (n arrays masks live_in is_live_out work : ℕ) where
       go true true true false = refl
       go true true true true = refl
 
-  pub areas-fit : isFit (verdict (area_checks n arrays masks live_in is_live_out work)) ≡ long_enough n arrays masks live_in is_live_out work
-  areas-fit = ap isFit area-verdict ∙ go (long_enough n arrays masks live_in is_live_out work)
+  pub areas-fit : is_fit (verdict (area_checks n arrays masks live_in is_live_out work)) ≡ long_enough n arrays masks live_in is_live_out work
+  areas-fit = ap is_fit area-verdict ∙ go (long_enough n arrays masks live_in is_live_out work)
     where
-      go : (b : Bool) → isFit (cond b fit (unfit Areas)) ≡ b
+      go : (b : Bool) → is_fit (cond b fit (unfit Areas)) ≡ b
       go true = refl
       go false = refl

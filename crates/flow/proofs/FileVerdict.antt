@@ -12,7 +12,7 @@ use Rattle.flow.specs.declared.Part.TheVariants.{Header, Statements, Lines, Key,
 use Rattle.flow.specs.declared.Passed.{Passed}
 use Rattle.flow.specs.declared.Passed.TheVariants.{To, Unfit}
 use Rattle.flow.specs.Format.{verdict, fit, each, header_checks, statement_checks, record_checks, record_place, statements_of, line_record_checks, line_count, lines_place, key_place, file_checks}
-use Rattle.flow.specs.Clauses.Answers.{passedOf}
+use Rattle.flow.specs.Clauses.Answers.{passed_of}
 use Rattle.flow.specs.Clauses.Parts.{Due, Judged, part_start, part_checks, checks_before, header_read, part_answer, answer_through, place_after}
 use Rattle.flow.proofs.Verdicts.{all_hold, fit-left, fit-right, elements-within}
 use Rattle.flow.proofs.Records.{end_fits}
@@ -87,10 +87,10 @@ module _ (s : List ℕ) where
   module _ (part : Part) {before : Passed} {at : ℕ} (j : Judged s part before at) where
     -- where all before the part is fit, the reader stands at its start
     pub stands-there : verdict (checks_before s part) ≡ fit → at ≡ part_start s part
-    stands-there h = j.stands ∙ ap (λ p. place_after p at) (j.told ∙ ap (λ v. passedOf v (part_start s part)) h)
+    stands-there h = j.stands ∙ ap (λ p. place_after p at) (j.told ∙ ap (λ v. passed_of v (part_start s part)) h)
 
     pub passed-before : {q : ℕ} → To q ≡ before → verdict (checks_before s part) ≡ fit
-    passed-before {q} e = (verdict-passed _ _ _ (e ∙ j.told)).is-fit
+    passed-before {q} e = (verdict-passed _ _ _ (e ∙ j.told)).is_fit
 
     pub due : {q : ℕ} → To q ≡ before → Due s part at
     due e =

@@ -9,6 +9,4 @@ pub mod FileVerdict
 pub mod Reading
 pub mod WithoutKey
 pub mod Cases
-pub mod Held
-pub mod Lent
 pub mod AreaVerdict

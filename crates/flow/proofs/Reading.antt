@@ -11,19 +11,19 @@ use Rattle.flow.specs.declared.Checked.{Checked}
 use Rattle.flow.specs.declared.Checked.TheVariants.{Fit, Unfit}
 use Rattle.flow.specs.Flow.{Flow}
 use Rattle.flow.specs.Format.{Verdict, fit, unfit, verdict, file_checks, flow_of, accepted, refused, reading_of, read_flow}
-use Rattle.flow.specs.Clauses.Answers.{checkedOf, headerOf}
+use Rattle.flow.specs.Clauses.Answers.{checked_of, header_of}
 
 -- what `check_file` answers
 abbrev pub answer : List ℕ → Checked
-answer s = checkedOf (verdict (file_checks s)) (headerOf s)
+answer s = checked_of (verdict (file_checks s)) (header_of s)
 
 -- what an answer and a reading say of the verdict
 
-pub fit-answer : (v : Verdict) (g h : Header) → checkedOf v g ≡ Fit h → v ≡ fit
+pub fit-answer : (v : Verdict) (g h : Header) → checked_of v g ≡ Fit h → v ≡ fit
 fit-answer fit g h e = refl
 fit-answer (unfit r) g h e = absurd (let z : ◌≡◌ {A = ℕ} 0 1 = cc in omega arith)
 
-pub unfit-answer : (v : Verdict) (g : Header) {r : Refusal} → checkedOf v g ≡ Unfit r → v ≡ unfit r
+pub unfit-answer : (v : Verdict) (g : Header) {r : Refusal} → checked_of v g ≡ Unfit r → v ≡ unfit r
 unfit-answer fit g {r} e = absurd (let z : ◌≡◌ {A = ℕ} 0 1 = cc in omega arith)
 unfit-answer (unfit r') g {r} e = cc
 
@@ -36,20 +36,20 @@ unfit-reading fit g {r} e = absurd (let z : ◌≡◌ {A = ℕ} 0 1 = cc in omeg
 unfit-reading (unfit r') g {r} e = cc
 
 -- what the reader accepts is that flow
-pub accepts : (s : List ℕ) (h : Header) → answer s ≡ Fit h → (read_flow s ≡ accepted (flow_of s)) × (h ≡ headerOf s)
+pub accepts : (s : List ℕ) (h : Header) → answer s ≡ Fit h → (read_flow s ≡ accepted (flow_of s)) × (h ≡ header_of s)
 accepts s h e =
-    let v = fit-answer (verdict (file_checks s)) (headerOf s) h e in
+    let v = fit-answer (verdict (file_checks s)) (header_of s) h e in
     let reads : read_flow s ≡ accepted (flow_of s) = ap (λ x. reading_of x (flow_of s)) v in
-    let same : Fit h ≡ Fit (headerOf s) = sym e ∙ ap (λ x. checkedOf x (headerOf s)) v in
+    let same : Fit h ≡ Fit (header_of s) = sym e ∙ ap (λ x. checked_of x (header_of s)) v in
     (reads, cc)
 
 -- what the definition accepts is not refused
-pub not-refused : (s : List ℕ) (f : Flow) → read_flow s ≡ accepted f → answer s ≡ Fit (headerOf s)
-not-refused s f e = ap (λ x. checkedOf x (headerOf s)) (fit-reading (verdict (file_checks s)) (flow_of s) f e)
+pub not-refused : (s : List ℕ) (f : Flow) → read_flow s ≡ accepted f → answer s ≡ Fit (header_of s)
+not-refused s f e = ap (λ x. checked_of x (header_of s)) (fit-reading (verdict (file_checks s)) (flow_of s) f e)
 
 -- a refusal of the one is that of the other
 pub refuses : (s : List ℕ) (r : Refusal) → (answer s ≡ Unfit r) ↔ (read_flow s ≡ refused r)
 refuses s r = (
-  λ e. ap (λ x. reading_of x (flow_of s)) (unfit-answer (verdict (file_checks s)) (headerOf s) e),
-  λ e. ap (λ x. checkedOf x (headerOf s)) (unfit-reading (verdict (file_checks s)) (flow_of s) e),
+  λ e. ap (λ x. reading_of x (flow_of s)) (unfit-answer (verdict (file_checks s)) (header_of s) e),
+  λ e. ap (λ x. checked_of x (header_of s)) (unfit-reading (verdict (file_checks s)) (flow_of s) e),
 )

@@ -2,7 +2,7 @@
 ghost use Rattle.std.specs.Prelude.{◌≡◌, ◌≤◌, leb};
 ghost use Rattle.flow.specs.Format.{verdict, area_checks};
 ghost use Rattle.flow.specs.Limits.{max_statements, max_arrays, work_words};
-ghost use Rattle.flow.specs.Clauses.Answers.{isFit};
+ghost use Rattle.flow.specs.Clauses.Answers.{is_fit};
 
 use crate::WORK_PER_STATEMENT;
 
@@ -31,7 +31,7 @@ pub fn areas_fit(
     work: usize,
 ) -> bool
     requires { (n ≤ max_statements) × (arrays ≤ max_arrays) }
-    ensures { result ≡ isFit (verdict (area_checks n arrays masks live_in live_out work)) }
+    ensures { result ≡ is_fit (verdict (area_checks n arrays masks live_in live_out work)) }
 {
     if !area_fits(n * arrays, masks) {
         return false;

@@ -2,7 +2,7 @@
 ghost use Rattle.std.specs.Prelude.{◌≡◌, ◌++◌, ◌+◌, ◌≤◌, ◌^◌, length, ltb};
 ghost use Rattle.flow.specs.Format as format;
 ghost use Rattle.flow.specs.Format.{verdict, each, header_checks, start_checks, reference_count_checks, reference_checks, name_checks, dim_checks, gosub_checks, on_gosub_checks, continuation_checks, data_checks, rest_checks, statement_checks, line_record_checks, key_checks, end_checks, file_checks, successors_place, references_place, reference_count, names_place, data_place, elements_end, record_end, lines_place, line_count, key_place, end_place, handler_of};
-ghost use Rattle.flow.specs.Clauses.Answers.{Reached, passedOf, checkedOf, handlerFrom, headerOf};
+ghost use Rattle.flow.specs.Clauses.Answers.{Reached, passed_of, checked_of, handler_from, header_of};
 ghost use Rattle.flow.specs.Clauses.Parts.{Due, Judged, Ended, part_answer, answer_through, place_after};
 ghost use Rattle.flow.specs.Refusals.{number_of, place_of};
 
@@ -42,7 +42,7 @@ fn marked(file: &[u8], p: usize, letter: usize) -> bool
 
 // The length of the file and its header.
 fn check_header(file: &[u8]) -> Passed
-    ensures { result ≡ passedOf (verdict (header_checks file.now)) 8 }
+    ensures { result ≡ passed_of (verdict (header_checks file.now)) 8 }
 {
     if file.len() > MAX_FILE {
         return Passed::Unfit(Refusal::TooLong);
@@ -84,7 +84,7 @@ fn check_header(file: &[u8]) -> Passed
 // The mark, the line, the kind and the successor count of the record at p.
 fn check_start(file: &[u8], p: usize) -> Passed
     requires { p ≤ length file.now }
-    ensures { result ≡ passedOf (verdict (start_checks file.now p)) (successors_place p) }
+    ensures { result ≡ passed_of (verdict (start_checks file.now p)) (successors_place p) }
 {
     if !marked(file, p, LETTER_N) {
         return Passed::Unfit(Refusal::Record(p));
@@ -104,7 +104,7 @@ fn check_start(file: &[u8], p: usize) -> Passed
 // The references of the record at p, whose count stands at `at`. `least` is the smallest array number that still rises.
 fn check_references(file: &[u8], p: usize, at: usize) -> Passed
     requires { Reached file.now p at (references_place file.now p) }
-    ensures { result ≡ passedOf (verdict (reference_count_checks file.now p ++ each (reference_count file.now p) (reference_checks file.now p))) (names_place file.now p) }
+    ensures { result ≡ passed_of (verdict (reference_count_checks file.now p ++ each (reference_count file.now p) (reference_checks file.now p))) (names_place file.now p) }
 {
     if file.len() <= at {
         return Passed::Unfit(Refusal::Record(p));
@@ -150,7 +150,7 @@ fn names_fit(w: u64, names: usize) -> bool
 // The names written and the names read by the record at p, which stand at `at`.
 fn check_names(file: &[u8], p: usize, at: usize) -> Passed
     requires { Reached file.now p at (names_place file.now p) }
-    ensures { result ≡ passedOf (verdict (name_checks file.now p)) (data_place file.now p) }
+    ensures { result ≡ passed_of (verdict (name_checks file.now p)) (data_place file.now p) }
 {
     let names = u8_at(file, 5);
     if file.len() < at + 8 {
@@ -171,7 +171,7 @@ fn check_names(file: &[u8], p: usize, at: usize) -> Passed
 // The data of a DIM: items of an array and a flag, whose count stands at `at`.
 fn check_items(file: &[u8], p: usize, at: usize) -> Passed
     requires { Reached file.now p at (data_place file.now p) }
-    ensures { result ≡ passedOf (verdict (dim_checks file.now p)) (elements_end file.now p) }
+    ensures { result ≡ passed_of (verdict (dim_checks file.now p)) (elements_end file.now p) }
 {
     if file.len() <= at {
         return Passed::Unfit(Refusal::Record(p));
@@ -201,7 +201,7 @@ fn check_items(file: &[u8], p: usize, at: usize) -> Passed
 // A call's continuation: a statement, or none.
 fn check_continuation(file: &[u8], p: usize, at: usize) -> Passed
     requires { Reached file.now p at at }
-    ensures { result ≡ passedOf (verdict (continuation_checks file.now p at)) (at + 2) }
+    ensures { result ≡ passed_of (verdict (continuation_checks file.now p at)) (at + 2) }
 {
     if file.len() < at + 2 {
         return Passed::Unfit(Refusal::Record(p));
@@ -219,7 +219,7 @@ fn check_continuation(file: &[u8], p: usize, at: usize) -> Passed
 // The data of a GOSUB: a line, which may be any, and a continuation.
 fn check_gosub(file: &[u8], p: usize, at: usize) -> Passed
     requires { Reached file.now p at (data_place file.now p) }
-    ensures { result ≡ passedOf (verdict (gosub_checks file.now p)) (data_place file.now p + 4) }
+    ensures { result ≡ passed_of (verdict (gosub_checks file.now p)) (data_place file.now p + 4) }
 {
     if file.len() < at + 2 {
         return Passed::Unfit(Refusal::Record(p));
@@ -230,7 +230,7 @@ fn check_gosub(file: &[u8], p: usize, at: usize) -> Passed
 // The data of an ON GOSUB: lines and a continuation. The lines may be any, so it is enough that the last one lies within the file.
 fn check_call_lines(file: &[u8], p: usize, at: usize) -> Passed
     requires { Reached file.now p at (data_place file.now p) }
-    ensures { result ≡ passedOf (verdict (on_gosub_checks file.now p)) (elements_end file.now p + 2) }
+    ensures { result ≡ passed_of (verdict (on_gosub_checks file.now p)) (elements_end file.now p + 2) }
 {
     if file.len() <= at {
         return Passed::Unfit(Refusal::Record(p));
@@ -245,7 +245,7 @@ fn check_call_lines(file: &[u8], p: usize, at: usize) -> Passed
 // The data of the kind.
 fn check_data(file: &[u8], p: usize, at: usize) -> Passed
     requires { Reached file.now p at (data_place file.now p) }
-    ensures { result ≡ passedOf (verdict (data_checks file.now p)) (record_end file.now p) }
+    ensures { result ≡ passed_of (verdict (data_checks file.now p)) (record_end file.now p) }
 {
     match u8_at(file, p + 4) {
         KIND_DIM => check_items(file, p, at),
@@ -258,7 +258,7 @@ fn check_data(file: &[u8], p: usize, at: usize) -> Passed
 // The rest of the record at p, behind its successors.
 fn check_rest(file: &[u8], p: usize, at: usize) -> Passed
     requires { Reached file.now p at (references_place file.now p) }
-    ensures { result ≡ passedOf (verdict (rest_checks file.now p)) (record_end file.now p) }
+    ensures { result ≡ passed_of (verdict (rest_checks file.now p)) (record_end file.now p) }
 {
     let names_at = match check_references(file, p, at) {
         Passed::To(q) => q,
@@ -274,7 +274,7 @@ fn check_rest(file: &[u8], p: usize, at: usize) -> Passed
 // The statements' records, one after the other: the first unfit field ends the reading of all of them.
 fn check_statements(file: &[u8]) -> Passed
     requires { 8 ≤ length file.now }
-    ensures { result ≡ passedOf (verdict (statement_checks file.now)) (lines_place file.now) }
+    ensures { result ≡ passed_of (verdict (statement_checks file.now)) (lines_place file.now) }
 {
     let n = u16_at(file, 2);
     let mut p = 8;
@@ -315,7 +315,7 @@ fn check_statements(file: &[u8]) -> Passed
 // The FL records, of which the first stands at `at`, if there are any.
 fn check_lines(file: &[u8], at: usize) -> Passed
     requires { (8 ≤ length file.now) × (at ≤ length file.now) × (at ≡ lines_place file.now) }
-    ensures { result ≡ passedOf (verdict (each (line_count file.now) (line_record_checks file.now))) (key_place file.now) }
+    ensures { result ≡ passed_of (verdict (each (line_count file.now) (line_record_checks file.now))) (key_place file.now) }
 {
     let n = u16_at(file, 2);
     let mut least = 0;
@@ -344,7 +344,7 @@ fn check_lines(file: &[u8], at: usize) -> Passed
 // The key's record at `at`, if it is there.
 fn check_key(file: &[u8], at: usize) -> Passed
     requires { (8 ≤ length file.now) × (at ≤ length file.now) × (at ≡ key_place file.now) }
-    ensures { result ≡ passedOf (verdict (key_checks file.now)) (end_place file.now) }
+    ensures { result ≡ passed_of (verdict (key_checks file.now)) (end_place file.now) }
 {
     if !marked(file, at, LETTER_K) {
         return Passed::To(at);
@@ -361,7 +361,7 @@ fn check_key(file: &[u8], at: usize) -> Passed
 // The end record at `at`, and nothing after it.
 fn check_end(file: &[u8], at: usize) -> Passed
     requires { (at ≤ length file.now) × (at ≡ end_place file.now) }
-    ensures { result ≡ passedOf (verdict (end_checks file.now)) (end_place file.now + 2) }
+    ensures { result ≡ passed_of (verdict (end_checks file.now)) (end_place file.now + 2) }
 {
     if !marked(file, at, LETTER_E) {
         return Passed::Unfit(Refusal::Record(at));
@@ -410,7 +410,7 @@ pub fn place_after(passed: Passed, at: usize) -> usize
 // The handler of a file that is fit, whose key was looked for at `key_at` and whose end stands at `end_at`.
 fn handler(file: &[u8], key_at: usize, end_at: usize) -> Handler
     requires { (key_at ≡ key_place file.now) × (end_at ≡ end_place file.now) × (end_at ≤ length file.now) }
-    ensures { result ≡ handlerFrom (handler_of file.now) }
+    ensures { result ≡ handler_from (handler_of file.now) }
 {
     if key_at < end_at {
         return Handler::At(StmtId(u16_at(file, key_at + 2)));
@@ -422,7 +422,7 @@ fn handler(file: &[u8], key_at: usize, end_at: usize) -> Handler
 // for at `lines_at`, the key at `key_at`, and the end at `end_at`.
 fn checked(file: &[u8], lines_at: usize, key_at: usize, end_at: usize, end: Passed) -> Checked
     requires { Ended file.now lines_at key_at end_at end }
-    ensures { result ≡ checkedOf (verdict (file_checks file.now)) (headerOf file.now) }
+    ensures { result ≡ checked_of (verdict (file_checks file.now)) (header_of file.now) }
 {
     match end {
         Passed::Unfit(r) => Checked::Unfit(r),
@@ -440,7 +440,7 @@ fn checked(file: &[u8], lines_at: usize, key_at: usize, end_at: usize, end: Pass
 
 // A whole file: one reader goes through its parts, and each begins where the reader stands.
 pub fn check_file(file: &[u8]) -> Checked
-    ensures { result ≡ checkedOf (verdict (file_checks file.now)) (headerOf file.now) }
+    ensures { result ≡ checked_of (verdict (file_checks file.now)) (header_of file.now) }
 {
     let mut r = new(file);
     let header = next(&mut r, Passed::To(0), Part::Header);

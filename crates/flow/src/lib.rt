@@ -31,22 +31,22 @@ pub const NO_CONTINUATION: usize = 65535;
 pub const WORK_PER_STATEMENT: usize = 64;
 
 // A statement's number, from 0 to n - 1.
-#[derive(Drop)]
+#[derive(Clone, Copy)]
 pub struct StmtId(pub usize);
 
 // A doubled number, from 0 to 2 n - 1: a node of the doubled graph.
-#[derive(Drop)]
+#[derive(Clone, Copy)]
 pub struct NodeId(pub usize);
 
 // The two copies of a statement: base 0 and base n.
-#[derive(Drop)]
+#[derive(Clone, Copy)]
 pub enum Base {
     Zero,
     N,
 }
 
 // Why a flow is refused. A record's place is the offset of its mark, or where that mark should begin.
-#[derive(Drop)]
+#[derive(Clone, Copy)]
 pub enum Refusal {
     // The file is over the limit.
     TooLong,
@@ -73,14 +73,14 @@ pub enum Refusal {
 }
 
 // The statement that the interrupt key calls, if there is one.
-#[derive(Drop)]
+#[derive(Clone, Copy)]
 pub enum Handler {
     At(StmtId),
     None,
 }
 
 // What the header says, where the lines stand, and the handler, of a file that was found fit.
-#[derive(Drop)]
+#[derive(Clone, Copy)]
 pub struct Header {
     pub statements: usize,
     pub arrays: usize,
@@ -93,14 +93,14 @@ pub struct Header {
 }
 
 // How a part of a file was passed: the place after it, or why the file is refused.
-#[derive(Drop)]
+#[derive(Clone, Copy)]
 pub enum Passed {
     To(usize),
     Unfit(Refusal),
 }
 
 // The parts of a file, in file order: the FH record, the FN records, the FL records, the FK record, which may be absent, and the FE record.
-#[derive(Drop)]
+#[derive(Clone, Copy)]
 pub enum Part {
     Header,
     Statements,
@@ -110,28 +110,28 @@ pub enum Part {
 }
 
 // What the reader finds of a file.
-#[derive(Drop)]
+#[derive(Clone, Copy)]
 pub enum Checked {
     Fit(Header),
     Unfit(Refusal),
 }
 
 // An item of a DIM: its array, and its flag, 1 with dimensions, 0 without.
-#[derive(Drop)]
+#[derive(Clone, Copy)]
 pub struct Item {
     pub array: usize,
     pub flag: usize,
 }
 
 // Where a call goes on after its RETURN, if anywhere.
-#[derive(Drop)]
+#[derive(Clone, Copy)]
 pub enum Continuation {
     To(StmtId),
     None,
 }
 
 // The statement that a line enters, if there is one.
-#[derive(Drop)]
+#[derive(Clone, Copy)]
 pub enum LineEntry {
     At(StmtId),
     Nothing,

@@ -53,8 +53,8 @@ pub record Holds (f : Flow) (masks is_live_in is_live_out : List ℕ) : Type 0 w
   pub live_out : (i : ℕ) → i < size f → word_in is_live_out i ≡ live_out_word f i
 
 -- all that the listing takes from what an accepted call has written
-pub holds : {f : Flow} {masks masks' is_live_in liveIn' is_live_out liveOut' work work' : List ℕ} {visits : ℕ}
-    → WellFormed f → Answered f masks masks' is_live_in liveIn' is_live_out liveOut' work work' visits → Holds f masks' liveIn' liveOut'
+pub holds : {f : Flow} {masks masks' is_live_in live_in' is_live_out live_out' work work' : List ℕ} {visits : ℕ}
+    → WellFormed f → Answered f masks masks' is_live_in live_in' is_live_out live_out' work work' visits → Holds f masks' live_in' live_out'
 holds {f} wf d = record {
   mask = masks_computed wf d;
   below = d.below;

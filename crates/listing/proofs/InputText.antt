@@ -50,8 +50,8 @@ short_text : (s : List ℕ) → length s ≤ max_input → text s ≡ listing (v
 unfolding text
 short_text s l = rw (le-ltb max_input (length s) l)
 
-module _ {s masks masks' is_live_in liveIn' is_live_out liveOut' work work' : List ℕ} {r : Answer}
-    (p : Promise s masks masks' is_live_in liveIn' is_live_out liveOut' work work' r)
+module _ {s masks masks' is_live_in live_in' is_live_out live_out' work work' : List ℕ} {r : Answer}
+    (p : Promise s masks masks' is_live_in live_in' is_live_out live_out' work work' r)
     (m : length masks ≡ served * max_arrays) (i : length is_live_in ≡ served) (o : length is_live_out ≡ served) (w : length work ≡ work_words served) where
   lengths : judged s (length masks) (length is_live_in) (length is_live_out) (length work) ≡ verdict_of s
   lengths = ap₂ (λ k l. judged s k l (length is_live_out) (length work)) m i ∙ ap₂ (λ k l. judged s (served * max_arrays) served k l) o w
@@ -67,10 +67,10 @@ module _ {s masks masks' is_live_in liveIn' is_live_out liveOut' work work' : Li
     judged_so : Judged s (served * max_arrays) served served (work_words served)
     judged_so = judged-fit s (served * max_arrays) served served (work_words served) (sym lengths ∙ (told-accepted p e).0)
 
-    held : Holds (flow_of s) masks' liveIn' liveOut'
+    held : Holds (flow_of s) masks' live_in' live_out'
     held = holds (well_formed judged_so.file) (told-accepted p e).1
 
-    pub accepted-room : Room s masks' liveIn' liveOut'
+    pub accepted-room : Room s masks' live_in' live_out'
     accepted-room =
         let done = (told-accepted p e).1 in
         let j = judged_so in
@@ -84,7 +84,7 @@ module _ {s masks masks' is_live_in liveIn' is_live_out liveOut' work work' : Li
         let done = (told-accepted p e).1 in
         omega (arith, judged_so.work_fit, ap length done.work_zero, length-replicate {A = ℕ} (length work) 0, w)
 
-    pub accepted-text : length s ≤ max_input → areas_text s masks' liveIn' liveOut' ≡ text s
+    pub accepted-text : length s ≤ max_input → areas_text s masks' live_in' live_out' ≡ text s
     unfolding listing
     accepted-text l =
         text-held s held

@@ -14,7 +14,7 @@ pub const DIMMED: u8 = 4;
 
 // What a statement or an edge does to one array. CLR and RUN stand here beside the four
 // effects of the paper, so that every change of a mask goes through `step`.
-#[derive(Drop)]
+#[derive(Clone, Copy)]
 pub enum Effect {
     None,
     Reference,

@@ -3,7 +3,7 @@ ghost use Rattle.std.specs.Prelude.{◌≤◌, length};
 
 use crate::{answers, conflicts, data, names, proposals};
 
-#[derive(Drop)]
+#[derive(Clone, Copy)]
 pub struct Counts {
     pub cases: u64,
     pub different: u64,
@@ -71,7 +71,7 @@ fn judged(
 }
 
 // How a case was answered, and where the next one stands.
-#[derive(Drop)]
+#[derive(Clone, Copy)]
 struct Replayed {
     next: usize,
     different: u64,

@@ -2,7 +2,7 @@
 ghost use Rattle.std.specs.Prelude.{◌≡◌, ◌+◌, ◌≤◌, ◌<◌, min, length};
 
 // A case: what is asked, and the refusal that must be answered, with number 0 where there is none.
-#[derive(Drop)]
+#[derive(Clone, Copy)]
 pub struct Case {
     // The length of its file.
     pub size: usize,
@@ -18,14 +18,14 @@ pub struct Case {
 }
 
 // How far the blocks of a file or of a proposal were read, and how long they are together.
-#[derive(Drop)]
+#[derive(Clone, Copy)]
 pub struct Blocks {
     pub next: usize,
     pub size: usize,
 }
 
 // How much the answer to an accepted file takes: the words of a live area and of the names, the stored bytes of such a word, and those of the masks, of a live area and of all words of the names.
-#[derive(Drop)]
+#[derive(Clone, Copy)]
 pub struct Sizes {
     pub statements: usize,
     pub names: usize,
@@ -36,7 +36,7 @@ pub struct Sizes {
 }
 
 // Where the answers after the first stand.
-#[derive(Drop)]
+#[derive(Clone, Copy)]
 pub struct Places {
     pub names: usize,
     pub conflicts: usize,

@@ -5,7 +5,7 @@ use crate::areas::{fill_words, words_kept, words_zero};
 use crate::data::{Case, byte, expand, least, number, skip};
 
 // Whether proposals were answered as they must be, and where what follows them stands.
-#[derive(Drop)]
+#[derive(Clone, Copy)]
 pub struct Judged {
     pub next: usize,
     pub same: bool,

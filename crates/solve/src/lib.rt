@@ -12,7 +12,7 @@ pub mod rows;
 pub mod stmts;
 
 // The waiting numbers: where the front stands in the queue's words, and how many wait.
-#[derive(Drop)]
+#[derive(Clone, Copy)]
 pub struct Queue {
     pub head: usize,
     pub len: usize,

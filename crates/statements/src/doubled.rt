@@ -6,7 +6,7 @@ ghost use Rattle.theory.specs.Doubled.{at, number_in, node_in};
 use flow::{Base, NodeId, StmtId};
 
 // Which copy of which statement.
-#[derive(Drop)]
+#[derive(Clone, Copy)]
 pub struct StmtCopy {
     pub base: Base,
     pub stmt: StmtId,

@@ -4,7 +4,7 @@ ghost use Rattle.flow.specs.Flow.{statement, enters, items};
 ghost use Rattle.flow.specs.Format.{flow_of, record_place};
 ghost use Rattle.records.specs.Clauses.Fields.{record_part, continuation_to, line_entry_of};
 ghost use Rattle.theory.specs.Body as body;
-ghost use Rattle.theory.specs.Body.{kind, successors, references, call_lines, continuationOf, is_return};
+ghost use Rattle.theory.specs.Body.{kind, successors, references, call_lines, continuation_of, is_return};
 ghost use Rattle.theory.specs.Doubled as doubled;
 ghost use Rattle.theory.specs.Lists as lists;
 ghost use Rattle.theory.specs.Sure.{is_gosub};
@@ -69,7 +69,7 @@ pub fn wipes(file: &[u8], work: &[u64], n: usize, i: StmtId) -> bool
 
 pub fn continuation(file: &[u8], work: &[u64], n: usize, i: StmtId) -> flow::Continuation
     requires { Ready file.now work.now n × (i.0 < n) }
-    ensures { result ≡ continuation_to (continuationOf (kind (flow_of file.now) i.0)) }
+    ensures { result ≡ continuation_to (continuation_of (kind (flow_of file.now) i.0)) }
 {
     records::continuation(file, offset(file, work, n, i))
 }

@@ -7,7 +7,7 @@ use crate::fields;
 use flow::StmtId;
 
 // The names that some statement writes, and those that some statement reads.
-#[derive(Drop)]
+#[derive(Clone, Copy)]
 pub struct Uses {
     pub written: u64,
     pub read: u64,

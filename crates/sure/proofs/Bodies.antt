@@ -15,7 +15,7 @@ use Rattle.flow.specs.declared.Header.{Header}
 use Rattle.flow.specs.Flow.{Flow, Kind, enters}
 use Rattle.flow.specs.Format.{flow_of}
 use Rattle.theory.specs.Lists.{In, concat_map, option_list}
-use Rattle.theory.specs.Body.{kind, call_lines, continuationOf, if_some, entered, callees}
+use Rattle.theory.specs.Body.{kind, call_lines, continuation_of, if_some, entered, callees}
 use Rattle.theory.specs.Sure.{is_gosub, gosub_body}
 use Rattle.theory.proofs.Body.{callees-below}
 use Rattle.theory.proofs.Sure.{gosub_callee}
@@ -51,15 +51,15 @@ module _ (f : Flow) (c : ℕ) where
   unfolding gosub_body
   no_gosub e = ap (λ b. cond b (callees f c) []) e
 
-  pub no_continuation : continuationOf (kind f c) ≡ none → gosub_body f c ≡ []
+  pub no_continuation : continuation_of (kind f c) ≡ none → gosub_body f c ≡ []
   unfolding gosub_body callees
   no_continuation e = go (is_gosub (kind f c))
     where
-      go : (b : Bool) → cond b (if_some (continuationOf (kind f c)) (entered f c) []) [] ≡ []
+      go : (b : Bool) → cond b (if_some (continuation_of (kind f c)) (entered f c) []) [] ≡ []
       go true = ap (λ o. if_some o (entered f c) []) e
       go false = refl
 
-  pub gosub-enters : {k : ℕ} → is_gosub (kind f c) ≡ true → continuationOf (kind f c) ≡ some k → body_of (gosub_body f c) ≡ enters f (get_or (call_lines (kind f c)) 0 0)
+  pub gosub-enters : {k : ℕ} → is_gosub (kind f c) ≡ true → continuation_of (kind f c) ≡ some k → body_of (gosub_body f c) ≡ enters f (get_or (call_lines (kind f c)) 0 0)
   unfolding gosub_body callees entered
   gosub-enters g e = rw (g, e) (one-entered f (call_lines (kind f c)) (gosub-lines (kind f c) g))
 

@@ -21,7 +21,7 @@ use Rattle.words.proofs.Pair.{set-low, row_of, empty-row, full_row, either_row}
 use Rattle.flow.specs.Limits.{max_statements}
 use Rattle.flow.specs.Flow.{Flow}
 use Rattle.theory.specs.Lists.{In, elem}
-use Rattle.theory.specs.Body.{kind, successors, references, continuationOf, is_return, or_else, walk_next}
+use Rattle.theory.specs.Body.{kind, successors, references, continuation_of, is_return, or_else, walk_next}
 use Rattle.theory.proofs.Lists.{not_so}
 use Rattle.statements.specs.Clauses.Layout.{sure_at}
 use Rattle.statements.specs.Clauses.Ready.{MembersWord}
@@ -76,7 +76,7 @@ module _ (f : Flow) (i : ℕ) {ws : List ℕ} {n : ℕ} where
   pub next-return : is_return (kind f i) ≡ true → NextSet f ws n i (18446744073709551615 ∷ 18446744073709551615 ∷ [])
   next-return e = record { return = λ _. full_row; next = λ d. absurd (true≢false (sym e ∙ d)) }
 
-  pub next_walk : {o : Option ℕ} {row : List ℕ} → is_return (kind f i) ≡ false → continuationOf (kind f i) ≡ o → Gathered ws n (or_else o (successors f i)) row → NextSet f ws n i row
+  pub next_walk : {o : Option ℕ} {row : List ℕ} → is_return (kind f i) ≡ false → continuation_of (kind f i) ≡ o → Gathered ws n (or_else o (successors f i)) row → NextSet f ws n i row
   unfolding walk_next
   next_walk {o} {row} e q g = record {
     return = λ d. absurd (true≢false (sym d ∙ e));
@@ -87,7 +87,7 @@ module _ (f : Flow) (i : ℕ) {ws : List ℕ} {n : ℕ} where
 pub goes_on : (f : Flow) (i : ℕ) {j : ℕ} → In j (walk_next f i) → is_return (kind f i) ≡ false
 unfolding walk_next
 goes_on f i {j} t =
-    not_so (is_return (kind f i)) (λ e. Memᴰ.not-nil (subst (λ b. In j (cond b [] (or_else (continuationOf (kind f i)) (successors f i)))) e t))
+    not_so (is_return (kind f i)) (λ e. Memᴰ.not-nil (subst (λ b. In j (cond b [] (or_else (continuation_of (kind f i)) (successors f i)))) e t))
 
 -- What a statement lets through: what it does not refer to, and of that what the body has that it asks
 

@@ -16,7 +16,7 @@ use Rattle.words.proofs.Inserted.{insert_same}
 use Rattle.words.proofs.Zeroed.{zeroed-word}
 use Rattle.flow.specs.Flow.{Flow, Kind}
 use Rattle.theory.specs.Lists.{In}
-use Rattle.theory.specs.Body.{kind, successors, continuationOf, is_return, or_else, walk_next}
+use Rattle.theory.specs.Body.{kind, successors, continuation_of, is_return, or_else, walk_next}
 use Rattle.theory.specs.Sure.{gosub_body}
 use Rattle.statements.specs.Clauses.Layout.{matrix_at, lists_at, row_at}
 use Rattle.statements.specs.Clauses.Ready.{Keeps}
@@ -29,7 +29,7 @@ use Rattle.sure.proofs.Followers.{mirror-low, insert_stays, noted-same, asked-so
 
 -- What a statement follows from
 
-return-ends : (k : Kind) → is_return k ≡ true → continuationOf k ≡ none
+return-ends : (k : Kind) → is_return k ≡ true → continuation_of k ≡ none
 return-ends Kind.other e = refl
 return-ends Kind.return e = refl
 return-ends Kind.clr e = refl
@@ -41,25 +41,25 @@ return-ends (Kind.on_gosub ls c) e = absurd (true≢false (sym e))
 module _ (f : Flow) (i : ℕ) where
   return_nowhere : is_return (kind f i) ≡ true → walk_next f i ≡ []
   unfolding walk_next
-  return_nowhere e = ap (λ b. cond b [] (or_else (continuationOf (kind f i)) (successors f i))) e
+  return_nowhere e = ap (λ b. cond b [] (or_else (continuation_of (kind f i)) (successors f i))) e
 
-  walks-on : {o : Option ℕ} → is_return (kind f i) ≡ false → continuationOf (kind f i) ≡ o → walk_next f i ≡ or_else o (successors f i)
+  walks-on : {o : Option ℕ} → is_return (kind f i) ≡ false → continuation_of (kind f i) ≡ o → walk_next f i ≡ or_else o (successors f i)
   unfolding walk_next
   walks-on e d = rw (e, d)
 
   -- no body is asked
-  none-asked : (j : ℕ) → continuationOf (kind f i) ≡ none → body_word (gosub_body f i) ≡ j + 1 → ⊥
+  none-asked : (j : ℕ) → continuation_of (kind f i) ≡ none → body_word (gosub_body f i) ≡ j + 1 → ⊥
   none-asked j e q = let zero : 0 ≡ j + 1 = sym (ap body_word (no_continuation f i e)) ∙ q in omega arith
 
   pub return_alone : is_return (kind f i) ≡ true → (j : ℕ) → FollowsFrom f (gosub_body f) j i → ⊥
   return_alone e j (inl m) = Memᴰ.not-nil (subst (λ l. In j l) (return_nowhere e) m)
   return_alone e j (inr q) = none-asked j (return-ends (kind f i) e) q
 
-  pub follows-successors : is_return (kind f i) ≡ false → continuationOf (kind f i) ≡ none → (j : ℕ) → FollowsFrom f (gosub_body f) j i → In j (successors f i)
+  pub follows-successors : is_return (kind f i) ≡ false → continuation_of (kind f i) ≡ none → (j : ℕ) → FollowsFrom f (gosub_body f) j i → In j (successors f i)
   follows-successors e d j (inl m) = subst (λ l. In j l) (walks-on e d) m
   follows-successors e d j (inr q) = absurd (none-asked j d q)
 
-  pub follows-call : {k w : ℕ} → is_return (kind f i) ≡ false → continuationOf (kind f i) ≡ some k → w ≡ body_word (gosub_body f i) → (j : ℕ) → FollowsFrom f (gosub_body f) j i → In j (k ∷ asked w)
+  pub follows-call : {k w : ℕ} → is_return (kind f i) ≡ false → continuation_of (kind f i) ≡ some k → w ≡ body_word (gosub_body f i) → (j : ℕ) → FollowsFrom f (gosub_body f) j i → In j (k ∷ asked w)
   follows-call e d a j (inl m) = Memᴰ.head (Memᴰ.eq_of_singleton (subst (λ l. In j l) (walks-on e d) m))
   follows-call {w = w} e d a j (inr q) = Memᴰ.tail (subst (λ l. In j l) (sym (asked-some w (λ z. omega arith))) (Memᴰ.head (omega arith)))
 

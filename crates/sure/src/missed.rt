@@ -18,7 +18,7 @@ use statements::{fields, layout};
 const ALL: u64 = 0xffff_ffff_ffff_ffff;
 
 // The two words of a statement.
-#[derive(Drop)]
+#[derive(Clone, Copy)]
 struct Set {
     missed: u64,
     returns: u64,

@@ -10,7 +10,7 @@ use mathlib.Core.Path.{◌≡◌, refl, subst}
 use Rattle.flow.specs.Flow.{Flow, size, enters}
 use Rattle.theory.specs.Lists.{In, any, elem, option_list}
 use Rattle.theory.specs.Reach.{Reach}
-use Rattle.theory.specs.Body.{kind, successors, references, call_lines, continuationOf, entered, if_some, callees, is_return, or_else, walk_next, Walks, walked, Calls, called, Touches, wipes, Calls⁺, Opaque, OpaqueCall, CallTouches, bodies, touches, on_cycle, opaque, opaque_call, call_touches}
+use Rattle.theory.specs.Body.{kind, successors, references, call_lines, continuation_of, entered, if_some, callees, is_return, or_else, walk_next, Walks, walked, Calls, called, Touches, wipes, Calls⁺, Opaque, OpaqueCall, CallTouches, bodies, touches, on_cycle, opaque, opaque_call, call_touches}
 use Rattle.theory.specs.Clauses.WellFormed.{WellFormed}
 use Rattle.theory.proofs.Lists.{or_cases, or_left, or_right, same_test, any-In, any_find, In-elem, elem-In, concat_map-In, In-concat_map, In-option_list}
 use Rattle.theory.proofs.Reach.{reach_first, reach_below, reach_back, reached-sound, reached-complete}
@@ -53,13 +53,13 @@ module _ {f : Flow} (w : WellFormed f) where
   unfolding walk_next
   walk_next-below i j m = stop (is_return (kind f i)) m
     where
-      go : (o : Option ℕ) → continuationOf (kind f i) ≡ o → In j (or_else o (successors f i)) → j < size f
+      go : (o : Option ℕ) → continuation_of (kind f i) ≡ o → In j (or_else o (successors f i)) → j < size f
       go none e m = w.successor i j m
       go (some k) e m = rw (Memᴰ.eq_of_singleton m) (w.continuation i k e)
 
-      stop : (b : Bool) → In j (cond b [] (or_else (continuationOf (kind f i)) (successors f i))) → j < size f
+      stop : (b : Bool) → In j (cond b [] (or_else (continuation_of (kind f i)) (successors f i))) → j < size f
       stop true m = absurd (Memᴰ.not-nil m)
-      stop false m = go (continuationOf (kind f i)) refl m
+      stop false m = go (continuation_of (kind f i)) refl m
 
   pub entered_below : (i b : ℕ) → In b (entered f i) → b < size f
   unfolding entered
@@ -69,7 +69,7 @@ module _ {f : Flow} (w : WellFormed f) where
 
   pub callees-below : (i b : ℕ) → In b (callees f i) → b < size f
   unfolding callees
-  callees-below i b m = go (continuationOf (kind f i)) m
+  callees-below i b m = go (continuation_of (kind f i)) m
     where
       go : (o : Option ℕ) → In b (if_some o (entered f i) []) → b < size f
       go none m = absurd (Memᴰ.not-nil m)

@@ -16,7 +16,7 @@ use Rattle.flow.specs.declared.Base.{Base}
 use Rattle.flow.specs.declared.Base.TheVariants.{Zero, N}
 use Rattle.flow.specs.Flow.{Flow, Kind, size, statement, no_statement}
 use Rattle.theory.specs.Lists.{In, any, elem, select, up_to}
-use Rattle.theory.specs.Body.{kind, successors, continuationOf, entered, callees, is_return, walked, opaque_call}
+use Rattle.theory.specs.Body.{kind, successors, continuation_of, entered, callees, is_return, walked, opaque_call}
 use Rattle.theory.specs.Clauses.WellFormed.{WellFormed}
 use Rattle.theory.specs.Doubled.{Node, Edge, at, plain, same_base, same_node, returns_to, return_edges, once, call_edges, listed_edges, edges_of, edges, entering}
 use Rattle.theory.proofs.Lists.{any-In, In-elem, select-In, In-select, up_to-In, In-up_to}
@@ -87,19 +87,19 @@ in_call_edges f b i k m = Memᴰ.of_map (call_edge (at b k)) (targets f b i k) (
 -- the edges of a node, by what its statement is
 
 module _ (f : Flow) (b : Base) (i : ℕ) where
-  pub listed_edge : {j : ℕ} → continuationOf (kind f i) ≡ none → is_return (kind f i) ≡ false → In j (successors f i) → In (plain (at b j)) (edges f (at b i))
+  pub listed_edge : {j : ℕ} → continuation_of (kind f i) ≡ none → is_return (kind f i) ≡ false → In j (successors f i) → In (plain (at b j)) (edges f (at b i))
   unfolding edges edges_of listed_edges
   listed_edge {j} c r m =
       subst (λ (o : Option ℕ). In (plain (at b j)) (edges_of f b i o)) (sym c)
       (rw r (Memᴰ.map (λ j. plain (at b j)) m))
 
-  pub opaque-edge : {j k : ℕ} → continuationOf (kind f i) ≡ some k → opaque_call f i ≡ true → In j (successors f i) → In (plain (at b j)) (edges f (at b i))
+  pub opaque-edge : {j k : ℕ} → continuation_of (kind f i) ≡ some k → opaque_call f i ≡ true → In j (successors f i) → In (plain (at b j)) (edges f (at b i))
   unfolding edges edges_of listed_edges
   opaque-edge {j} c o m =
       subst (λ (o : Option ℕ). In (plain (at b j)) (edges_of f b i o)) (sym c)
       (rw o (Memᴰ.map (λ j. plain (at b j)) m))
 
-  module _ {k : ℕ} (c : continuationOf (kind f i) ≡ some k) (o : opaque_call f i ≡ false) where
+  module _ {k : ℕ} (c : continuation_of (kind f i) ≡ some k) (o : opaque_call f i ≡ false) where
     from-call : {x : Edge} → In x (call_edges f b i k) → In x (edges f (at b i))
     unfolding edges edges_of
     from-call {x} m = subst (λ (o : Option ℕ). In x (edges_of f b i o)) (sym c) (rw o m)
@@ -128,11 +128,11 @@ entered_known f i w {e} m = any-In (λ b. same_node (at N e) (at N b)) m (node-s
 -- a RETURN in base n goes nowhere
 pub return_nowhere : (f : Flow) (r : ℕ) → kind f r ≡ Kind.return → edges f (at N r) ≡ []
 unfolding edges edges_of return_edges
-return_nowhere f r h = rw (ap continuationOf h, ap is_return h)
+return_nowhere f r h = rw (ap continuation_of h, ap is_return h)
 
 -- a RETURN in base 0 goes to the continuation of each opaque call that enters a body whose walk meets it
-pub return-edge : (f : Flow) (r : ℕ) {c k e : ℕ} → continuationOf (kind f r) ≡ none → is_return (kind f r) ≡ true → c < size f → k < size f
-    → continuationOf (kind f c) ≡ some k → opaque_call f c ≡ true → In e (callees f c) → In r (walked f e)
+pub return-edge : (f : Flow) (r : ℕ) {c k e : ℕ} → continuation_of (kind f r) ≡ none → is_return (kind f r) ≡ true → c < size f → k < size f
+    → continuation_of (kind f c) ≡ some k → opaque_call f c ≡ true → In e (callees f c) → In r (walked f e)
     → In (plain (at Zero k)) (edges f (at Zero r))
 unfolding edges edges_of return_edges returns_to
 return-edge f r {c} {k} {e} cr rr cn kn ck o m w =
@@ -145,7 +145,7 @@ return-edge f r {c} {k} {e} cr rr cn kn ck o m w =
     passes = rw (ck, eq-eqb k k refl, o) (any-In (λ b. elem r (walked f b)) m (In-elem w))
 
 -- only a statement has a continuation
-pub statement_of : (f : Flow) (c : ℕ) {k : ℕ} → continuationOf (kind f c) ≡ some k → c < size f
+pub statement_of : (f : Flow) (c : ℕ) {k : ℕ} → continuation_of (kind f c) ≡ some k → c < size f
 statement_of f c {k} e = go (dec_lt c (size f))
   where
     go : Dec (c < size f) → c < size f
@@ -153,7 +153,7 @@ statement_of f c {k} e = go (dec_lt c (size f))
     go (no h) =
         let above : size f ≤ c = omega (arith, h) in
         let missing : statement f c ≡ no_statement = get_or-eq_default f.statements no_statement above in
-        let same : continuationOf (kind f c) ≡ none = ap (λ s. continuationOf s.kind) missing in
+        let same : continuation_of (kind f c) ≡ none = ap (λ s. continuation_of s.kind) missing in
         let z : ◌≡◌ {A = ℕ} 0 1 = cc in
         omega arith
 
@@ -196,7 +196,7 @@ module _ (f : Flow) (wf : WellFormed f) where
 
   pub edge-below : (v : Node) {x : Edge} → In x (edges f v) → x.to.stmt < size f
   unfolding edges edges_of stays
-  edge-below v {x} m = go (continuationOf (kind f v.stmt)) refl m
+  edge-below v {x} m = go (continuation_of (kind f v.stmt)) refl m
     where
       plainly : (t : Bool) → In x (cond t (return_edges f v.base v.stmt) (listed_edges f v.base v.stmt)) → x.to.stmt < size f
       plainly true m = return-stays v.base v.stmt m
@@ -206,6 +206,6 @@ module _ (f : Flow) (wf : WellFormed f) where
       calling k h true m = listed_stays v.base v.stmt m
       calling k h false m = call_stays v.base v.stmt k h m
 
-      go : (o : Option ℕ) → continuationOf (kind f v.stmt) ≡ o → In x (edges_of f v.base v.stmt o) → x.to.stmt < size f
+      go : (o : Option ℕ) → continuation_of (kind f v.stmt) ≡ o → In x (edges_of f v.base v.stmt o) → x.to.stmt < size f
       go none e m = plainly (is_return (kind f v.stmt)) m
       go (some k) e m = calling k (wf.continuation v.stmt k e) (opaque_call f v.stmt) m

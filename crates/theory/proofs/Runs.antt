@@ -14,7 +14,7 @@ use Rattle.flow.specs.declared.Base.TheVariants.{Zero, N}
 use Rattle.flow.specs.Flow.{Flow, Kind, size}
 use Rattle.theory.specs.Lists.{In}
 use Rattle.theory.specs.Reach.{Reach}
-use Rattle.theory.specs.Body.{kind, successors, continuationOf, entered, callees, is_return, wipes, walk_next, Walks, Calls, Opaque, OpaqueCall, CallTouches, opaque_call}
+use Rattle.theory.specs.Body.{kind, successors, continuation_of, entered, callees, is_return, wipes, walk_next, Walks, Calls, Opaque, OpaqueCall, CallTouches, opaque_call}
 use Rattle.theory.specs.Key.{OpaqueHandler, HandlerTouches}
 use Rattle.theory.specs.Sure.{is_gosub, returning, Missed, sure}
 use Rattle.theory.specs.Clauses.WellFormed.{WellFormed}
@@ -46,7 +46,7 @@ Stands f T v s = (a : ℕ) (u : State) → Turns (key_effects f a) (s a) u → T
 pub data Level (f : Flow) : ℕ → List Frame → Type 0 where
   bottom : {i : ℕ} → Level f i []
   ended : {i : ℕ} {k : List Frame} → Level f i (end ∷ k)
-  called : {i c e j : ℕ} {k : List Frame} → continuationOf (kind f c) ≡ some j → opaque_call f c ≡ true → In e (callees f c) → Walks f e i → Level f c k
+  called : {i c e j : ℕ} {k : List Frame} → continuation_of (kind f c) ≡ some j → opaque_call f c ≡ true → In e (callees f c) → Walks f e i → Level f c k
       → Level f i (back j ∷ k)
 
 -- outer: in base 0. last: in base n, in a body that is not opaque, over "end". inner: in base n, in a body that is not opaque, over the frame of the call that
@@ -56,7 +56,7 @@ pub data Invariant (f : Flow) (T : Table) : ℕ → (ℕ → State) → List Fra
   outer : {i : ℕ} {s : ℕ → State} {k : List Frame} → Stands f T (at Zero i) s → Level f i k → Invariant f T i s k
   last : {i e : ℕ} {s : ℕ → State} {k : List Frame} → Stands f T (at N i) s → Walks f e i → (Opaque f e → ⊥) → Invariant f T i s (end ∷ k)
   inner : {i e c j : ℕ} {s t : ℕ → State} {k : List Frame} → Stands f T (at N i) s → Walks f e i → (Opaque f e → ⊥)
-      → continuationOf (kind f c) ≡ some j → opaque_call f c ≡ false → In e (callees f c) → Invariant f T c t k
+      → continuation_of (kind f c) ≡ some j → opaque_call f c ≡ false → In e (callees f c) → Invariant f T c t k
       → ((a : ℕ) → Kept f e a (act f c t a) (s a)) → ((a : ℕ) → s a ≡ State.none → Missed f a i → Missed f a e) → Invariant f T i s (back j ∷ k)
   keyed : {i h j : ℕ} {s t : ℕ → State} {k : List Frame} → Stands f T (at N i) s → Walks f h i → (Opaque f h → ⊥)
       → f.handler ≡ some h → Invariant f T j t k → ((a : ℕ) → Kept f h a (t a) (s a)) → Invariant f T i s (key j ∷ k)
@@ -77,7 +77,7 @@ found {f} {s = s} inv = let r = standing inv in (r.0, λ a. r.1 a (s a) (key-kee
 
 -- classes of kinds
 
-calls-on : (k : Kind) {j : ℕ} → continuationOf k ≡ some j → is_return k ≡ false
+calls-on : (k : Kind) {j : ℕ} → continuation_of k ≡ some j → is_return k ≡ false
 calls-on Kind.other c = refl
 calls-on Kind.return c = cc
 calls-on Kind.clr c = refl
@@ -88,7 +88,7 @@ calls-on (Kind.on_gosub ls e) c = refl
 
 -- kinds that go on to their listed successors, in the doubled graph and on a body walk
 pub record BySuccessors (k : Kind) : Type 0 where
-  pub alone : continuationOf k ≡ none
+  pub alone : continuation_of k ≡ none
   pub moves : is_return k ≡ false
 
 by_successors : (k : Kind) → (goes_on k || empties k) ≡ true → BySuccessors k
@@ -115,15 +115,15 @@ level_on Level.ended m = Level.ended
 level_on (Level.called c o b w l) m = Level.called c o b (Reach.on w m) l
 
 -- where the body walk goes on
-walk_listed : (f : Flow) (i : ℕ) {j : ℕ} → continuationOf (kind f i) ≡ none → is_return (kind f i) ≡ false → In j (successors f i) → In j (walk_next f i)
+walk_listed : (f : Flow) (i : ℕ) {j : ℕ} → continuation_of (kind f i) ≡ none → is_return (kind f i) ≡ false → In j (successors f i) → In j (walk_next f i)
 unfolding walk_next
 walk_listed f i c r m = rw (r, c) m
 
-walk_continuation : (f : Flow) (i : ℕ) {j : ℕ} → continuationOf (kind f i) ≡ some j → In j (walk_next f i)
+walk_continuation : (f : Flow) (i : ℕ) {j : ℕ} → continuation_of (kind f i) ≡ some j → In j (walk_next f i)
 unfolding walk_next
 walk_continuation f i c = rw (calls-on (kind f i) c, c) (Memᴰ.head refl)
 
-entered_callee : (f : Flow) (c : ℕ) {e j : ℕ} → continuationOf (kind f c) ≡ some j → In e (entered f c) → In e (callees f c)
+entered_callee : (f : Flow) (c : ℕ) {e j : ℕ} → continuation_of (kind f c) ≡ some j → In e (entered f c) → In e (callees f c)
 unfolding callees
 entered_callee f c h m = rw h m
 
@@ -205,7 +205,7 @@ module _ (f : Flow) (T : Table) (wf : WellFormed f) (listed : Listed f) (clear :
   no_opaque-call w o (OpaqueCall.enters_opaque m b) = o (Opaque.calls (Calls.calls w m) b)
 
   -- an opaque call stays in base 0, and its frame asks for the walk of the body that it enters
-  enter_opaque : {i e j : ℕ} {s : ℕ → State} {k : List Frame} → continuationOf (kind f i) ≡ some j → opaque_call f i ≡ true → In e (entered f i)
+  enter_opaque : {i e j : ℕ} {s : ℕ → State} {k : List Frame} → continuation_of (kind f i) ≡ some j → opaque_call f i ≡ true → In e (entered f i)
       → Invariant f T i s k → Invariant f T e (act f i s) (back j ∷ k)
   enter_opaque {i} {e} c q m (Invariant.outer t l) =
       Invariant.outer (along-plain t (opaque-edge f Zero i c q (listed.enters i e m)))
@@ -215,7 +215,7 @@ module _ (f : Flow) (T : Table) (wf : WellFormed f) (listed : Listed f) (clear :
   enter_opaque {i} c q m (Invariant.keyed t w o h call r) = absurd (no_opaque-call w o (opaque_call-sound f i q))
 
   -- a call that is not opaque goes to base n
-  enter_copy : {i e j : ℕ} {s : ℕ → State} {k : List Frame} → continuationOf (kind f i) ≡ some j → opaque_call f i ≡ false → In e (entered f i)
+  enter_copy : {i e j : ℕ} {s : ℕ → State} {k : List Frame} → continuation_of (kind f i) ≡ some j → opaque_call f i ≡ false → In e (entered f i)
       → (b : Base) × Stands f T (at b i) s → Invariant f T i s k → Invariant f T e (act f i s) (back j ∷ k)
   enter_copy {i} {e} {j} c q m (b, t) inv =
       Invariant.inner (along b i _ (λ a n h. entered_known f i (at b j) m) t (entered-edge f b i c q m)) Reach.here not_opaque c q (entered_callee f i c m) inv
@@ -224,7 +224,7 @@ module _ (f : Flow) (T : Table) (wf : WellFormed f) (listed : Listed f) (clear :
       not_opaque : Opaque f e → ⊥
       not_opaque o = true≢false (sym (opaque_call-complete wf (OpaqueCall.enters_opaque (entered_callee f i c m) o)) ∙ q)
 
-  call-move : {i e : ℕ} {s : ℕ → State} {k : List Frame} (c : Option ℕ) → continuationOf (kind f i) ≡ c → is_return (kind f i) ≡ false → In e (entered f i)
+  call-move : {i e : ℕ} {s : ℕ → State} {k : List Frame} (c : Option ℕ) → continuation_of (kind f i) ≡ c → is_return (kind f i) ≡ false → In e (entered f i)
       → Invariant f T i s k → Invariant f T e (act f i s) (frame_of c ∷ k)
   call-move none h r m inv = enter_ending (record { alone = h; moves = r }) m inv
   call-move {i} {e} {s} {k} (some j) h r m inv = go (opaque_call f i) refl
@@ -237,15 +237,15 @@ module _ (f : Flow) (T : Table) (wf : WellFormed f) (listed : Listed f) (clear :
   skip-move : {i j : ℕ} {s : ℕ → State} {k : List Frame} {ls : List ℕ} → kind f i ≡ Kind.on_gosub ls (some j) → Invariant f T i s k → Invariant f T j (act f i s) k
   skip-move {i} {j} {ls = ls} h = goes (λ b. no_gosub f i (ap is_gosub h)) (go (opaque_call f i) refl) (walk_continuation f i c)
     where
-      c : continuationOf (kind f i) ≡ some j
-      c = ap continuationOf h
+      c : continuation_of (kind f i) ≡ some j
+      c = ap continuation_of h
 
       go : (t : Bool) → opaque_call f i ≡ t → (b : Base) → (x : Bool) × In (record { to = at b j; continues = x }) (edges f (at b i))
       go true q b = (false, opaque-edge f b i c q (listed.after i j ls h))
       go false q b = (same_node (at b j) (at b j), continuation-edge f b i c q)
 
   -- RETURN from a body that is not opaque: the continuation edge of its call brings what the body made of the call's act. An array that it leaves as NONE is missed, so it is not sure
-  module _ {c e j : ℕ} {s t : ℕ → State} (h : continuationOf (kind f c) ≡ some j) (q : opaque_call f c ≡ false) (m : In e (callees f c))
+  module _ {c e j : ℕ} {s t : ℕ → State} (h : continuation_of (kind f c) ≡ some j) (q : opaque_call f c ≡ false) (m : In e (callees f c))
       (r : (a : ℕ) → Kept f e a (act f c t a) (s a)) (missed : (a : ℕ) → s a ≡ State.none → Missed f a e) where
     brought : (b : Base) → Stands f T (at b c) t → Stands f T (at b j) s
     unfolding act
@@ -270,7 +270,7 @@ module _ (f : Flow) (T : Table) (wf : WellFormed f) (listed : Listed f) (clear :
   return-move {i} {j} h (Invariant.outer t (Level.called {c = c} {e = e} d q m w l)) =
       Invariant.outer
       (along-plain t
-      (return-edge f i (ap continuationOf h) (ap is_return h) (statement_of f c d) (wf.continuation c j d) d q m
+      (return-edge f i (ap continuation_of h) (ap is_return h) (statement_of f c d) (wf.continuation c j d) d q m
       (walked-complete wf (callees-below wf c e m) w)))
       (level_on l (walk_continuation f c d))
   return-move {i} {s = s} h (Invariant.inner t w o d q m call r link) =
@@ -308,8 +308,8 @@ module _ (f : Flow) (T : Table) (wf : WellFormed f) (listed : Listed f) (clear :
   moved : {x y : Config} → Move f x y → Invariant f T x.stmt x.states x.stack → Invariant f T y.stmt y.states y.stack
   moved (Move.next {i = i} h m) inv = listed_move (by_successors (kind f i) (rw h)) m inv
   moved (Move.reset h m) inv = reset-move h m inv
-  moved (Move.gosub {c = c} h m) inv = call-move c (ap continuationOf h) (ap is_return h) m inv
-  moved (Move.on_gosub {c = c} h m) inv = call-move c (ap continuationOf h) (ap is_return h) m inv
+  moved (Move.gosub {c = c} h m) inv = call-move c (ap continuation_of h) (ap is_return h) m inv
+  moved (Move.on_gosub {c = c} h m) inv = call-move c (ap continuation_of h) (ap is_return h) m inv
   moved (Move.skip h) inv = skip-move h inv
   moved (Move.return h) inv = return-move h inv
   moved (Move.press h) inv = press-move h inv

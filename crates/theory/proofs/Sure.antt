@@ -12,7 +12,7 @@ use borrow.Author.Tests.{not-true, not-false}
 use Rattle.flow.specs.Flow.{Flow, Kind, size, enters}
 use Rattle.theory.specs.Lists.{In, any, elem, option_list, up_to}
 use Rattle.theory.specs.Reach.{Reach}
-use Rattle.theory.specs.Body.{kind, references, call_lines, continuationOf, entered, if_some, callees, is_return, walk_next, Walks, walked, Calls, Touches, OpaqueCall, CallTouches, opaque, opaque_call, call_touches}
+use Rattle.theory.specs.Body.{kind, references, call_lines, continuation_of, entered, if_some, callees, is_return, walk_next, Walks, walked, Calls, Touches, OpaqueCall, CallTouches, opaque, opaque_call, call_touches}
 use Rattle.theory.specs.Sure.{is_gosub, gosub_body, Returns, Meets, AlwaysMet, Sentence, can_return, returning, Missed, Sure, missed_from, missed_after, missed, sure}
 use Rattle.theory.specs.Clauses.WellFormed.{WellFormed}
 use Rattle.theory.proofs.Lists.{clash, not_so, or_cases, or_right, and_both, and-true, same_test, any-In, any_find, any_none, none_any, In-elem, elem-In, elem-not, select-In, In-select, In-concat_map, In-option_list}
@@ -29,7 +29,7 @@ call-not-opaque f c h = not_so (opaque_call f c) (λ k. h (opaque_call-sound f c
 
 callee_entered : (f : Flow) (c : ℕ) {b : ℕ} → In b (callees f c) → In b (entered f c)
 unfolding callees
-callee_entered f c {b} m = go (continuationOf (kind f c)) m
+callee_entered f c {b} m = go (continuation_of (kind f c)) m
   where
     go : (o : Option ℕ) → In b (if_some o (entered f c) []) → In b (entered f c)
     go none m = absurd (Memᴰ.not-nil m)
@@ -79,7 +79,7 @@ pub no_gosub : (f : Flow) (c : ℕ) {b : ℕ} → is_gosub (kind f c) ≡ false 
 unfolding gosub_body
 no_gosub f c h m = Memᴰ.not-nil (rw h at (returning-body f c m).0)
 
-pub no_continuation : (f : Flow) (c : ℕ) {b : ℕ} → continuationOf (kind f c) ≡ none → In b (returning f c) → ⊥
+pub no_continuation : (f : Flow) (c : ℕ) {b : ℕ} → continuation_of (kind f c) ≡ none → In b (returning f c) → ⊥
 unfolding callees
 no_continuation f c h m = Memᴰ.not-nil (rw h at (gosub_callee f c (returning-body f c m).0))
 
@@ -371,9 +371,9 @@ module _ {f : Flow} (w : WellFormed f) where
   -- only a statement has sure arrays, and only arrays of the flow
 
   pub sure-statement : (c a : ℕ) → sure f c a ≡ true → c < size f
-  sure-statement c a h = go (continuationOf (kind f c)) refl
+  sure-statement c a h = go (continuation_of (kind f c)) refl
     where
-      go : (o : Option ℕ) → continuationOf (kind f c) ≡ o → c < size f
+      go : (o : Option ℕ) → continuation_of (kind f c) ≡ o → c < size f
       go none e = absurd (no_continuation f c e (sure-sound w c a h).enters)
       go (some k) e = statement_of f c e
 

@@ -3,7 +3,7 @@
 use Rattle.std.specs.Prelude.{ℕ, Bool, true, false, cond, ◌||◌, List, [], ◌∷◌, ◌≡◌}
 use Rattle.std.proofs.Math.Option.{Option, none, some}
 use Rattle.flow.specs.Flow.{Flow, Kind, Item, size, statement, enters}
-pub use Rattle.flow.specs.Flow.{call_lines, continuation as continuationOf}
+pub use Rattle.flow.specs.Flow.{call_lines, continuation as continuation_of}
 use Rattle.theory.specs.Lists.{In, any, elem, concat_map, option_list}
 use Rattle.theory.specs.Reach.{Reach, reached}
 
@@ -26,7 +26,7 @@ if_some (some k) a b = a
 
 -- the bodies that a statement calls: those its lines enter, where it has a continuation. A call without one is an ordinary statement here
 unfoldable pub callees : Flow → ℕ → List ℕ
-callees f i = if_some (continuationOf (kind f i)) (entered f i) []
+callees f i = if_some (continuation_of (kind f i)) (entered f i) []
 
 abbrev pub is_return : Kind → Bool
 is_return Kind.other = false
@@ -43,7 +43,7 @@ or_else (some k) l = k ∷ []
 
 -- Body walk: follows successors, stops at RETURN, and at a call with a continuation goes to the continuation only
 unfoldable pub walk_next : Flow → ℕ → List ℕ
-walk_next f i = cond (is_return (kind f i)) [] (or_else (continuationOf (kind f i)) (successors f i))
+walk_next f i = cond (is_return (kind f i)) [] (or_else (continuation_of (kind f i)) (successors f i))
 
 -- the body walk from e meets i
 abbrev pub Walks : Flow → ℕ → ℕ → Type 0

@@ -18,7 +18,7 @@ use Rattle.theory.specs.Sure.{sure}
 use Rattle.theory.specs.Queue.{visit_bound}
 use Rattle.theory.specs.Doubled.{doubled}
 use Rattle.theory.specs.Computed.{mask_of, visits_of, own_mask}
-use Rattle.theory.specs.Accept.{proposed, proposal_checks, accepted as isAccepted}
+use Rattle.theory.specs.Accept.{proposed, proposal_checks, accepted as is_accepted}
 use Rattle.theory.specs.Live.{bit_of, live_in_word, live_out_word}
 use Rattle.theory.specs.Certain.{certain_word}
 use Rattle.theory.specs.Interference.{interference_word, most_live}
@@ -701,7 +701,7 @@ abbrev pub own_bytes : Flow → List ℕ
 own_bytes f = concat_map (λ d. map (own_mask f d) (up_to f.arrays)) (up_to (size f + size f))
 
 abbrev pub accepts_bytes : Flow → List ℕ → Bool
-accepts_bytes f bs = isAccepted f (proposed f bs)
+accepts_bytes f bs = is_accepted f (proposed f bs)
 
 -- the byte at j holds the state, and may do without it
 abbrev pub spares : Flow → List ℕ → ℕ → State → Bool

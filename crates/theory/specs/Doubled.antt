@@ -8,7 +8,7 @@ use Rattle.flow.specs.declared.Base.{Base}
 use Rattle.flow.specs.declared.Base.TheVariants.{Zero, N}
 use Rattle.flow.specs.Flow.{Flow, Kind, Item, size}
 use Rattle.theory.specs.Lists.{any, elem, select, up_to}
-use Rattle.theory.specs.Body.{kind, successors, references, continuationOf, entered, callees, is_return, walked, opaque_call, call_touches}
+use Rattle.theory.specs.Body.{kind, successors, references, continuation_of, entered, callees, is_return, walked, opaque_call, call_touches}
 use Rattle.theory.specs.Key.{on_handler, handler_touches}
 use Rattle.theory.specs.Sure.{sure}
 use Rattle.theory.specs.Queue.{Arc, Graph, step_all}
@@ -65,7 +65,7 @@ is_some (some j) k = eqb j k
 
 -- an opaque call with the continuation k that enters a body whose walk meets r
 unfoldable pub returns_to : Flow → ℕ → ℕ → ℕ → Bool
-returns_to f r k c = is_some (continuationOf (kind f c)) k && (opaque_call f c && any (λ b. elem r (walked f b)) (callees f c))
+returns_to f r k c = is_some (continuation_of (kind f c)) k && (opaque_call f c && any (λ b. elem r (walked f b)) (callees f c))
 
 -- RETURN: base 0 goes to the continuations of opaque calls that enter a body whose walk meets it, rising, each once; base n goes nowhere
 unfoldable pub return_edges : Flow → Base → ℕ → List Edge
@@ -94,7 +94,7 @@ edges_of f b i none = cond (is_return (kind f i)) (return_edges f b i) (listed_e
 edges_of f b i (some k) = cond (opaque_call f i) (listed_edges f b i) (call_edges f b i k)
 
 unfoldable pub edges : Flow → Node → List Edge
-edges f v = edges_of f v.base v.stmt (continuationOf (kind f v.stmt))
+edges f v = edges_of f v.base v.stmt (continuation_of (kind f v.stmt))
 
 -- At a statement, a reference steps its array; then a DIM with flag 1 steps its array, CLR and RUN step all
 

@@ -8,7 +8,7 @@ use Rattle.flow.specs.Limits.{max_statements, work_words}
 use Rattle.theory.specs.Lists as lists
 use Rattle.theory.specs.Lists.{In, any, up_to}
 use Rattle.theory.specs.Body as theory
-use Rattle.theory.specs.Body.{kind, continuationOf, is_return, callees, entered, Walks, touches, opaque_call, call_touches}
+use Rattle.theory.specs.Body.{kind, continuation_of, is_return, callees, entered, Walks, touches, opaque_call, call_touches}
 use Rattle.theory.specs.Sure.{sure}
 use Rattle.theory.specs.Doubled.{returns_to}
 use Rattle.statements.specs.Clauses.Layout.{sure_at, calls_at, call_touched_at, bodies_at, touched_at, matrix_at, row_at, row_words, queue_at, entered_row_at}
@@ -64,8 +64,8 @@ pub record NoSummaries (ws : List ℕ) (n : ℕ) : Type 0 where
 
 -- the summary of each call with a continuation; any other statement has none
 pub record CallSummaries (f : Flow) (ws : List ℕ) (n : ℕ) : Type 0 where
-  pub ordinary : (c : ℕ) → c < n → continuationOf (kind f c) ≡ none → get_or ws (calls_at n + c) 0 ≡ unentered
-  pub call : (c k : ℕ) → c < n → continuationOf (kind f c) ≡ some k → get_or ws (calls_at n + c) 0 ≡ cond (opaque_call f c) opaque transparent
+  pub ordinary : (c : ℕ) → c < n → continuation_of (kind f c) ≡ none → get_or ws (calls_at n + c) 0 ≡ unentered
+  pub call : (c k : ℕ) → c < n → continuation_of (kind f c) ≡ some k → get_or ws (calls_at n + c) 0 ≡ cond (opaque_call f c) opaque transparent
   pub touched : (c : ℕ) → c < n → get_or ws (calls_at n + c) 0 ≡ transparent → MembersWord (get_or ws (call_touched_at n + c) 0) (call_touches f c)
   pub sure : (c : ℕ) → c < n → get_or ws (calls_at n + c) 0 ≡ transparent → MembersWord (get_or ws (sure_at n + c) 0) (sure f c)
 

@@ -8,7 +8,7 @@ use Rattle.words.specs.Clauses.Row.{bit, has}
 use Rattle.flow.specs.Flow.{Flow}
 use Rattle.theory.specs.Lists as lists
 use Rattle.theory.specs.Lists.{In, any, concat_map}
-use Rattle.theory.specs.Body.{kind, continuationOf, is_return, entered, walked, opaque_call}
+use Rattle.theory.specs.Body.{kind, continuation_of, is_return, entered, walked, opaque_call}
 use Rattle.statements.specs.Clauses.Layout.{calls_at, matrix_at, row_at, row_words, queue_at, entered_row_at, solver_at, returns_row_at}
 use Rattle.statements.specs.Clauses.Ready.{Keeps}
 use Rattle.calls.specs.Clauses.Held.{WalkRow, transparent, opaque}
@@ -73,8 +73,8 @@ BodyRows f ws n c = (b : ℕ) → In b (entered f c) → BodyRow f ws n b
 
 -- what the summary of statement c says, where it is a call with a continuation
 pub record Summary (f : Flow) (ws : List ℕ) (n c : ℕ) : Type 0 where
-  pub call : (k : ℕ) → continuationOf (kind f c) ≡ some k → get_or ws (calls_at n + c) 0 ≡ cond (opaque_call f c) opaque transparent
-  pub bodies : (k : ℕ) → continuationOf (kind f c) ≡ some k → BodyRows f ws n c
+  pub call : (k : ℕ) → continuation_of (kind f c) ≡ some k → get_or ws (calls_at n + c) 0 ≡ cond (opaque_call f c) opaque transparent
+  pub bodies : (k : ℕ) → continuation_of (kind f c) ≡ some k → BodyRows f ws n c
 
 -- a row that bodies may be joined to lies above the noted places, and above the matrix if walks are read from there
 pub record Target (ws : List ℕ) (n to : ℕ) (whole : Bool) : Type 0 where

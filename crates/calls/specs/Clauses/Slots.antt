@@ -6,7 +6,7 @@ use Rattle.flow.specs.declared.Base.{Base}
 use Rattle.flow.specs.declared.Base.TheVariants.{Zero, N}
 use Rattle.flow.specs.Flow.{Flow, size, enters}
 use Rattle.theory.specs.Lists.{any, elem, concat_map, option_list, up_to}
-use Rattle.theory.specs.Body.{kind, successors, call_lines, continuationOf, entered, is_return, opaque_call}
+use Rattle.theory.specs.Body.{kind, successors, call_lines, continuation_of, entered, is_return, opaque_call}
 use Rattle.theory.specs.Doubled.{Node, Edge, at, plain, number, same_node, returns_to, edge_effects}
 use Rattle.theory.specs.Queue.{Arc}
 
@@ -54,7 +54,7 @@ unfoldable pub slots_of : Flow → Base → ℕ → Option ℕ → List (Option 
 slots_of f b i o = by_kind f i (return_slots f b i) (listed_slots f b i) (call_slots f b i) o
 
 unfoldable pub slots : Flow → Node → List (Option Edge)
-slots f v = slots_of f v.base v.stmt (continuationOf (kind f v.stmt))
+slots f v = slots_of f v.base v.stmt (continuation_of (kind f v.stmt))
 
 -- the present slots
 unfoldable pub present : List (Option Edge) → List Edge

@@ -10,7 +10,7 @@ use Rattle.flow.specs.Format.{statements_of, lines_place, line_count}
 use Rattle.theory.specs.Lists as lists
 use Rattle.theory.specs.Lists.{In}
 use Rattle.theory.specs.Body as theory
-use Rattle.theory.specs.Body.{kind, references, continuationOf, is_return, callees, touches, opaque_call, call_touches, Calls⁺}
+use Rattle.theory.specs.Body.{kind, references, continuation_of, is_return, callees, touches, opaque_call, call_touches, Calls⁺}
 use Rattle.records.specs.Clauses.Fields.{LineParts}
 use Rattle.statements.specs.Clauses.Layout.{lines_at, calls_at, call_touched_at, bodies_at, touched_at, entered_row_at}
 use Rattle.statements.specs.Clauses.Ready.{Ready, Keeps, MembersWord}
@@ -52,7 +52,7 @@ pub data BodyState (f : Flow) (ws : List ℕ) (n b : ℕ) : Type 0 where
 -- the bodies that the call c enters have been entered
 pub record CalleesEntered (f : Flow) (ws : List ℕ) (n c : ℕ) : Type 0 where
   pub continuation : ℕ
-  pub continues : continuationOf (kind f c) ≡ some continuation
+  pub continues : continuation_of (kind f c) ≡ some continuation
   pub bodies : (b : ℕ) → In b (callees f c) → body ws n b ≢ unentered
 
 -- what the state of call c says
@@ -123,14 +123,14 @@ Entered f ws vs n e false = BodySummed f ws vs n e
 
 -- call c has a continuation and no summary, if the answer says so
 abbrev pub Awaits : Flow → List ℕ → ℕ → ℕ → Bool → Type 0
-Awaits f ws n c true = (k : ℕ) × (continuationOf (kind f c) ≡ some k)
-Awaits f ws n c false = (k : ℕ) → continuationOf (kind f c) ≡ some k → call ws n c ≢ unentered
+Awaits f ws n c true = (k : ℕ) × (continuation_of (kind f c) ≡ some k)
+Awaits f ws n c false = (k : ℕ) → continuation_of (kind f c) ≡ some k → call ws n c ≢ unentered
 
 -- call c has a summary, if it has a continuation
 pub record CallSummed (f : Flow) (ws vs : List ℕ) (n c : ℕ) : Type 0 where
   pub summing : Summing f vs n
   pub onward : Onward ws vs n
-  pub done : (k : ℕ) → continuationOf (kind f c) ≡ some k → call vs n c ≢ unentered
+  pub done : (k : ℕ) → continuation_of (kind f c) ≡ some k → call vs n c ≢ unentered
 
 -- the handler's body has a summary, if there is a handler
 pub record HandlerSummed (f : Flow) (ws vs : List ℕ) (n : ℕ) : Type 0 where

@@ -6,7 +6,7 @@ use Rattle.flow.specs.declared.Header.{Header}
 use Rattle.flow.specs.Flow.{Flow, size}
 use Rattle.flow.specs.Limits.{work_words}
 use Rattle.flow.specs.Clauses.Answers.{FitFile}
-use Rattle.flow.specs.Clauses.Answers.{headerOf}
+use Rattle.flow.specs.Clauses.Answers.{header_of}
 use Rattle.theory.specs.Key.{opaque_handler}
 use Rattle.theory.specs.Live.{live_in_word, live_out_word}
 use Rattle.statements.specs.Clauses.Layout.{lines_at, matrix_at, row_words, queue_at, returns_row_at, set_words}
@@ -28,7 +28,7 @@ cleared ws n w = zeroed (zeroed ws (lines_at n) (matrix_at n - lines_at n)) (edg
 -- a fit file, its header, and a work area with room
 pub record FitFlow (s : List ℕ) (h : Header) (work : List ℕ) : Type 0 where
   pub fit : FitFile s
-  pub header : h ≡ headerOf s
+  pub header : h ≡ header_of s
   pub some : 0 < h.statements
   pub work_room : work_words h.statements ≤ length work
 
@@ -46,10 +46,10 @@ pub record MasksFound (f : Flow) (masks masks' : List ℕ) (visits : ℕ) : Type
   pub masks_size : length masks' ≡ length masks
   pub masks_kept : (x : ℕ) → size f * f.arrays ≤ x → get_or masks' x 0 ≡ get_or masks x 0
 
-pub record Findings (f : Flow) (masks masks' is_live_in liveIn' is_live_out liveOut' : List ℕ) (visits : ℕ) : Type 0 where
+pub record Findings (f : Flow) (masks masks' is_live_in live_in' is_live_out live_out' : List ℕ) (visits : ℕ) : Type 0 where
   pub found : MasksFound f masks masks' visits
-  pub live_in : Written (size f) (live_in_word f) is_live_in liveIn'
-  pub live_out : Written (size f) (live_out_word f) is_live_out liveOut'
+  pub live_in : Written (size f) (live_in_word f) is_live_in live_in'
+  pub live_out : Written (size f) (live_out_word f) is_live_out live_out'
 
 -- the calls have their summaries, and the solver's words are still zero
 pub record SummariesMade (s : List ℕ) (h : Header) (ws : List ℕ) : Type 0 where

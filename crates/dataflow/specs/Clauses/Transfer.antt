@@ -9,7 +9,7 @@ use Rattle.flow.specs.declared.Base.{Base}
 use Rattle.flow.specs.declared.Base.TheVariants.{N}
 use Rattle.flow.specs.Flow.{Flow}
 use Rattle.theory.specs.Lists.{elem}
-use Rattle.theory.specs.Body.{kind, continuationOf, entered}
+use Rattle.theory.specs.Body.{kind, continuation_of, entered}
 use Rattle.theory.specs.Key.{handler_touches}
 use Rattle.theory.specs.Doubled.{same_base, statement_effects, key_effects}
 use Rattle.theory.specs.Queue.{step_all}
@@ -53,7 +53,7 @@ is_entered f i (some k) = elem k (entered f i)
 
 -- the edge to base + the continuation of the call i is also one to n + an entered statement
 abbrev pub enters_again : Flow → Base → ℕ → Bool
-enters_again f b i = same_base b N && is_entered f i (continuationOf (kind f i))
+enters_again f b i = same_base b N && is_entered f i (continuation_of (kind f i))
 
 -- the masks of d with these effects are in the row at `row`
 pub record Acted (f : Flow) (ws vs : List ℕ) (n w d : ℕ) (effects : ℕ → List Effect) (row : ℕ) : Type 0 where

@@ -6,7 +6,7 @@ use Rattle.flow.specs.declared.Part.TheVariants.{Header, Statements, Lines, Key,
 use Rattle.flow.specs.declared.Passed.{Passed}
 use Rattle.flow.specs.declared.Passed.TheVariants.{To, Unfit}
 use Rattle.flow.specs.Format.{Check, fit, verdict, each, header_checks, statement_checks, line_count, line_record_checks, key_checks, end_checks, file_checks, lines_place, key_place, end_place}
-use Rattle.flow.specs.Clauses.Answers.{passedOf}
+use Rattle.flow.specs.Clauses.Answers.{passed_of}
 
 -- the length of the header
 abbrev pub header_end : ℕ
@@ -56,11 +56,11 @@ pub record Due (s : List ℕ) (part : Part) (at : ℕ) : Type 0 where
   pub header : header_read part ≤ length s
 
 abbrev pub part_answer : List ℕ → Part → Passed
-part_answer s part = passedOf (verdict (part_checks s part)) (part_end s part)
+part_answer s part = passed_of (verdict (part_checks s part)) (part_end s part)
 
 -- the answer for a part and all before it
 abbrev pub answer_through : List ℕ → Part → Passed
-answer_through s part = passedOf (verdict (checks_before s part ++ part_checks s part)) (part_end s part)
+answer_through s part = passed_of (verdict (checks_before s part ++ part_checks s part)) (part_end s part)
 
 -- a reader moves past a part that is fit, and stays where it is at one that is not
 abbrev pub place_after : Passed → ℕ → ℕ
@@ -69,12 +69,12 @@ place_after (Unfit r) at = at
 
 -- the parts before a part were judged with the answer `before`, and the reader stands where that led it
 pub record Judged (s : List ℕ) (part : Part) (before : Passed) (at : ℕ) : Type 0 where
-  pub told : before ≡ passedOf (verdict (checks_before s part)) (part_start s part)
+  pub told : before ≡ passed_of (verdict (checks_before s part)) (part_start s part)
   pub stands : at ≡ place_after before at
 
 -- all parts were judged with the answer `last`; in a file that is fit, the reader stood at `lines_at` before the lines, at `key_at` before the key and at `end_at` before the end
 pub record Ended (s : List ℕ) (lines_at key_at end_at : ℕ) (last : Passed) : Type 0 where
-  pub told : last ≡ passedOf (verdict (file_checks s)) (part_end s End)
+  pub told : last ≡ passed_of (verdict (file_checks s)) (part_end s End)
   pub lines : verdict (file_checks s) ≡ fit → lines_at ≡ lines_place s
   pub key : verdict (file_checks s) ≡ fit → key_at ≡ key_place s
   pub ends : verdict (file_checks s) ≡ fit → end_at ≡ end_place s

@@ -8,19 +8,19 @@ use Rattle.masks.proofs.Sets.{chosen_bits}
 use Rattle.masks.proofs.holders_by_none.Statement.{statement}
 use Rattle.masks.proofs.holders_by_none.Tie as tie
 
-add_step : tie.Need-overflow-add-step
+add_step : tie.Need-overflow_add-mask
 add_step c = search rules
 
 step-requires : tie.Need-step-requires
 step-requires c κs = search rules
 
-spread-requires : tie.Need-spread-requires
+spread-requires : tie.Need-spread-with-requires
 spread-requires c κs = search rules
 
 step-requires-2 : tie.Need-step-requires-2
 step-requires-2 c κs = search rules
 
-spread-requires-2 : tie.Need-spread-requires-2
+spread-requires-2 : tie.Need-spread-without-requires
 spread-requires-2 c κs = search rules
 
 choose-requires : tie.Need-choose-requires
@@ -28,15 +28,15 @@ choose-requires c κs = search rules
 
 returns : tie.Need-returns
 returns c =
-    let with = c.before.before.before in
-    let without = c.before in
-    let s : ℕ = with.before.before.args.s in
-    chosen_bits 1 (record { member = λ j l. with.spread.ensures j l ∙ ap (λ (m : ℕ). bit m s) with.before.step.ensures })
-    (record { member = λ j l. without.spread2.ensures j l ∙ ap (λ (m : ℕ). bit m s) without.before.step2.ensures })
+    let with = c in
+    let without = c in
+    let s : ℕ = with.args.s in
+    chosen_bits 1 (record { member = λ j l. with.spread-with.ensures j l ∙ ap (λ (m : ℕ). bit m s) with.step.ensures })
+    (record { member = λ j l. without.spread-without.ensures j l ∙ ap (λ (m : ℕ). bit m s) without.step-2.ensures })
     c.choose.ensures (λ j. refl) (λ j. omega arith)
 
-pub holders-by-none-spec : {M : Type 1} → statement M
-holders-by-none-spec =
+pub holders_by_none_spec : {M : Type 1} → statement M
+holders_by_none_spec =
     tie.close
     (tie.spec
     add_step

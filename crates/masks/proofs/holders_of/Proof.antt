@@ -8,10 +8,10 @@ use Rattle.masks.proofs.Sets.{chosen_bits}
 use Rattle.masks.proofs.holders_of.Statement.{statement}
 use Rattle.masks.proofs.holders_of.Tie as tie
 
-holders-by-auto-requires : tie.Need-holders-by-auto-requires
+holders-by-auto-requires : tie.Need-holders_by_auto-with-requires
 holders-by-auto-requires c κs = search rules
 
-holders-by-auto-requires-2 : tie.Need-holders-by-auto-requires-2
+holders-by-auto-requires-2 : tie.Need-holders_by_auto-without-requires
 holders-by-auto-requires-2 c κs = search rules
 
 choose-requires : tie.Need-choose-requires
@@ -19,12 +19,12 @@ choose-requires c κs = search rules
 
 returns : tie.Need-returns
 returns c =
-    let a = c.before.before.before.args in
+    let a = c.args in
     let whole : StepBits a.effect (λ j. mask_of (bit a.none j) (bit a.auto j) (bit a.dimmed j)) a.s c.choose.result =
-    chosen_bits 4 c.before.before.holders-by-auto.ensures c.before.holders-by-auto2.ensures c.choose.ensures (λ j. omega arith) (λ j. omega arith) in
+    chosen_bits 4 c.holders_by_auto-with.ensures c.holders_by_auto-without.ensures c.choose.ensures (λ j. omega arith) (λ j. omega arith) in
     record { member = whole.member }
 
-pub holders-of-spec : {M : Type 1} → statement M
-holders-of-spec =
+pub holders_of_spec : {M : Type 1} → statement M
+holders_of_spec =
     tie.close
     (tie.spec holders-by-auto-requires holders-by-auto-requires-2 choose-requires returns)

@@ -14,53 +14,53 @@ use Rattle.masks.proofs.row.Tie as tie
 named : {e f : Effect} {entries : List ℕ} → e ≡ f → RowOf f entries → RowOf e entries
 named {entries = entries} p = subst (λ (x : Effect). RowOf x entries) (sym p)
 
-table-requires : tie.Need-table-requires
+table-requires : tie.Need-table-steps-requires
 table-requires c κs = search rules
 
-enum_told : tie.Need-enum-told
+enum_told : tie.Need-enum_told-1
 enum_told c = search rules
 
-array-copy-out-result : tie.Need-array-copy-out-result
+array-copy-out-result : tie.Need-bounds-steps-0
 array-copy-out-result c = search rules
 
-enum-told-2 : tie.Need-enum-told-2
+enum-told-2 : tie.Need-enum_told-in-Reference
 enum-told-2 c = search rules
 
-array-copy-out-result-2 : tie.Need-array-copy-out-result-2
+array-copy-out-result-2 : tie.Need-bounds-steps-1
 array-copy-out-result-2 c = search rules
 
-enum-told-3 : tie.Need-enum-told-3
+enum-told-3 : tie.Need-enum_told-in-Dim
 enum-told-3 c = search rules
 
-array-copy-out-result-3 : tie.Need-array-copy-out-result-3
+array-copy-out-result-3 : tie.Need-bounds-steps-2
 array-copy-out-result-3 c = search rules
 
-enum-told-4 : tie.Need-enum-told-4
+enum-told-4 : tie.Need-enum_told-in-Touched
 enum-told-4 c = search rules
 
-array-copy-out-result-4 : tie.Need-array-copy-out-result-4
+array-copy-out-result-4 : tie.Need-bounds-steps-3
 array-copy-out-result-4 c = search rules
 
-enum-told-5 : tie.Need-enum-told-5
+enum-told-5 : tie.Need-enum_told-in-Reset
 enum-told-5 c = search rules
 
-returns : tie.Need-returns
-returns c = named c.before.enum_told.given.1 (c.before.before.before.table.ensures.row 0 (omega arith))
+returns : tie.Need-returns-in-None
+returns c = named c.in-None.is (c.table-steps.ensures.row 0 (omega arith))
 
-returns-2 : tie.Need-returns-2
-returns-2 c = named c.before.enum-told2.given.1 (c.before.before.before.table.ensures.row 1 (omega arith))
+returns-2 : tie.Need-returns-in-Reference
+returns-2 c = named c.in-Reference.is (c.table-steps.ensures.row 1 (omega arith))
 
-returns-3 : tie.Need-returns-3
-returns-3 c = named c.before.enum-told3.given.1 (c.before.before.before.table.ensures.row 2 (omega arith))
+returns-3 : tie.Need-returns-in-Dim
+returns-3 c = named c.in-Dim.is (c.table-steps.ensures.row 2 (omega arith))
 
-returns-4 : tie.Need-returns-4
-returns-4 c = named c.before.enum-told4.given.1 (c.before.before.before.table.ensures.row 3 (omega arith))
+returns-4 : tie.Need-returns-in-Touched
+returns-4 c = named c.in-Touched.is (c.table-steps.ensures.row 3 (omega arith))
 
-returns-5 : tie.Need-returns-5
-returns-5 c = named c.enum-told5.given.1 (computed_row Reset _ tt)
+returns-5 : tie.Need-returns-in-Reset
+returns-5 c = named c.in-Reset.is (computed_row Reset _ tt)
 
-pub row-spec : {M : Type 1} → statement M
-row-spec =
+pub row_spec : {M : Type 1} → statement M
+row_spec =
     tie.close
     (tie.spec
     table-requires

@@ -8,5 +8,5 @@ use Rattle.masks.proofs.table.Tie as tie
 returns : tie.Need-returns
 returns c = right_table _ refl
 
-pub table-spec : {M : Type 1} → statement M
-table-spec = tie.close (tie.spec returns)
+pub table_spec : {M : Type 1} → statement M
+table_spec = tie.close (tie.spec returns)

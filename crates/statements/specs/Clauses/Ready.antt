@@ -2,14 +2,14 @@
 -- found fit. `RecordOf` says what a statement's record then is, and `Keeps` of a phase that it writes only a run of words.
 use Rattle.std.specs.Prelude.{ℕ, ◌+◌, ◌^◌, ◌<◌, ◌≤◌, List, ◌≡◌, Bool, cond, ◌||◌, eqb, ltb, length, get_or}
 use Rattle.flow.specs.declared.Header.{Header}
-use Rattle.flow.specs.Clauses.Answers.{headerOf}
+use Rattle.flow.specs.Clauses.Answers.{header_of}
 use Rattle.flow.specs.Flow.{Flow, Item, statement, items}
 use Rattle.words.specs.Clauses.Row.{bit}
 use Rattle.flow.specs.Limits.{work_words}
 use Rattle.flow.specs.Format.{flow_of, tabulate, statements_of, line_count, record_place, kind_return, kind_clr, kind_run, kind_gosub, kind_at, successor_count, successor_at, reference_count, reference_at, written_at, read_at, item_at}
 use Rattle.flow.specs.Clauses.Answers.{FitFile, FitRecord}
 use Rattle.records.specs.Clauses.Fields.{noted_word, LineParts, item_count, call_line_count, call_line_at, continuation_in}
-use Rattle.theory.specs.Body.{kind, successors, references, call_lines, continuationOf, is_return}
+use Rattle.theory.specs.Body.{kind, successors, references, call_lines, continuation_of, is_return}
 use Rattle.theory.specs.Sure.{is_gosub}
 use Rattle.theory.specs.Doubled.{resets}
 use Rattle.statements.specs.Clauses.Layout.{offsets_at, lines_at}
@@ -24,7 +24,7 @@ pub record Ready (s ws : List ℕ) (n : ℕ) : Type 0 where
 pub record Indexed (s : List ℕ) (h : Header) (ws : List ℕ) : Type 0 where
   pub ready : Ready s ws h.statements
   pub lines : LineParts s ws (lines_at h.statements) h.statements (line_count s)
-  pub header : h ≡ headerOf s
+  pub header : h ≡ header_of s
 
 -- the elements of l are f 0, f 1, .. of n elements
 pub record Elements {A : Type 0} (l : List A) (n : ℕ) (f : ℕ → A) : Type 0 where
@@ -45,7 +45,7 @@ pub record RecordOf (s : List ℕ) (i p : ℕ) : Type 0 where
   pub read : (statement (flow_of s) i).read ≡ read_at s p
   pub items : Elements (items (kind (flow_of s) i)) (item_count s p) (item_at s p)
   pub lines : Elements (call_lines (kind (flow_of s) i)) (call_line_count s p) (call_line_at s p)
-  pub continuation : continuationOf (kind (flow_of s) i) ≡ continuation_in s p
+  pub continuation : continuation_of (kind (flow_of s) i) ≡ continuation_in s p
 
 -- statement i does something to masks: CLR, RUN, a DIM that has items, or any with references
 unfoldable pub acts_in : Flow → ℕ → Bool

@@ -6,22 +6,22 @@ use Rattle.words.specs.Clauses.Row.{bit, has}
 use Rattle.words.proofs.contains.Statement.{statement}
 use Rattle.words.proofs.contains.Tie as tie
 
-add-result : tie.Need-overflow-add-result
+add-result : tie.Need-overflow_add-result
 add-result c = search rules
 
-mul-result : tie.Need-overflow-mul-result
+mul-result : tie.Need-offset_bounds-ws-base
 mul-result c = search rules
 
-shared-slice-read-result : tie.Need-shared-slice-read-result
+shared-slice-read-result : tie.Need-bounds-ws-base
 shared-slice-read-result c = search rules
 
-shr-result : tie.Need-overflow-shr-result
+shr-result : tie.Need-overflow_shr-result
 shr-result c = search rules
 
 returns : tie.Need-returns
 unfolding has bit
 returns c = refl
 
-pub contains-spec : {M : Type 1} → statement M
-contains-spec =
+pub contains_spec : {M : Type 1} → statement M
+contains_spec =
     tie.close (tie.spec add-result mul-result shared-slice-read-result shr-result returns)

@@ -10,51 +10,51 @@ use Rattle.words.proofs.Row.{members-le, members-suc}
 use Rattle.words.proofs.count.Statement.{statement}
 use Rattle.words.proofs.count.Tie as tie
 
-abbrev invariant-loop : tie.invariant-loop
+abbrev invariant-loop : tie.invariant-loop-k
 invariant-loop ws base width n₀ k₀ n k = (k ≤ width) × (n ≡ members ws base k)
 
-abbrev decreases-loop : tie.decreases-loop
+abbrev decreases-loop : tie.decreases-loop-k
 decreases-loop ws base width n₀ k₀ n k = width - k
 
-loop-holds : tie.Need-loop-init invariant-loop decreases-loop
+loop-holds : tie.Need-loop-k-init invariant-loop decreases-loop
 unfolding members tally
 loop-holds c = (search rules, refl)
 
-add-n : tie.Need-overflow-add-n invariant-loop decreases-loop
+add-n : tie.Need-overflow_add-n invariant-loop decreases-loop
 add-n c = search rules
 
-mul-n : tie.Need-overflow-mul-n invariant-loop decreases-loop
+mul-n : tie.Need-offset_bounds-ws-base invariant-loop decreases-loop
 mul-n c = search rules
 
-shared-slice-read-n : tie.Need-shared-slice-read-n invariant-loop decreases-loop
+shared-slice-read-n : tie.Need-bounds-ws-base invariant-loop decreases-loop
 shared-slice-read-n c = search rules
 
-cast-n : tie.Need-overflow-cast-n invariant-loop decreases-loop
+cast-n : tie.Need-overflow_cast-n invariant-loop decreases-loop
 cast-n c =
-    let word = c.shared-slice-known.given (c.before.before.before.args.base + c.before.before.loop.k) in
+    let word = c.shared_slice_known-1.given (c.before.before.before.args.base + c.before.before.loop-k.k) in
     omega (arith, ones-le 64 _ word.fits)
 
-add-n-2 : tie.Need-overflow-add-n-2 invariant-loop decreases-loop
+add-n-2 : tie.Need-overflow_add-n-in-loop-k invariant-loop decreases-loop
 add-n-2 c =
-    let word = c.shared-slice-known.given (c.before.before.before.args.base + c.before.before.loop.k) in
-    omega (arith, ones-le 64 _ word.fits, members-le c.before.before.before.args.ws.now c.before.before.before.args.base c.before.before.loop.k)
+    let word = c.shared_slice_known-1.given (c.before.before.before.args.base + c.before.before.loop-k.k) in
+    omega (arith, ones-le 64 _ word.fits, members-le c.before.before.before.args.ws.now c.before.before.before.args.base c.before.before.loop-k.k)
 
-add-k : tie.Need-overflow-add-k invariant-loop decreases-loop
+add-k : tie.Need-overflow_add-k invariant-loop decreases-loop
 add-k c = search rules
 
-loop-less : tie.Need-loop-smaller invariant-loop decreases-loop
+loop-less : tie.Need-loop-k-smaller invariant-loop decreases-loop
 loop-less c = search rules
 
-loop-again : tie.Need-loop-preserved invariant-loop decreases-loop
+loop-again : tie.Need-loop-k-preserved invariant-loop decreases-loop
 loop-again c =
-    let word = c.shared-slice-known.given (c.before.before.before.args.base + c.before.before.loop.k) in
-    let more = members-suc c.before.before.before.args.ws.now c.before.before.before.args.base c.before.before.loop.k word.fits in
+    let word = c.shared_slice_known-1.given (c.before.before.before.args.base + c.before.before.loop-k.k) in
+    let more = members-suc c.before.before.before.args.ws.now c.before.before.before.args.base c.before.before.loop-k.k word.fits in
     (omega arith, omega (arith, more))
 
 returns : tie.Need-returns invariant-loop decreases-loop
 returns c =
-    let whole : c.before.loop.k ≡ c.before.before.args.width = omega arith in
-    c.before.loop.invariant.1 ∙ ap (members _ _) whole
+    let whole : c.before.loop-k.k ≡ c.before.before.args.width = omega arith in
+    c.before.loop-k.invariant.1 ∙ ap (members _ _) whole
 
 pub count_spec : {M : Type 1} → statement M
 count_spec =

@@ -9,5 +9,5 @@ returns : tie.Need-returns
 unfolding without
 returns c = refl
 
-pub difference-spec : {M : Type 1} → statement M
-difference-spec = tie.close (tie.spec returns)
+pub difference_spec : {M : Type 1} → statement M
+difference_spec = tie.close (tie.spec returns)

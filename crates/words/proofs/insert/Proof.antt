@@ -14,23 +14,23 @@ use Rattle.words.proofs.Bit.{one_shl, or_changes}
 use Rattle.words.proofs.insert.Statement.{statement}
 use Rattle.words.proofs.insert.Tie as tie
 
-add-union-word : tie.Need-overflow-add-union-word
+add-union-word : tie.Need-overflow_add-base
 add-union-word c = search rules
 
-shl-union-word : tie.Need-overflow-shl-union-word
+shl-union-word : tie.Need-overflow_shl-i
 shl-union-word c = search rules
 
-union-word-requires : tie.Need-union-word-requires
+union-word-requires : tie.Need-union_word-requires
 union-word-requires c κs = search rules
 
-same_length : tie.Need-same-length
+same_length : tie.Need-shape_of-ws
 same_length c = search rules
 
 returns : tie.Need-returns
 unfolding inserted has
 returns c =
     let a = c.before.before.before.before.before.args in
-    let e = c.before.before.union-word.ensures in
+    let e = c.before.before.union_word.ensures in
     let one : 1 * 2 ^ (a.i % 64) % 2 ^ 64 ≡ 2 ^ (a.i % 64) = one_shl (a.i % 64) (omega arith) in
     record {
       slice = e.slice ∙ ap (joined a.ws.now (a.base + a.i / 64)) one;
@@ -38,6 +38,6 @@ returns c =
           ∙ or_changes (get_or a.ws.now (a.base + a.i / 64) 0) (a.i % 64);
     }
 
-pub insert-spec : {M : Type 1} → statement M
-insert-spec =
+pub insert_spec : {M : Type 1} → statement M
+insert_spec =
     tie.close (tie.spec add-union-word shl-union-word union-word-requires same_length returns)

@@ -12,55 +12,55 @@ use Rattle.words.proofs.NextMember.{next_past, next_here, next_word, next_bit}
 use Rattle.words.proofs.next.Statement.{statement}
 use Rattle.words.proofs.next.Tie as tie
 
-returns : tie.Need-returns
-returns c = sym (next_past _ _ _ _ c.if1.true)
+returns : tie.Need-returns-then-bound-from
+returns c = sym (next_past _ _ _ _ c.if-bound-from.true)
 
-add-rest : tie.Need-overflow-add-rest
+add-rest : tie.Need-overflow_add-rest
 add-rest c = search rules
 
-mul-rest : tie.Need-overflow-mul-rest
+mul-rest : tie.Need-offset_bounds-ws-base
 mul-rest c = search rules
 
-shared-slice-read-rest : tie.Need-shared-slice-read-rest
+shared-slice-read-rest : tie.Need-bounds-ws-base
 shared-slice-read-rest c = search rules
 
-shr-rest : tie.Need-overflow-shr-rest
+shr-rest : tie.Need-overflow_shr-rest
 shr-rest c = search rules
 
-returns-2 : tie.Need-returns-2
+returns-2 : tie.Need-returns-then-rest-eq1
 unfolding has bit
 returns-2 c =
     let a = c.before.before.before.before.args in
-    sym (next_here a.ws.now a.base a.from a.bound c.if2.true (search rules))
+    sym (next_here a.ws.now a.base a.from a.bound c.if-rest-eq1.true (search rules))
 
-cast-forward : tie.Need-overflow-cast-forward
+cast-forward : tie.Need-overflow_cast-rest
 cast-forward c = record { fits = lt_of_le_of_lt (trailing_le 64 _) (lit< tt) }
 
 forward-requires : tie.Need-forward-requires
 forward-requires c κs = search rules
 
-returns-3 : tie.Need-returns-3
+returns-3 : tie.Need-returns-then-rest-ne0
 returns-3 c =
     let a = c.before.before.before.before.before.before.args in
-    let word = c.before.before.before.shared-slice-known2.given (a.base + a.from / 64) in
+    let word = c.before.before.before.shared_slice_known-2-1.given (a.base + a.from / 64) in
     c.forward.ensures
-    ∙ sym (next_bit a.ws.now a.base a.from a.bound (search rules) word.fits (omega (arith, c.before.if3.true)))
+    ∙ sym (next_bit a.ws.now a.base a.from a.bound (search rules) word.fits (omega (arith, c.before.if-rest-ne0.true)))
 
-add-next-by-word : tie.Need-overflow-add-next-by-word
+add-next-by-word : tie.Need-overflow_add-from
 add-next-by-word c = search rules
 
-next-by-word-requires : tie.Need-next-by-word-requires
+next-by-word-requires : tie.Need-next_by_word-requires
 next-by-word-requires c κs = search rules
 
-returns-4 : tie.Need-returns-4
+returns-4 : tie.Need-returns
 returns-4 c =
     let a = c.before.before.before.before.before.before.args in
     let on : min (64 * (a.from / 64 + 1)) a.bound ≡ min (a.from + (64 - a.from % 64)) a.bound = omega arith in
-    c.next-by-word.ensures ∙ ap (λ (x : ℕ). next_member a.ws.now a.base x a.bound) on
-    ∙ sym (next_word a.ws.now a.base a.from a.bound (search rules) c.before.if3.false)
+    c.next_by_word.ensures ∙ ap (λ (x : ℕ). next_member a.ws.now a.base x a.bound) on
+    ∙ sym (next_word a.ws.now a.base a.from a.bound (search rules) c.before.if-rest-ne0.false)
 
-pub next-spec : {M : Type 1} → statement M
-next-spec =
+pub next_spec : {M : Type 1} → statement M
+next_spec =
     tie.close
     (tie.spec
     returns

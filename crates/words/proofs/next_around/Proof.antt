@@ -8,23 +8,23 @@ use borrow.Author.Rules.{rules}
 use Rattle.words.proofs.next_around.Statement.{statement}
 use Rattle.words.proofs.next_around.Tie as tie
 
-next-requires : tie.Need-next-requires
+next-requires : tie.Need-next-later-requires
 next-requires c κs = search rules
 
-returns : tie.Need-returns
+returns : tie.Need-returns-then-later-bound
 returns c =
     let a = c.before.before.before.args in
-    let found : First a.ws.now a.base a.from a.bound c.before.next.result = subst (First a.ws.now a.base a.from a.bound) (sym c.before.next.ensures) (first a.ws.now a.base a.from a.bound c.before.before.before.requires.1) in
+    let found : First a.ws.now a.base a.from a.bound c.before.next-later.result = subst (First a.ws.now a.base a.from a.bound) (sym c.before.next-later.ensures) (first a.ws.now a.base a.from a.bound c.before.before.before.requires.1) in
     record { high = found.high; member = found.member; none = λ b. absurd (omega arith) }
 
-next-requires-2 : tie.Need-next-requires-2
+next-requires-2 : tie.Need-next-requires
 next-requires-2 c κs = search rules
 
-returns-2 : tie.Need-returns-2
+returns-2 : tie.Need-returns
 returns-2 c =
     let a = c.before.before.before.before.args in
-    let found : First a.ws.now a.base 0 a.bound c.next2.result = subst (First a.ws.now a.base 0 a.bound) (sym c.next2.ensures) (first a.ws.now a.base 0 a.bound (omega arith)) in
+    let found : First a.ws.now a.base 0 a.bound c.next.result = subst (First a.ws.now a.base 0 a.bound) (sym c.next.ensures) (first a.ws.now a.base 0 a.bound (omega arith)) in
     record { high = found.high; member = found.member; none = λ b j l. found.none j (omega arith) (omega arith) }
 
-pub next-around-spec : {M : Type 1} → statement M
-next-around-spec = tie.close (tie.spec next-requires returns next-requires-2 returns-2)
+pub next_around_spec : {M : Type 1} → statement M
+next_around_spec = tie.close (tie.spec next-requires returns next-requires-2 returns-2)

@@ -12,64 +12,64 @@ use Rattle.words.proofs.NextMember.{next_past, next-zero-word, next_whole_bit}
 use Rattle.words.proofs.next_by_word.Statement.{statement}
 use Rattle.words.proofs.next_by_word.Tie as tie
 
-abbrev invariant-loop : tie.invariant-loop
+abbrev invariant-loop : tie.invariant-loop-k
 invariant-loop ws base first bound last k₀ k = next_member ws base (min (64 * first) bound) bound ≡ next_member ws base (min (64 * k) bound) bound
 
-abbrev decreases-loop : tie.decreases-loop
+abbrev decreases-loop : tie.decreases-loop-k
 decreases-loop ws base first bound last k₀ k = last + 1 - k
 
-sub-last : tie.Need-overflow-sub-last invariant-loop decreases-loop
+sub-last : tie.Need-overflow_sub-last invariant-loop decreases-loop
 sub-last c = search rules
 
-loop-holds : tie.Need-loop-init invariant-loop decreases-loop
+loop-holds : tie.Need-loop-k-init invariant-loop decreases-loop
 loop-holds c = refl
 
-add-word : tie.Need-overflow-add-word invariant-loop decreases-loop
+add-word : tie.Need-overflow_add-word invariant-loop decreases-loop
 add-word c = search rules
 
-mul-word : tie.Need-overflow-mul-word invariant-loop decreases-loop
+mul-word : tie.Need-offset_bounds-ws-base invariant-loop decreases-loop
 mul-word c = search rules
 
-shared-slice-read-word : tie.Need-shared-slice-read-word invariant-loop decreases-loop
+shared-slice-read-word : tie.Need-bounds-ws-base invariant-loop decreases-loop
 shared-slice-read-word c = search rules
 
-mul-forward : tie.Need-overflow-mul-forward invariant-loop decreases-loop
+mul-forward : tie.Need-overflow_mul-k invariant-loop decreases-loop
 mul-forward c = search rules
 
-cast-forward : tie.Need-overflow-cast-forward invariant-loop decreases-loop
+cast-forward : tie.Need-overflow_cast-word invariant-loop decreases-loop
 cast-forward c = record { fits = lt_of_le_of_lt (trailing_le 64 _) (lit< tt) }
 
 forward-requires : tie.Need-forward-requires invariant-loop decreases-loop
 forward-requires c κs = search rules
 
-returns : tie.Need-returns invariant-loop decreases-loop
+returns : tie.Need-returns-then-word-ne0 invariant-loop decreases-loop
 returns c =
     let a = c.before.before.before.before.before.before.args in
-    let s = c.before.before.before.before.loop in
-    let word = c.before.before.shared-slice-known2.given (a.base + s.k) in
+    let s = c.before.before.before.before.loop-k in
+    let word = c.before.before.shared_slice_known-in-loop-k-1.given (a.base + s.k) in
     c.forward.ensures
-    ∙ sym (s.invariant ∙ next_whole_bit a.ws.now a.base s.k a.bound (search rules) word.fits (omega (arith, c.before.if1.true)))
+    ∙ sym (s.invariant ∙ next_whole_bit a.ws.now a.base s.k a.bound (search rules) word.fits (omega (arith, c.before.if-word-ne0.true)))
 
-add-k : tie.Need-overflow-add-k invariant-loop decreases-loop
+add-k : tie.Need-overflow_add-k invariant-loop decreases-loop
 add-k c = search rules
 
-loop-less : tie.Need-loop-smaller invariant-loop decreases-loop
+loop-less : tie.Need-loop-k-smaller invariant-loop decreases-loop
 loop-less c = search rules
 
-loop-again : tie.Need-loop-preserved invariant-loop decreases-loop
+loop-again : tie.Need-loop-k-preserved invariant-loop decreases-loop
 loop-again c =
     let a = c.before.before.before.before.before.args in
-    let s = c.before.before.before.loop in
-    s.invariant ∙ next-zero-word a.ws.now a.base s.k a.bound (search rules) c.if1.false
+    let s = c.before.before.before.loop-k in
+    s.invariant ∙ next-zero-word a.ws.now a.base s.k a.bound (search rules) c.if-word-ne0.false
 
-returns-2 : tie.Need-returns-2 invariant-loop decreases-loop
+returns-2 : tie.Need-returns invariant-loop decreases-loop
 returns-2 c =
     let a = c.before.before.before.args in
-    let past : min (64 * c.before.loop.k) a.bound ≡ a.bound = omega arith in
-    sym (c.before.loop.invariant ∙ ap (λ (x : ℕ). next_member a.ws.now a.base x a.bound) past ∙ next_past _ _ _ _ (le_refl a.bound))
+    let past : min (64 * c.before.loop-k.k) a.bound ≡ a.bound = omega arith in
+    sym (c.before.loop-k.invariant ∙ ap (λ (x : ℕ). next_member a.ws.now a.base x a.bound) past ∙ next_past _ _ _ _ (le_refl a.bound))
 
-pub next-by-word-spec : {M : Type 1} → statement M
-next-by-word-spec =
+pub next_by_word_spec : {M : Type 1} → statement M
+next_by_word_spec =
     tie.close
     (tie.spec
     invariant-loop

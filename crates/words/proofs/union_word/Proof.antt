@@ -6,25 +6,25 @@ use Rattle.words.specs.Clauses.Change.{joined}
 use Rattle.words.proofs.union_word.Statement.{statement}
 use Rattle.words.proofs.union_word.Tie as tie
 
-mul-old : tie.Need-overflow-mul-old
+mul-old : tie.Need-offset_bounds-ws-at
 mul-old c = search rules
 
-slice-read-old : tie.Need-slice-read-old
+slice-read-old : tie.Need-bounds-ws-at
 slice-read-old c = search rules
 
-mul-ws : tie.Need-overflow-mul-ws
+mul-ws : tie.Need-offset_bounds-ws-at-2
 mul-ws c = search rules
 
-slice-write-ws : tie.Need-slice-write-ws
+slice-write-ws : tie.Need-bounds-ws-at-2
 slice-write-ws c = search rules
 
-same_length : tie.Need-same-length
+same_length : tie.Need-shape_of-ws
 same_length c = search rules
 
 returns : tie.Need-returns
 unfolding joined
 returns c = record { slice = refl; grew = refl }
 
-pub union-word-spec : {M : Type 1} → statement M
-union-word-spec =
+pub union_word_spec : {M : Type 1} → statement M
+union_word_spec =
     tie.close (tie.spec mul-old slice-read-old mul-ws slice-write-ws same_length returns)

@@ -10,7 +10,7 @@ use lib.ListN.{length}
 use Rattle.flow.specs.declared.Header.{Header}
 use Rattle.flow.specs.Limits.{work_words, max_statements, max_arrays}
 use Rattle.flow.specs.Format.{statements_of, arrays_of, flow_of}
-use Rattle.flow.specs.Clauses.Answers.{FitFile, headerOf}
+use Rattle.flow.specs.Clauses.Answers.{FitFile, header_of}
 use Rattle.records.proofs.Files.{limited}
 use Rattle.records.proofs.Statements.{size_is}
 use Rattle.theory.specs.Accept.{proposed}
@@ -36,7 +36,7 @@ module _ (c : tie.After-known-told) where
   fits : FitFile start.args.file.now
   fits = file-fit _ _ c.before.before.before.check-file.ensures c.before.found.given.1
 
-  header : h ≡ headerOf start.args.file.now
+  header : h ≡ header_of start.args.file.now
   header = header_is _ _ c.before.before.before.check-file.ensures c.before.found.given.1
 
   few : h.statements ≤ max_statements

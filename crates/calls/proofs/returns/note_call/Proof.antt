@@ -6,7 +6,7 @@ use mathlib.Core.Path.{◌≡◌, sym, ap, ◌∙◌}
 use borrow.Author.Rules.{rules}
 use lib.ListN.{get_or}
 use Rattle.flow.specs.Format.{flow_of}
-use Rattle.theory.specs.Body.{kind, continuationOf}
+use Rattle.theory.specs.Body.{kind, continuation_of}
 use Rattle.statements.proofs.Keeps.{ready-most, ready_formed, ready-below}
 use Rattle.calls.proofs.Checked.{continues-to, continues_nowhere}
 use Rattle.calls.proofs.Gathered.{call_none, call-transparent, call-opaque}
@@ -38,7 +38,7 @@ enum-known-k : tie.Need-enum-known-k
 enum-known-k c = search rules
 
 -- the call goes on at k
-continued : (c : tie.After-k) → let a = c.before.before.before.before.before.before.before.before.before.before.args in continuationOf (kind (flow_of a.file.now) a.c.0) ≡ some c.k.given.0.0.0
+continued : (c : tie.After-k) → let a = c.before.before.before.before.before.before.before.before.before.before.args in continuation_of (kind (flow_of a.file.now) a.c.0) ≡ some c.k.given.0.0.0
 continued c = continues-to _ _ (sym c.before.before.continuation.ensures ∙ c.k.given.1)
 
 note-bodies-requires : tie.Need-note-bodies-requires
@@ -68,7 +68,7 @@ same-length-2 c = search rules
 returns-3 : tie.Need-returns-3
 returns-3 c =
     let a = c.before.before.before.before.before.before.before.before.before.before.args in
-    call_none a.c.0 (continues_nowhere (continuationOf (kind (flow_of a.file.now) a.c.0)) (sym c.before.before.continuation.ensures ∙ c.enum_told.given.1))
+    call_none a.c.0 (continues_nowhere (continuation_of (kind (flow_of a.file.now) a.c.0)) (sym c.before.before.continuation.ensures ∙ c.enum_told.given.1))
 
 pub note-call-spec : {M : Type 1} → statement M
 note-call-spec =

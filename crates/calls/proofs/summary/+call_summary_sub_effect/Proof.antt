@@ -13,7 +13,7 @@ use lib.ListN.{length, get_or, set, length-set}
 use Rattle.flow.specs.Flow.{enters}
 use Rattle.flow.specs.Format.{flow_of, statements_of}
 use Rattle.theory.specs.Lists as lists
-use Rattle.theory.specs.Body.{kind, call_lines, continuationOf, callees, Walks}
+use Rattle.theory.specs.Body.{kind, call_lines, continuation_of, callees, Walks}
 use Rattle.statements.specs.Clauses.Layout.{matrix_at, calls_at, bodies_at}
 use Rattle.statements.specs.Clauses.Ready.{Ready}
 use Rattle.statements.proofs.Keeps.{ready-keeps, ready-most, ready-size, ready_formed}
@@ -154,7 +154,7 @@ module _ (t : ℕ) (c : call-summary-lts.After-line-count (call-claims t) (call-
   abbrev call-lines : List ℕ
   call-lines = call_lines (kind (flow_of call-start.args.file.now) call-start.args.c.0)
 
-  continued : (k : ℕ) × (continuationOf (kind (flow_of call-start.args.file.now) call-start.args.c.0) ≡ some k)
+  continued : (k : ℕ) × (continuation_of (kind (flow_of call-start.args.file.now) call-start.args.c.0) ≡ some k)
   continued = subst (Awaits (flow_of call-start.args.file.now) call-start.args.work.now call-n call-start.args.c.0) (not-false c.before.before.before.before.awaits.result c.before.before.before.if1.false) c.before.before.before.before.awaits.ensures
 
 -- a turn

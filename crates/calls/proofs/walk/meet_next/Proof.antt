@@ -5,7 +5,7 @@ use mathlib.Core.Option.{none, some}
 use mathlib.Core.Path.{◌≡◌, sym, ◌∙◌}
 use borrow.Author.Rules.{rules}
 use Rattle.flow.specs.Format.{flow_of}
-use Rattle.theory.specs.Body.{kind, continuationOf, is_return}
+use Rattle.theory.specs.Body.{kind, continuation_of, is_return}
 use Rattle.statements.proofs.Keeps.{ready_formed, ready-below}
 use Rattle.calls.proofs.Checked.{continues-to, continues_nowhere}
 use Rattle.calls.proofs.Walking.{met-return, met_next}
@@ -17,7 +17,7 @@ module _ (c : tie.After-k) where
   abbrev start : tie.Start
   start = c.before.before.before.before.before.before.before.before.before
 
-  continued : continuationOf (kind (flow_of start.args.file.now) start.args.i.0) ≡ some c.k.given.0.0.0
+  continued : continuation_of (kind (flow_of start.args.file.now) start.args.i.0) ≡ some c.k.given.0.0.0
   continued = continues-to _ _ (sym c.before.before.continuation.ensures ∙ c.k.given.1)
 
 not-return : (c : tie.After-continuation) → is_return (kind (flow_of c.before.before.before.before.before.before.before.args.file.now) c.before.before.before.before.before.before.before.args.i.0) ≡ false

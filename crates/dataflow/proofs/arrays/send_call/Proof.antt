@@ -11,7 +11,7 @@ use lib.ListN.{length}
 use Rattle.flow.specs.Flow.{size}
 use Rattle.flow.specs.Format.{flow_of}
 use Rattle.records.proofs.Files.{limited}
-use Rattle.theory.specs.Body.{kind, call_lines, continuationOf}
+use Rattle.theory.specs.Body.{kind, call_lines, continuation_of}
 use Rattle.theory.specs.Doubled.{Node, Edge}
 use Rattle.theory.proofs.Lists.{and-true}
 use Rattle.statements.specs.Clauses.Layout.{queue_at}
@@ -35,7 +35,7 @@ call-of-requires c κs = search rules
 
 -- a continuation is a statement, and so it has its place in a row
 
-continuation_in_lem : (c : tie.Start) {k : ℕ} → continuationOf (kind (flow_of c.args.file.now) c.args.i.0) ≡ some k → k < size (flow_of c.args.file.now)
+continuation_in_lem : (c : tie.Start) {k : ℕ} → continuation_of (kind (flow_of c.args.file.now) c.args.i.0) ≡ some k → k < size (flow_of c.args.file.now)
 continuation_in_lem c e = (ready_formed c.requires.1.ready).continuation c.args.i.0 _ e
 
 in_row : (row : ℕ) {m k size : ℕ} → k < m → row + (m + 63) / 64 ≤ size → row + k / 64 < size

@@ -12,7 +12,7 @@ use lib.ListN.{length}
 use Rattle.flow.specs.declared.Header.{Header}
 use Rattle.flow.specs.Limits.{work_words, max_statements}
 use Rattle.flow.specs.Format.{statements_of, names_of}
-use Rattle.flow.specs.Clauses.Answers.{FitFile, headerOf}
+use Rattle.flow.specs.Clauses.Answers.{FitFile, header_of}
 use Rattle.records.proofs.Files.{limited}
 use Rattle.dataflow.proofs.Judging.{file-fit, header_is, zeroed_whole}
 use Rattle.dataflow.proofs.JudgingRows.{file-refused, work-refused, rows-refused, accepting, none_found}
@@ -30,7 +30,7 @@ module _ (c : tie.After-known-told) where
   fits : FitFile start.args.file.now
   fits = file-fit _ _ c.before.before.before.check-file.ensures c.before.found.given.1
 
-  header : h ≡ headerOf start.args.file.now
+  header : h ≡ header_of start.args.file.now
   header = header_is _ _ c.before.before.before.check-file.ensures c.before.found.given.1
 
 -- the tests of the areas are those that the call goes by

@@ -11,8 +11,8 @@ use lib.ListN.{length, get_or}
 use Rattle.flow.specs.declared.Header.{Header}
 use Rattle.flow.specs.Limits.{work_words, max_statements, max_arrays}
 use Rattle.flow.specs.Format.{verdict, area_checks, statements_of, arrays_of}
-use Rattle.flow.specs.Clauses.Answers.{FitFile, isFit}
-use Rattle.flow.specs.Clauses.Answers.{headerOf}
+use Rattle.flow.specs.Clauses.Answers.{FitFile, is_fit}
+use Rattle.flow.specs.Clauses.Answers.{header_of}
 use Rattle.records.proofs.Files.{limited}
 use Rattle.statements.specs.Clauses.Layout.{set_words}
 use Rattle.solve.proofs.Room.{solver_fits}
@@ -24,7 +24,7 @@ use Rattle.dataflow.proofs.door.states.Tie as tie
 fits : (c : tie.After-known-told) → FitFile c.before.before.before.before.before.before.before.before.before.args.file.now
 fits c = judging.file-fit _ _ c.before.before.before.check-file.ensures c.before.found.given.1
 
-header : (c : tie.After-known-told) → c.before.found.given.0.0 ≡ headerOf c.before.before.before.before.before.before.before.before.before.args.file.now
+header : (c : tie.After-known-told) → c.before.found.given.0.0 ≡ header_of c.before.before.before.before.before.before.before.before.before.args.file.now
 header c = judging.header_is _ _ c.before.before.before.check-file.ensures c.before.found.given.1
 
 check-file-requires : tie.Need-check-file-requires
@@ -50,7 +50,7 @@ areas-fit-requires c κs =
 
 -- the verdict on the areas is the one that the call goes by
 judged : (c : tie.After-areas-fit) (b : Bool) → c.areas-fit.result ≡ b
-    → isFit (verdict (area_checks (statements_of c.before.before.before.before.before.before.before.before.before.before.args.file.now) (arrays_of c.before.before.before.before.before.before.before.before.before.before.args.file.now) (length c.before.before.before.before.before.before.before.before.before.before.args.masks.now) (length c.before.before.before.before.before.before.before.before.before.before.args.live_in.now) (length c.before.before.before.before.before.before.before.before.before.before.args.live_out.now) (length c.before.before.before.before.before.before.before.before.before.before.args.work.now))) ≡ b
+    → is_fit (verdict (area_checks (statements_of c.before.before.before.before.before.before.before.before.before.before.args.file.now) (arrays_of c.before.before.before.before.before.before.before.before.before.before.args.file.now) (length c.before.before.before.before.before.before.before.before.before.before.args.masks.now) (length c.before.before.before.before.before.before.before.before.before.before.args.live_in.now) (length c.before.before.before.before.before.before.before.before.before.before.args.live_out.now) (length c.before.before.before.before.before.before.before.before.before.before.args.work.now))) ≡ b
 judged c b e =
     let k = c.before in
     judging.areas_by _ _ k.before.before.before.check-file.ensures k.before.found.given.1 _ _ _ _ _ (sym c.areas-fit.ensures ∙ e)

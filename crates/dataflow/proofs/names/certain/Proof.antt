@@ -11,7 +11,7 @@ use lib.ListN.{length}
 use Rattle.flow.specs.declared.Header.{Header}
 use Rattle.flow.specs.Limits.{work_words, max_statements}
 use Rattle.flow.specs.Format.{statements_of}
-use Rattle.flow.specs.Clauses.Answers.{FitFile, headerOf}
+use Rattle.flow.specs.Clauses.Answers.{FitFile, header_of}
 use Rattle.records.proofs.Files.{limited}
 use Rattle.dataflow.proofs.Judging.{file-fit, header_is, zeroed_whole}
 use Rattle.dataflow.proofs.JudgingWork.{file-refused, work-refused, accepting, none-certain}
@@ -22,7 +22,7 @@ use Rattle.dataflow.proofs.names.certain.Tie as tie
 fits : (c : tie.After-known-told) → FitFile c.before.before.before.before.before.before.args.file.now
 fits c = file-fit _ _ c.before.before.before.check-file.ensures c.before.found.given.1
 
-header : (c : tie.After-known-told) → c.before.found.given.0.0 ≡ headerOf c.before.before.before.before.before.before.args.file.now
+header : (c : tie.After-known-told) → c.before.found.given.0.0 ≡ header_of c.before.before.before.before.before.before.args.file.now
 header c = header_is _ _ c.before.before.before.check-file.ensures c.before.found.given.1
 
 check-file-requires : tie.Need-check-file-requires

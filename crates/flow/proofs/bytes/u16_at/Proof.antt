@@ -7,27 +7,27 @@ use native.Mathlib.Omega.{arith}
 use Rattle.flow.proofs.bytes.u16_at.Statement.{statement}
 use Rattle.flow.proofs.bytes.u16_at.Tie as tie
 
-u8-at-requires : tie.Need-u8-at-requires
+u8-at-requires : tie.Need-u8_at-requires
 u8-at-requires c κs = search rules
 
-add-u8-at : tie.Need-overflow-add-u8-at
+add-u8-at : tie.Need-overflow_add-at
 add-u8-at c = search rules
 
-u8-at-requires-2 : tie.Need-u8-at-requires-2
+u8-at-requires-2 : tie.Need-u8_at-requires-2
 u8-at-requires-2 c κs = search rules
 
-mul-result : tie.Need-overflow-mul-result
-mul-result c = let start = c.before.before in
-    omega (arith, start.shared-slice-known.given (start.before.args.at + 1))
+mul-result : tie.Need-overflow_mul-result
+mul-result c = let start = c in
+    omega (arith, start.shared_slice_known-1.given (start.args.at + 1))
 
-add-result : tie.Need-overflow-add-result
-add-result c = let start = c.before.before in
-    omega (arith, start.shared-slice-known.given start.before.args.at, start.shared-slice-known.given (start.before.args.at + 1))
+add-result : tie.Need-overflow_add-result
+add-result c = let start = c in
+    omega (arith, start.shared_slice_known-1.given start.args.at, start.shared_slice_known-1.given (start.args.at + 1))
 
 returns : tie.Need-returns
 unfolding le_at
 returns c = omega arith
 
-pub u16-at-spec : {M : Type 1} → statement M
-u16-at-spec =
+pub u16_at_spec : {M : Type 1} → statement M
+u16_at_spec =
     tie.close (tie.spec u8-at-requires add-u8-at u8-at-requires-2 mul-result add-result returns)

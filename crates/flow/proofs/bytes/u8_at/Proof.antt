@@ -5,14 +5,14 @@ use native.Mathlib.Omega.{arith}
 use Rattle.flow.proofs.bytes.u8_at.Statement.{statement}
 use Rattle.flow.proofs.bytes.u8_at.Tie as tie
 
-shared-slice-read-result : tie.Need-shared-slice-read-result
+shared-slice-read-result : tie.Need-bounds-file-at
 shared-slice-read-result c = search rules
 
-cast-result : tie.Need-overflow-cast-result
-cast-result c = omega (arith, c.shared-slice-known.given c.before.args.at)
+cast-result : tie.Need-overflow_cast-result
+cast-result c = omega (arith, c.shared_slice_known-1.given c.args.at)
 
 returns : tie.Need-returns
 returns c = search rules
 
-pub u8-at-spec : {M : Type 1} → statement M
-u8-at-spec = tie.close (tie.spec shared-slice-read-result cast-result returns)
+pub u8_at_spec : {M : Type 1} → statement M
+u8_at_spec = tie.close (tie.spec shared-slice-read-result cast-result returns)

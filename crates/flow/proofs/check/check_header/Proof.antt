@@ -18,77 +18,77 @@ checks c = header_checks c.args.file.now
 
 -- past the mark
 
-abbrev past-mark : tie.Else2 → List Check
+abbrev past-mark : tie.Else-not-marked → List Check
 past-mark c = checks c.before.before.before.before
 
-is-marked : (c : tie.Else2) → format.marked c.before.before.before.before.args.file.now 0 letter_h ≡ true
-is-marked c = sym c.before.marked.ensures ∙ not-false _ c.if2.false
+is-marked : (c : tie.Else-not-marked) → format.marked c.args.file.now 0 letter_h ≡ true
+is-marked c = sym c.marked.ensures ∙ c.if-not-marked.false
 
-returns : tie.Need-returns
+returns : tie.Need-returns-then-file-gt-MAX_FILE
 unfolding header_checks
 returns c = refused 0 (checks c.before.before) _ (omega (arith, tests))
 
 marked-requires : tie.Need-marked-requires
 marked-requires c κs = search rules
 
-returns-2 : tie.Need-returns-2
+returns-2 : tie.Need-returns-then-not-marked
 unfolding header_checks
-returns-2 c = refused 1 (checks c.before.before.before.before) _ (omega (arith, tests), sym c.before.marked.ensures ∙ not-true _ c.if2.true)
+returns-2 c = refused 1 (checks c.before.before.before.before) _ (omega (arith, tests), sym c.marked.ensures ∙ c.if-not-marked.true)
 
-returns-3 : tie.Need-returns-3
+returns-3 : tie.Need-returns-then-file-lt4
 unfolding header_checks
 returns-3 c = refused 2 (past-mark c.before) _ (omega (arith, tests), (is-marked c.before, omega (arith, tests)))
 
-u16-at-requires : tie.Need-u16-at-requires
+u16-at-requires : tie.Need-u16_at-n-requires
 u16-at-requires c κs = search rules
 
-returns-4 : tie.Need-returns-4
+returns-4 : tie.Need-returns-then-n-gt-MAX_STATEMENTS
 unfolding header_checks
 returns-4 c = refused 3 (past-mark c.before.before.before) _ (omega (arith, tests), (is-marked c.before.before.before, omega (arith, tests)))
 
-returns-5 : tie.Need-returns-5
+returns-5 : tie.Need-returns-then-file-lt5
 unfolding header_checks
 returns-5 c = refused 4 (past-mark c.before.before.before.before) _ (omega (arith, tests), (is-marked c.before.before.before.before, omega (arith, tests)))
 
-u8-at-requires : tie.Need-u8-at-requires
+u8-at-requires : tie.Need-u8_at-requires
 u8-at-requires c κs = search rules
 
-returns-6 : tie.Need-returns-6
+returns-6 : tie.Need-returns-then-u8_at-gt-MAX_ARRAYS
 unfolding header_checks
 returns-6 c = refused 5 (past-mark c.before.before.before.before.before.before) _ (omega (arith, tests), (is-marked c.before.before.before.before.before.before, omega (arith, tests)))
 
-returns-7 : tie.Need-returns-7
+returns-7 : tie.Need-returns-then-file-lt6
 unfolding header_checks
 returns-7 c = refused 6 (past-mark c.before.before.before.before.before.before.before) _ (omega (arith, tests), (is-marked c.before.before.before.before.before.before.before, omega (arith, tests)))
 
-u8-at-requires-2 : tie.Need-u8-at-requires-2
+u8-at-requires-2 : tie.Need-u8_at-requires-2
 u8-at-requires-2 c κs = search rules
 
-returns-8 : tie.Need-returns-8
+returns-8 : tie.Need-returns-then-u8_at-gt-MAX_NAMES
 unfolding header_checks
 returns-8 c = refused 7 (past-mark c.before.before.before.before.before.before.before.before.before) _ (omega (arith, tests), (is-marked c.before.before.before.before.before.before.before.before.before, omega (arith, tests)))
 
-returns-9 : tie.Need-returns-9
+returns-9 : tie.Need-returns-then-file-lt8
 unfolding header_checks
 returns-9 c = refused 8 (past-mark c.before.before.before.before.before.before.before.before.before.before) _ (omega (arith, tests), (is-marked c.before.before.before.before.before.before.before.before.before.before, omega (arith, tests)))
 
-returns-10 : tie.Need-returns-10
+returns-10 : tie.Need-returns-then-n-eq0
 unfolding header_checks
 returns-10 c = passed (past-mark c.before.before.before.before.before.before.before.before.before.before.before) _ (omega (arith, tests), (is-marked c.before.before.before.before.before.before.before.before.before.before.before, omega (arith, tests)))
 
-u16-at-requires-2 : tie.Need-u16-at-requires-2
+u16-at-requires-2 : tie.Need-u16_at-requires
 u16-at-requires-2 c κs = search rules
 
-returns-11 : tie.Need-returns-11
+returns-11 : tie.Need-returns-then-u16_at-n
 unfolding header_checks
 returns-11 c = refused 9 (past-mark c.before.before.before.before.before.before.before.before.before.before.before.before.before) _ (omega (arith, tests), (is-marked c.before.before.before.before.before.before.before.before.before.before.before.before.before, omega (arith, tests)))
 
-returns-12 : tie.Need-returns-12
+returns-12 : tie.Need-returns
 unfolding header_checks
 returns-12 c = passed (past-mark c.before.before.before.before.before.before.before.before.before.before.before.before.before) _ (omega (arith, tests), (is-marked c.before.before.before.before.before.before.before.before.before.before.before.before.before, omega (arith, tests)))
 
-pub check-header-spec : {M : Type 1} → statement M
-check-header-spec =
+pub check_header_spec : {M : Type 1} → statement M
+check_header_spec =
     tie.close
     (tie.spec
     returns

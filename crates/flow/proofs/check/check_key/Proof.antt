@@ -10,7 +10,7 @@ use borrow.Author.Tests.{not-true, not-false}
 use Rattle.flow.specs.declared.Refusal.TheVariants.{Record, Target}
 use Rattle.flow.specs.Format as format
 use Rattle.flow.specs.Format.{verdict, letter_k, u16_at, has_key, handler_at, key_checks, end_place}
-use Rattle.flow.specs.Clauses.Answers.{passedOf}
+use Rattle.flow.specs.Clauses.Answers.{passed_of}
 use Rattle.flow.proofs.Tests.{tests}
 use Rattle.flow.proofs.Verdicts.{AllHold}
 use Rattle.flow.proofs.Answers.{refused_as, passed_to}
@@ -22,65 +22,65 @@ abbrev bytes : tie.Start → List ℕ
 bytes c = c.args.file.now
 
 there : (c : tie.After-marked) → c.marked.result ≡ has_key (bytes c.before.before)
-there c = c.marked.ensures ∙ ap (λ p. format.marked (bytes c.before.before) p letter_k) c.before.before.requires.2
+there c = c.marked.ensures ∙ ap (λ p. format.marked (bytes c.before.before) p letter_k) c.requires.2
 
 -- the answer of the record's checks is that of the key's, where the mark stands
-counts : (s : List ℕ) (e : ℕ) → has_key s ≡ true → passedOf (verdict (key_record_checks s)) e ≡ passedOf (verdict (key_checks s)) e
-counts s e h = ap (λ cs. passedOf (verdict cs) e) (sym (with_checks s h))
+counts : (s : List ℕ) (e : ℕ) → has_key s ≡ true → passed_of (verdict (key_record_checks s)) e ≡ passed_of (verdict (key_checks s)) e
+counts s e h = ap (λ cs. passed_of (verdict cs) e) (sym (with_checks s h))
 
-stands : (c : tie.Else1) → has_key (bytes c.before.before.before) ≡ true
-stands c = sym (there c.before) ∙ not-false _ c.if1.false
+stands : (c : tie.Else-not-marked) → has_key (bytes c.before.before.before) ≡ true
+stands c = sym (there c.before) ∙ c.if-not-marked.false
 
 marked-requires : tie.Need-marked-requires
 marked-requires c κs = search rules
 
-returns : tie.Need-returns
+returns : tie.Need-returns-then-not-marked
 returns c =
-    let start = c.before.before.before in
-    let absent = sym (there c.before) ∙ not-true _ c.if1.true in
-    passed_to (key_checks (bytes start)) _ _ (start.requires.2 ∙ sym (without_end (bytes start) absent)) (subst AllHold (sym (without_checks (bytes start) absent)) tt)
+    let start = c in
+    let absent = sym (there c.before) ∙ c.if-not-marked.true in
+    passed_to (key_checks (bytes start.before.before.before)) _ _ (start.requires.2 ∙ sym (without_end (bytes start.before.before.before) absent)) (subst AllHold (sym (without_checks (bytes start.before.before.before) absent)) tt)
 
-add-if2 : tie.Need-overflow-add-if2
+add-if2 : tie.Need-overflow_add-at
 add-if2 c = search rules
 
-returns-2 : tie.Need-returns-2
+returns-2 : tie.Need-returns-then-file-at
 returns-2 c =
-    let start = c.before.before.before.before in
-    refused_as 0 (key_record_checks (bytes start)) _ (ap Record start.requires.2) (omega (arith, tests)) ∙ counts (bytes start) _ (stands c.before)
+    let start = c in
+    refused_as 0 (key_record_checks (bytes start.before.before.before.before)) _ (ap Record start.requires.2) (omega (arith, tests)) ∙ counts (bytes start.before.before.before.before) _ (stands c.before)
 
-add-u16-at : tie.Need-overflow-add-u16-at
+add-u16-at : tie.Need-overflow_add-at-2
 add-u16-at c = search rules
 
-u16-at-requires : tie.Need-u16-at-requires
+u16-at-requires : tie.Need-u16_at-requires
 u16-at-requires c κs = search rules
 
-u16-at-requires-2 : tie.Need-u16-at-requires-2
+u16-at-requires-2 : tie.Need-u16_at-requires-2
 u16-at-requires-2 c κs = search rules
 
 -- the handler as the code reads it
-reads : (c : tie.After-u16-at) → c.u16-at.result ≡ handler_at (bytes c.before.before.before.before.before)
+reads : (c : tie.After-u16_at) → c.u16_at.result ≡ handler_at (bytes c.before.before.before.before.before)
 reads c =
-    let start = c.before.before.before.before.before in
-    c.u16-at.ensures ∙ ap (λ p. u16_at (bytes start) (p + 2)) start.requires.2
+    let start = c in
+    c.u16_at.ensures ∙ ap (λ p. u16_at (bytes start.before.before.before.before.before) (p + 2)) start.requires.2
 
-returns-3 : tie.Need-returns-3
+returns-3 : tie.Need-returns-then-u16_at
 returns-3 c =
-    let start = c.before.before.before.before.before.before.before in
-    refused_as 1 (key_record_checks (bytes start)) _ (ap Target start.requires.2) (omega (arith, tests), omega (arith, tests, reads c.before.before, c.before.u16-at2.ensures))
-    ∙ counts (bytes start) _ (stands c.before.before.before.before)
+    let start = c in
+    refused_as 1 (key_record_checks (bytes start.before.before.before.before.before.before.before)) _ (ap Target start.requires.2) (omega (arith, tests), omega (arith, tests, reads c.before.before, c.u16_at-2.ensures))
+    ∙ counts (bytes start.before.before.before.before.before.before.before) _ (stands c.before.before.before.before)
 
-add-t5 : tie.Need-overflow-add-t5
+add-t5 : tie.Need-overflow_add-result
 add-t5 c = search rules
 
-returns-4 : tie.Need-returns-4
+returns-4 : tie.Need-returns
 returns-4 c =
-    let start = c.before.before.before.before.before.before.before in
+    let start = c in
     let has = stands c.before.before.before.before in
-    passed_to (key_record_checks (bytes start)) _ (end_place (bytes start)) (ap (λ p. p + 4) start.requires.2 ∙ sym (with_end (bytes start) has)) (omega (arith, tests), (omega (arith, tests, reads c.before.before, c.before.u16-at2.ensures), tt))
-    ∙ counts (bytes start) _ has
+    passed_to (key_record_checks (bytes start.before.before.before.before.before.before.before)) _ (end_place (bytes start.before.before.before.before.before.before.before)) (ap (λ p. p + 4) start.requires.2 ∙ sym (with_end (bytes start.before.before.before.before.before.before.before) has)) (omega (arith, tests), (omega (arith, tests, reads c.before.before, c.u16_at-2.ensures), tt))
+    ∙ counts (bytes start.before.before.before.before.before.before.before) _ has
 
-pub check-key-spec : {M : Type 1} → statement M
-check-key-spec =
+pub check_key_spec : {M : Type 1} → statement M
+check_key_spec =
     tie.close
     (tie.spec
     marked-requires

@@ -10,7 +10,7 @@ use lib.ListN.{length}
 use Rattle.flow.specs.declared.Refusal.{Refusal}
 use Rattle.flow.specs.declared.Passed.TheVariants.{Unfit}
 use Rattle.flow.specs.Format.{Check, verdict, fit, unfit, each, references_place, reference_count_checks, reference_count, reference_checks, name_checks, data_checks, rest_checks, names_place, data_place}
-use Rattle.flow.specs.Clauses.Answers.{passedOf}
+use Rattle.flow.specs.Clauses.Answers.{passed_of}
 use Rattle.flow.proofs.Verdicts.{all_hold, fit-left, fit-right, elements-within}
 use Rattle.flow.proofs.Answers.{Through, verdict-passed, verdict-refused, refused-first, onward}
 use Rattle.flow.proofs.check.check_rest.Statement.{statement}
@@ -33,12 +33,12 @@ unfolding name_checks
 names-within s p h = let all = all_hold (name_checks s p) h in omega (arith, leb-true)
 
 module _ (s : List ℕ) (p e : ℕ) where
-  in-references : {r : Refusal} → verdict (references s p) ≡ unfit r → Unfit r ≡ passedOf (verdict (rest_checks s p)) e
+  in-references : {r : Refusal} → verdict (references s p) ≡ unfit r → Unfit r ≡ passed_of (verdict (rest_checks s p)) e
   unfolding rest_checks
   in-references h =
       rw (← append_assoc (reference_count_checks s p)) (refused-first (references s p) (name_checks s p ++ data_checks s p) e h)
 
-  after-references : verdict (references s p) ≡ fit → passedOf (verdict (name_checks s p ++ data_checks s p)) e ≡ passedOf (verdict (rest_checks s p)) e
+  after-references : verdict (references s p) ≡ fit → passed_of (verdict (name_checks s p ++ data_checks s p)) e ≡ passed_of (verdict (rest_checks s p)) e
   unfolding rest_checks
   after-references h =
       rw (← append_assoc (reference_count_checks s p)) (onward (references s p) (name_checks s p ++ data_checks s p) e h)
@@ -48,77 +48,77 @@ module _ (s : List ℕ) (p e : ℕ) where
 abbrev file : tie.Start → List ℕ
 file c = c.args.file.now
 
-referred : (c : tie.After-q)
-    → let start = c.before.before.before.before in
-    Through (verdict (references (file start) start.args.p)) c.q.given.0.0 (names_place (file start) start.args.p)
-referred c = verdict-passed _ _ _ (sym c.q.given.1 ∙ c.before.before.check-references.ensures)
+referred : (c : tie.In-To)
+    → let start = c in
+    Through (verdict (references (file start.before.before.before) start.args.p)) c.in-To.q (names_place (file start.before.before.before) start.args.p)
+referred c = verdict-passed _ _ _ (sym c.in-To.is ∙ c.check_references.ensures)
 
-named : (c : tie.After-q2)
-    → let start = c.before.before.before.before.before.before.before.before in
-    Through (verdict (name_checks (file start) start.args.p)) c.q2.given.0.0 (data_place (file start) start.args.p)
-named c = verdict-passed _ _ _ (sym c.q2.given.1 ∙ c.before.before.check-names.ensures)
+named : (c : tie.In-To-check_names)
+    → let start = c in
+    Through (verdict (name_checks (file start.before.before.before.before.before) start.args.p)) c.in-To-check_names.q (data_place (file start.before.before.before.before.before) start.args.p)
+named c = verdict-passed _ _ _ (sym c.in-To-check_names.is ∙ c.check_names.ensures)
 
-check-references-requires : tie.Need-check-references-requires
+check-references-requires : tie.Need-check_references-requires
 check-references-requires c κs = search rules
 
-enum-known-q : tie.Need-enum-known-q
+enum-known-q : tie.Need-enum_known-q
 enum-known-q c = search rules
 
-enum-known-r : tie.Need-enum-known-r
+enum-known-r : tie.Need-enum_known-r
 enum-known-r c = search rules
 
-returns : tie.Need-returns
+returns : tie.Need-returns-in-Unfit
 returns c =
-    let start = c.before.before.before.before.before in
-    in-references (file start) start.args.p _ (verdict-refused _ _ (sym c.before.r.given.1 ∙ c.before.before.before.check-references.ensures))
+    let start = c in
+    in-references (file start.before.before.before) start.args.p _ (verdict-refused _ _ (sym c.in-Unfit.is ∙ c.check_references.ensures))
 
-check-names-requires : tie.Need-check-names-requires
+check-names-requires : tie.Need-check_names-requires
 check-names-requires c κs =
-    let start = c.before.before.before.before.before in
-    let before = referred c.before in
+    let start = c in
+    let before = referred c in
     record {
       header = start.requires.header;
       start = start.requires.start;
-      within = rw before.place (references-within (file start) start.args.p before.is-fit);
+      within = rw before.place (references-within (file start.before.before.before) start.args.p before.is_fit);
       there = before.place;
     }
 
-enum-known-q-2 : tie.Need-enum-known-q-2
+enum-known-q-2 : tie.Need-enum_known-q-in-To-check_names
 enum-known-q-2 c = search rules
 
-enum-known-r-2 : tie.Need-enum-known-r-2
+enum-known-r-2 : tie.Need-enum_known-r-in-Unfit-check_names
 enum-known-r-2 c = search rules
 
-returns-2 : tie.Need-returns-2
+returns-2 : tie.Need-returns-in-Unfit-check_names
 returns-2 c =
-    let start = c.before.before.before.before.before.before.before.before.before in
-    let s = file start in
+    let start = c in
+    let s = file start.before.before.before.before.before in
     let p = start.args.p in
-    refused-first (name_checks s p) (data_checks s p) _ (verdict-refused _ _ (sym c.before.r2.given.1 ∙ c.before.before.before.check-names.ensures))
-    ∙ after-references s p _ (referred c.before.before.before.before.before).is-fit
+    refused-first (name_checks s p) (data_checks s p) _ (verdict-refused _ _ (sym c.in-Unfit-check_names.is ∙ c.check_names.ensures))
+    ∙ after-references s p _ (referred c.before.before).is_fit
 
-check-data-requires : tie.Need-check-data-requires
+check-data-requires : tie.Need-check_data-requires
 check-data-requires c κs =
-    let start = c.before.before.before.before.before.before.before.before.before in
-    let before = named c.before in
+    let start = c in
+    let before = named c in
     record {
       header = start.requires.header;
       start = start.requires.start;
-      within = rw before.place (names-within (file start) start.args.p before.is-fit);
+      within = rw before.place (names-within (file start.before.before.before.before.before) start.args.p before.is_fit);
       there = before.place;
     }
 
-returns-3 : tie.Need-returns-3
+returns-3 : tie.Need-returns
 returns-3 c =
-    let start = c.before.before.before.before.before.before.before.before.before.before in
-    let s = file start in
+    let start = c in
+    let s = file start.before.before.before.before.before.before in
     let p = start.args.p in
-    c.check-data.ensures
-    ∙ onward (name_checks s p) (data_checks s p) _ (named c.before.before).is-fit
-    ∙ after-references s p _ (referred c.before.before.before.before.before.before).is-fit
+    c.check_data.ensures
+    ∙ onward (name_checks s p) (data_checks s p) _ (named c.before).is_fit
+    ∙ after-references s p _ (referred c.before.before.before).is_fit
 
-pub check-rest-spec : {M : Type 1} → statement M
-check-rest-spec =
+pub check_rest_spec : {M : Type 1} → statement M
+check_rest_spec =
     tie.close
     (tie.spec
     check-references-requires

@@ -9,14 +9,14 @@ use Rattle.flow.proofs.Numbers.{div-is-zero}
 use Rattle.flow.proofs.check.names_fit.Statement.{statement}
 use Rattle.flow.proofs.check.names_fit.Tie as tie
 
-returns : tie.Need-returns
-returns c = sym (lt-ltb _ _ (lt_of_lt_of_le c.before.ranges.w.fits (pow_mono c.if1.true)))
+returns : tie.Need-returns-then-names-ge64
+returns c = sym (lt-ltb _ _ (lt_of_lt_of_le c.ranges.w.fits (pow_mono c.if-names-ge64.true)))
 
-shr-result : tie.Need-overflow-shr-result
+shr-result : tie.Need-overflow_shr-result
 shr-result c = search rules
 
-returns-2 : tie.Need-returns-2
-returns-2 c = div-is-zero c.before.args.w _ (pow_pos c.before.args.names)
+returns-2 : tie.Need-returns
+returns-2 c = div-is-zero c.args.w _ (pow_pos c.args.names)
 
-pub names-fit-spec : {M : Type 1} → statement M
-names-fit-spec = tie.close (tie.spec returns shr-result returns-2)
+pub names_fit_spec : {M : Type 1} → statement M
+names_fit_spec = tie.close (tie.spec returns shr-result returns-2)

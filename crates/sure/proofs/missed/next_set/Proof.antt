@@ -8,7 +8,7 @@ use native.Mathlib.Omega.{arith}
 use lib.ListN.{length}
 use Rattle.flow.specs.Limits.{max_statements}
 use Rattle.flow.specs.Format.{flow_of}
-use Rattle.theory.specs.Body.{kind, continuationOf, is_return}
+use Rattle.theory.specs.Body.{kind, continuation_of, is_return}
 use Rattle.statements.proofs.Keeps.{ready-most, ready_formed, ready-below}
 use Rattle.statements.proofs.Told.{continues-to, continues_nowhere}
 use Rattle.sure.proofs.Sets.{set_room, gathered-one, next-return, next_walk}
@@ -21,7 +21,7 @@ not-return c = sym c.before.before.is-return.ensures ∙ c.before.if1.false
 
 -- the call has the continuation k
 
-continued : (c : tie.After-k) → continuationOf (kind (flow_of c.before.before.before.before.before.before.before.args.file.now) c.before.before.before.before.before.before.before.args.i.0) ≡ some c.k.given.0.0.0
+continued : (c : tie.After-k) → continuation_of (kind (flow_of c.before.before.before.before.before.before.before.args.file.now) c.before.before.before.before.before.before.before.args.i.0) ≡ some c.k.given.0.0.0
 continued c = continues-to _ _ (sym c.before.before.continuation.ensures ∙ c.k.given.1)
 
 target : (c : tie.After-k) → c.k.given.0.0.0 < c.before.before.before.before.before.before.before.args.n

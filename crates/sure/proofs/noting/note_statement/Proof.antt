@@ -7,7 +7,7 @@ use native.Mathlib.Omega.{arith}
 use borrow.Author.Rules.{rules}
 use Rattle.words.specs.Clauses.Change.{inserted}
 use Rattle.flow.specs.Format.{flow_of}
-use Rattle.theory.specs.Body.{kind, continuationOf, is_return}
+use Rattle.theory.specs.Body.{kind, continuation_of, is_return}
 use Rattle.statements.proofs.Keeps.{ready-most, ready_formed, ready-below}
 use Rattle.sure.specs.Clauses.Noting.{StatementNoted}
 use Rattle.statements.proofs.Told.{continues-to, continues_nowhere}
@@ -21,7 +21,7 @@ use Rattle.sure.proofs.noting.note_statement.Tie as tie
 not-return : (c : tie.Else1) → is_return (kind (flow_of c.before.before.before.before.before.args.file.now) c.before.before.before.before.before.args.i.0) ≡ false
 not-return c = sym c.before.is-return.ensures ∙ c.if1.false
 
-continued : (c : tie.After-k) → continuationOf (kind (flow_of c.before.before.before.before.before.before.before.before.before.args.file.now) c.before.before.before.before.before.before.before.before.before.args.i.0) ≡ some c.k.given.0.0.0
+continued : (c : tie.After-k) → continuation_of (kind (flow_of c.before.before.before.before.before.before.before.before.before.args.file.now) c.before.before.before.before.before.before.before.before.before.args.i.0) ≡ some c.k.given.0.0.0
 continued c = continues-to _ _ (sym c.before.before.continuation.ensures ∙ c.k.given.1)
 
 is-return-requires : tie.Need-is-return-requires
