@@ -86,12 +86,12 @@ def mapping(root):
                 kinds[n] = k if n not in kinds else kinds[n]
             if k == "definition":
                 kinds[n] = "definition"
-    names = {snake(n) for n, k in kinds.items() if k == "definition" and "-" not in n} | LIBRARY
+    names = {snake(n) for n, k in kinds.items() if k == "definition" and "-" not in n} | set(GIVEN.values()) | LIBRARY
     to = {n: GIVEN[n] for n in LEMMAS}
     for n, k in kinds.items():
         s = GIVEN.get(n) or snake(n)
         for old, new in GIVEN.items():
-            s = new + s[len(old):] if n.startswith(old + "-") else s
+            s = new + snake(n[len(old):]) if n.startswith(old + "-") else s
             s = re.sub(r"(?<=-)" + old + r"(?=-|$)", new, s)
         if "-" in s:
             parts = s.split("-")

@@ -40,53 +40,53 @@ not_both e h = let z : ◌≡◌ {A = ℕ} 0 1 = cc in omega arith
 pub same_refusal : {r x : Refusal} {v : Verdict} → v ≡ unfit r → v ≡ unfit x → Refused r ≡ Refused x
 same_refusal e h = cc
 
-module _ (s masks is_live_in is_live_out work : List ℕ) where
+module _ (s masks live_in live_out work : List ℕ) where
   -- a refusal changes nothing
-  pub refusing : {work' : List ℕ} (r : Refusal) → work' ≡ work → judged s (length masks) (length is_live_in) (length is_live_out) (length work) ≡ unfit r
-      → Promise s masks masks is_live_in is_live_in is_live_out is_live_out work work' (Refused r)
+  pub refusing : {work' : List ℕ} (r : Refusal) → work' ≡ work → judged s (length masks) (length live_in) (length live_out) (length work) ≡ unfit r
+      → Promise s masks masks live_in live_in live_out live_out work work' (Refused r)
   refusing r same e = record {
     refused = λ x h. (same_refusal e h, record { same_masks = refl; same_live_in = refl; same_live_out = refl; same_work = same });
     accepted = λ h. absurd (not_both h e);
   }
 
   pub file-refused : {c : Checked} (r : Refusal) → c ≡ checked_of (verdict (file_checks s)) (header_of s) → c ≡ Unfit r
-      → Promise s masks masks is_live_in is_live_in is_live_out is_live_out work work (Refused r)
+      → Promise s masks masks live_in live_in live_out live_out work work (Refused r)
   file-refused r e h =
       refusing r refl (unfit-append (file_checks s) _ (unfit-answer (verdict (file_checks s)) (header_of s) (sym e ∙ h)))
 
   areas_of : Verdict
-  areas_of = verdict (area_checks (size (flow_of s)) (flow_of s).arrays (length masks) (length is_live_in) (length is_live_out) (length work))
+  areas_of = verdict (area_checks (size (flow_of s)) (flow_of s).arrays (length masks) (length live_in) (length live_out) (length work))
 
   -- the areas' checks, by the header's numbers
-  same-areas : areas_of ≡ verdict (area_checks (statements_of s) (arrays_of s) (length masks) (length is_live_in) (length is_live_out) (length work))
+  same-areas : areas_of ≡ verdict (area_checks (statements_of s) (arrays_of s) (length masks) (length live_in) (length live_out) (length work))
   unfolding areas_of
-  same-areas = ap (λ n. verdict (area_checks n (flow_of s).arrays (length masks) (length is_live_in) (length is_live_out) (length work))) (size_is s)
-      ∙ ap (λ k. verdict (area_checks (statements_of s) k (length masks) (length is_live_in) (length is_live_out) (length work))) (arrays-is s)
+  same-areas = ap (λ n. verdict (area_checks n (flow_of s).arrays (length masks) (length live_in) (length live_out) (length work))) (size_is s)
+      ∙ ap (λ k. verdict (area_checks (statements_of s) k (length masks) (length live_in) (length live_out) (length work))) (arrays-is s)
 
-  judged-areas : FitFile s → (b : Bool) → is_fit (verdict (area_checks (statements_of s) (arrays_of s) (length masks) (length is_live_in) (length is_live_out) (length work))) ≡ b
-      → judged s (length masks) (length is_live_in) (length is_live_out) (length work) ≡ cond b fit (unfit Areas)
+  judged-areas : FitFile s → (b : Bool) → is_fit (verdict (area_checks (statements_of s) (arrays_of s) (length masks) (length live_in) (length live_out) (length work))) ≡ b
+      → judged s (length masks) (length live_in) (length live_out) (length work) ≡ cond b fit (unfit Areas)
   unfolding areas_of
   judged-areas h b e =
       fit_append (file_checks s) _ h.checked
       ∙ same-areas
-      ∙ area-verdict (statements_of s) (arrays_of s) (length masks) (length is_live_in) (length is_live_out) (length work)
+      ∙ area-verdict (statements_of s) (arrays_of s) (length masks) (length live_in) (length live_out) (length work)
       ∙ ap (λ b. cond b fit (unfit Areas))
-      (sym (areas-fit (statements_of s) (arrays_of s) (length masks) (length is_live_in) (length is_live_out) (length work)) ∙ e)
+      (sym (areas-fit (statements_of s) (arrays_of s) (length masks) (length live_in) (length live_out) (length work)) ∙ e)
 
   pub areas-refused : {work' : List ℕ} → FitFile s → work' ≡ work
-      → is_fit (verdict (area_checks (statements_of s) (arrays_of s) (length masks) (length is_live_in) (length is_live_out) (length work))) ≡ false
-      → Promise s masks masks is_live_in is_live_in is_live_out is_live_out work work' (Refused Areas)
+      → is_fit (verdict (area_checks (statements_of s) (arrays_of s) (length masks) (length live_in) (length live_out) (length work))) ≡ false
+      → Promise s masks masks live_in live_in live_out live_out work work' (Refused Areas)
   areas-refused h same e = refusing Areas same (judged-areas h false e)
 
-  pub judged-fit : FitFile s → is_fit (verdict (area_checks (statements_of s) (arrays_of s) (length masks) (length is_live_in) (length is_live_out) (length work))) ≡ true
-      → judged s (length masks) (length is_live_in) (length is_live_out) (length work) ≡ fit
+  pub judged-fit : FitFile s → is_fit (verdict (area_checks (statements_of s) (arrays_of s) (length masks) (length live_in) (length live_out) (length work))) ≡ true
+      → judged s (length masks) (length live_in) (length live_out) (length work) ≡ fit
   judged-fit h e = judged-areas h true e
 
 -- the areas are long enough
-pub record Rooms (n arrays masks is_live_in is_live_out work : ℕ) : Type 0 where
+pub record Rooms (n arrays masks live_in live_out work : ℕ) : Type 0 where
   pub masks_room : n * arrays ≤ masks
-  pub in_room : n ≤ is_live_in
-  pub out_room : n ≤ is_live_out
+  pub in_room : n ≤ live_in
+  pub out_room : n ≤ live_out
   pub work_room : work_words n ≤ work
 
 false-true : {A : Type 0} → false ≡ true → A
@@ -99,10 +99,10 @@ all_true true true false d e = false-true e
 all_true true false c d e = false-true e
 all_true false b c d e = false-true e
 
-pub rooms : (n arrays masks is_live_in is_live_out work : ℕ) → is_fit (verdict (area_checks n arrays masks is_live_in is_live_out work)) ≡ true
-    → Rooms n arrays masks is_live_in is_live_out work
-rooms n arrays masks is_live_in is_live_out work e =
-    let t = all_true (leb (n * arrays) masks) (leb n is_live_in) (leb n is_live_out) (leb (work_words n) work) (sym (areas-fit n arrays masks is_live_in is_live_out work) ∙ e) in
+pub rooms : (n arrays masks live_in live_out work : ℕ) → is_fit (verdict (area_checks n arrays masks live_in live_out work)) ≡ true
+    → Rooms n arrays masks live_in live_out work
+rooms n arrays masks live_in live_out work e =
+    let t = all_true (leb (n * arrays) masks) (leb n live_in) (leb n live_out) (leb (work_words n) work) (sym (areas-fit n arrays masks live_in live_out work) ∙ e) in
     record {
       masks_room = leb-true _ _ t.0;
       in_room = leb-true _ _ t.1;
@@ -111,19 +111,19 @@ rooms n arrays masks is_live_in is_live_out work e =
     }
 
 -- an accepted flow keeps the promise from what the phases left
-pub accepting : (s masks masks' is_live_in live_in' is_live_out live_out' work work' : List ℕ) (v : ℕ) → FitFile s
-    → judged s (length masks) (length is_live_in) (length is_live_out) (length work) ≡ fit
-    → Findings (flow_of s) masks masks' is_live_in live_in' is_live_out live_out' v
+pub accepting : (s masks masks' live_in live_in' live_out live_out' work work' : List ℕ) (v : ℕ) → FitFile s
+    → judged s (length masks) (length live_in) (length live_out) (length work) ≡ fit
+    → Findings (flow_of s) masks masks' live_in live_in' live_out live_out' v
     → work' ≡ replicate (length work) 0
-    → Promise s masks masks' is_live_in live_in' is_live_out live_out' work work' (Accepted v)
-accepting s masks masks' is_live_in live_in' is_live_out live_out' work work' v h e solved empty = record {
+    → Promise s masks masks' live_in live_in' live_out live_out' work work' (Accepted v)
+accepting s masks masks' live_in live_in' live_out live_out' work work' v h e solved empty = record {
   refused = λ x r. absurd (not_both e r);
-  accepted = λ _. (v, refl, promised (flow_of s) (well_formed h) masks masks' is_live_in live_in' is_live_out live_out' work work' v solved empty);
+  accepted = λ _. (v, refl, promised (flow_of s) (well_formed h) masks masks' live_in live_in' live_out live_out' work work' v solved empty);
 }
 
 -- with no statements the phases have nothing to do
-pub nothing-solved : (s masks is_live_in is_live_out : List ℕ) → statements_of s ≡ 0 → Findings (flow_of s) masks masks is_live_in is_live_in is_live_out is_live_out 0
-nothing-solved s masks is_live_in is_live_out z =
+pub nothing-solved : (s masks live_in live_out : List ℕ) → statements_of s ≡ 0 → Findings (flow_of s) masks masks live_in live_in live_out live_out 0
+nothing-solved s masks live_in live_out z =
     let none : size (flow_of s) ≡ 0 = size_is s ∙ z in
     record {
       found = record {
@@ -144,10 +144,10 @@ module _ (s : List ℕ) {c : Checked} (h : Header) (e : c ≡ checked_of (verdic
   pub header_is : h ≡ header_of s
   header_is = (accepts s h (sym e ∙ told)).1
 
-  pub areas_by : (masks is_live_in is_live_out work : ℕ) (b : Bool) → is_fit (verdict (area_checks h.statements h.arrays masks is_live_in is_live_out work)) ≡ b
-      → is_fit (verdict (area_checks (statements_of s) (arrays_of s) masks is_live_in is_live_out work)) ≡ b
-  areas_by masks is_live_in is_live_out work b =
-      subst (λ (x : Header). is_fit (verdict (area_checks x.statements x.arrays masks is_live_in is_live_out work)) ≡ b) header_is
+  pub areas_by : (masks live_in live_out work : ℕ) (b : Bool) → is_fit (verdict (area_checks h.statements h.arrays masks live_in live_out work)) ≡ b
+      → is_fit (verdict (area_checks (statements_of s) (arrays_of s) masks live_in live_out work)) ≡ b
+  areas_by masks live_in live_out work b =
+      subst (λ (x : Header). is_fit (verdict (area_checks x.statements x.arrays masks live_in live_out work)) ≡ b) header_is
 
 -- a list that was zeroed whole, by its length before
 pub zeroed_whole : (ws : List ℕ) (n : ℕ) → length ws ≡ n → zeroed ws 0 n ≡ replicate n 0

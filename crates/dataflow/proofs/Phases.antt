@@ -235,13 +235,13 @@ pub wrote : {n : ℕ} {f : ℕ → ℕ} {ws vs : List ℕ} → ((i : ℕ) → i 
 wrote w k = record { size = k.size; written = w; kept = k.above }
 
 -- all phases together
-pub solved : {s : List ℕ} {h : Header} {masks masks' is_live_in live_in' is_live_out live_out' vs : List ℕ} {visits : ℕ} → h ≡ header_of s
+pub solved : {s : List ℕ} {h : Header} {masks masks' live_in live_in' live_out live_out' vs : List ℕ} {visits : ℕ} → h ≡ header_of s
     → Masked s h masks masks' vs visits
-    → Written h.statements (live_in_word (flow_of s)) is_live_in live_in'
-    → Written h.statements (live_out_word (flow_of s)) is_live_out live_out'
-    → Findings (flow_of s) masks masks' is_live_in live_in' is_live_out live_out' visits
-solved {s} {h} {masks} {masks'} {is_live_in} {live_in'} {is_live_out} {live_out'} e m i o = record {
+    → Written h.statements (live_in_word (flow_of s)) live_in live_in'
+    → Written h.statements (live_out_word (flow_of s)) live_out live_out'
+    → Findings (flow_of s) masks masks' live_in live_in' live_out live_out' visits
+solved {s} {h} {masks} {masks'} {live_in} {live_in'} {live_out} {live_out'} e m i o = record {
   found = m.found;
-  live_in = subst (λ k. Written k (live_in_word (flow_of s)) is_live_in live_in') (sym (sizes s e)) i;
-  live_out = subst (λ k. Written k (live_out_word (flow_of s)) is_live_out live_out') (sym (sizes s e)) o;
+  live_in = subst (λ k. Written k (live_in_word (flow_of s)) live_in live_in') (sym (sizes s e)) i;
+  live_out = subst (λ k. Written k (live_out_word (flow_of s)) live_out live_out') (sym (sizes s e)) o;
 }

@@ -63,12 +63,12 @@ module _ (f : Flow) (wf : WellFormed f) {masks masks' : List ℕ} {visits : ℕ}
             subst (λ b. holds b (x.states a) ≡ true) (sym (any.mask_bytes x.stmt a (run-below wf r) m)) (any-state (x.states a));
       }
 
-module _ (f : Flow) (wf : WellFormed f) (masks masks' is_live_in live_in' is_live_out live_out' work work' : List ℕ) (visits : ℕ)
-    (left : Findings f masks masks' is_live_in live_in' is_live_out live_out' visits) (zero : work' ≡ replicate (length work) 0) where
+module _ (f : Flow) (wf : WellFormed f) (masks masks' live_in live_in' live_out live_out' work work' : List ℕ) (visits : ℕ)
+    (left : Findings f masks masks' live_in live_in' live_out live_out' visits) (zero : work' ≡ replicate (length work) 0) where
   abbrev all : Bytes f wf left.found
   all = bytes f wf left.found (opaque_handler f) refl
 
-  pub promised : Answered f masks masks' is_live_in live_in' is_live_out live_out' work work' visits
+  pub promised : Answered f masks masks' live_in live_in' live_out live_out' work work' visits
   promised = record {
     solved = λ clear. left.found.solved (not-opaque-handler f clear);
     unsolved = λ o. left.found.unsolved (opaque_handler-complete wf o);

@@ -31,32 +31,32 @@ same-visits e h = cc
 same_refusal : {r : Answer} {x y : Refusal} → r ≡ Refused x → r ≡ Refused y → x ≡ y
 same_refusal e h = cc
 
-module _ {s masks masks' live_in live_in' is_live_out live_out' work work' : List ℕ} {r : Answer} (p : Promise s masks masks' live_in live_in' is_live_out live_out' work work' r) where
+module _ {s masks masks' live_in live_in' live_out live_out' work work' : List ℕ} {r : Answer} (p : Promise s masks masks' live_in live_in' live_out live_out' work work' r) where
   abbrev found : Verdict
-  found = judged s (length masks) (length live_in) (length is_live_out) (length work)
+  found = judged s (length masks) (length live_in) (length live_out) (length work)
 
-  pub told-accepted : {v : ℕ} → r ≡ Accepted v → (judged s (length masks) (length live_in) (length is_live_out) (length work) ≡ fit) × Answered (flow_of s) masks masks' live_in live_in' is_live_out live_out' work work' v
+  pub told-accepted : {v : ℕ} → r ≡ Accepted v → (judged s (length masks) (length live_in) (length live_out) (length work) ≡ fit) × Answered (flow_of s) masks masks' live_in live_in' live_out live_out' work work' v
   told-accepted {v} told = by found refl
     where
-      by : (x : Verdict) → found ≡ x → (found ≡ fit) × Answered (flow_of s) masks masks' live_in live_in' is_live_out live_out' work work' v
+      by : (x : Verdict) → found ≡ x → (found ≡ fit) × Answered (flow_of s) masks masks' live_in live_in' live_out live_out' work work' v
       by fit e =
           let a = p.accepted e in
-          (e, subst (λ k. Answered (flow_of s) masks masks' live_in live_in' is_live_out live_out' work work' k) (same-visits a.1 told) a.2)
+          (e, subst (λ k. Answered (flow_of s) masks masks' live_in live_in' live_out live_out' work work' k) (same-visits a.1 told) a.2)
       by (unfit x) e = absurd (not_both told (p.refused x e).0)
 
-  pub told-refused : {x : Refusal} → r ≡ Refused x → (judged s (length masks) (length live_in) (length is_live_out) (length work) ≡ unfit x) × Untouched masks masks' live_in live_in' is_live_out live_out' work work'
+  pub told-refused : {x : Refusal} → r ≡ Refused x → (judged s (length masks) (length live_in) (length live_out) (length work) ≡ unfit x) × Untouched masks masks' live_in live_in' live_out live_out' work work'
   told-refused {x} told = by found refl
     where
-      by : (y : Verdict) → found ≡ y → (found ≡ unfit x) × Untouched masks masks' live_in live_in' is_live_out live_out' work work'
+      by : (y : Verdict) → found ≡ y → (found ≡ unfit x) × Untouched masks masks' live_in live_in' live_out live_out' work work'
       by fit e = absurd (not_both (p.accepted e).1 told)
       by (unfit y) e = let a = p.refused y e in (subst (λ (z : Refusal). found ≡ unfit z) (same_refusal a.0 told) e, a.1)
 
 -- file and areas that are judged fit: the file is
-pub fit-file : (s : List ℕ) (masks live_in is_live_out work : ℕ) → judged s masks live_in is_live_out work ≡ fit → FitFile s
-fit-file s masks live_in is_live_out work e = record { checked = fit-left (file_checks s) _ e }
+pub fit-file : (s : List ℕ) (masks live_in live_out work : ℕ) → judged s masks live_in live_out work ≡ fit → FitFile s
+fit-file s masks live_in live_out work e = record { checked = fit-left (file_checks s) _ e }
 
 -- the count and the bytes are those of the computed form
-module _ {f : Flow} {masks masks' live_in live_in' is_live_out live_out' work work' : List ℕ} {v : ℕ} (wf : WellFormed f) (done : Answered f masks masks' live_in live_in' is_live_out live_out' work work' v) where
+module _ {f : Flow} {masks masks' live_in live_in' live_out live_out' work work' : List ℕ} {v : ℕ} (wf : WellFormed f) (done : Answered f masks masks' live_in live_in' live_out live_out' work work' v) where
   pub visits_computed : v ≡ visits_of f
   visits_computed = go (opaque_handler f) refl
     where
@@ -72,14 +72,14 @@ module _ {f : Flow} {masks masks' live_in live_in' is_live_out live_out' work wo
       go false q = let rule = done.solved (handler-not-opaque wf q) in rule.mask_bytes i a l m ∙ term_1_masks f wf q rule.over i a
 
 -- two calls with the same file and areas of the same lengths have the same answer
-pub one_answer : {s masks live_in is_live_out work : List ℕ} {m₁ m₂ i₁ i₂ o₁ o₂ w₁ w₂ : List ℕ} {r₁ r₂ : Answer}
-    → Promise s masks m₁ live_in i₁ is_live_out o₁ work w₁ r₁ → Promise s masks m₂ live_in i₂ is_live_out o₂ work w₂ r₂ → r₁ ≡ r₂
-one_answer {s} {masks} {live_in} {is_live_out} {work} {r₁ = r₁} {r₂ = r₂} p q = by (judged s (length masks) (length live_in) (length is_live_out) (length work)) refl
+pub one_answer : {s masks live_in live_out work : List ℕ} {m₁ m₂ i₁ i₂ o₁ o₂ w₁ w₂ : List ℕ} {r₁ r₂ : Answer}
+    → Promise s masks m₁ live_in i₁ live_out o₁ work w₁ r₁ → Promise s masks m₂ live_in i₂ live_out o₂ work w₂ r₂ → r₁ ≡ r₂
+one_answer {s} {masks} {live_in} {live_out} {work} {r₁ = r₁} {r₂ = r₂} p q = by (judged s (length masks) (length live_in) (length live_out) (length work)) refl
   where
-    by : (x : Verdict) → judged s (length masks) (length live_in) (length is_live_out) (length work) ≡ x → r₁ ≡ r₂
+    by : (x : Verdict) → judged s (length masks) (length live_in) (length live_out) (length work) ≡ x → r₁ ≡ r₂
     by fit e =
         let a = p.accepted e in
         let b = q.accepted e in
-        let wf = well_formed (fit-file s (length masks) (length live_in) (length is_live_out) (length work) e) in
+        let wf = well_formed (fit-file s (length masks) (length live_in) (length live_out) (length work) e) in
         a.1 ∙ ap Accepted (visits_computed wf a.2 ∙ sym (visits_computed wf b.2)) ∙ sym b.1
     by (unfit x) e = (p.refused x e).0 ∙ sym (q.refused x e).0

@@ -16,7 +16,7 @@ use Rattle.dataflow.specs.declared.Answer.TheVariants.{Accepted, Refused}
 
 -- the fields of the file in file order, then the areas by their lengths
 abbrev pub judged : List ℕ → ℕ → ℕ → ℕ → ℕ → Verdict
-judged s masks is_live_in is_live_out work = verdict (file_checks s ++ area_checks (size (flow_of s)) (flow_of s).arrays masks is_live_in is_live_out work)
+judged s masks live_in live_out work = verdict (file_checks s ++ area_checks (size (flow_of s)) (flow_of s).arrays masks live_in live_out work)
 
 -- an area of words before and after: the first n are what f gives, the others as they were
 pub record Written (n : ℕ) (f : ℕ → ℕ) (before after : List ℕ) : Type 0 where
@@ -42,7 +42,7 @@ pub record Unsolved (f : Flow) (masks : List ℕ) (visits : ℕ) : Type 0 where
   pub mask_bytes : (i a : ℕ) → i < size f → a < f.arrays → get_or masks (i * f.arrays + a) 0 ≡ any_state
 
 -- what an accepted call has written
-pub record Answered (f : Flow) (masks masks' is_live_in live_in' is_live_out live_out' work work' : List ℕ) (visits : ℕ) : Type 0 where
+pub record Answered (f : Flow) (masks masks' live_in live_in' live_out live_out' work work' : List ℕ) (visits : ℕ) : Type 0 where
   -- term 1: the queue rule, unless the handler's body is opaque; within the bound
   pub solved : (OpaqueHandler f → ⊥) → Solved f masks' visits
   pub unsolved : OpaqueHandler f → Unsolved f masks' visits
@@ -50,8 +50,8 @@ pub record Answered (f : Flow) (masks masks' is_live_in live_in' is_live_out liv
   -- all other bytes
   pub masks_size : length masks' ≡ length masks
   pub masks_kept : (x : ℕ) → size f * f.arrays ≤ x → get_or masks' x 0 ≡ get_or masks x 0
-  pub live_in : Written (size f) (live_in_word f) is_live_in live_in'
-  pub live_out : Written (size f) (live_out_word f) is_live_out live_out'
+  pub live_in : Written (size f) (live_in_word f) live_in live_in'
+  pub live_out : Written (size f) (live_out_word f) live_out live_out'
   pub work_zero : work' ≡ replicate (length work) 0
   -- term 2: the walks, unless the handler's body is opaque; 0 to 7
   pub walked : (OpaqueHandler f → ⊥) → Walked f masks'
@@ -64,15 +64,15 @@ pub record Answered (f : Flow) (masks masks' is_live_in live_in' is_live_out liv
   pub runs : Listed f → (x : Config) → Run f x → (a : ℕ) → a < f.arrays → holds (get_or masks' (x.stmt * f.arrays + a) 0) (x.states a) ≡ true
 
 -- every lent area is as it was
-pub record Untouched (masks masks' is_live_in live_in' is_live_out live_out' work work' : List ℕ) : Type 0 where
+pub record Untouched (masks masks' live_in live_in' live_out live_out' work work' : List ℕ) : Type 0 where
   pub same_masks : masks' ≡ masks
-  pub same_live_in : live_in' ≡ is_live_in
-  pub same_live_out : live_out' ≡ is_live_out
+  pub same_live_in : live_in' ≡ live_in
+  pub same_live_out : live_out' ≡ live_out
   pub same_work : work' ≡ work
 
 -- refused exactly where a field or an area is unfit, and by that refusal
-pub record Promise (s masks masks' is_live_in live_in' is_live_out live_out' work work' : List ℕ) (r : Answer) : Type 0 where
-  pub refused : (x : Refusal) → judged s (length masks) (length is_live_in) (length is_live_out) (length work) ≡ unfit x
-      → (r ≡ Refused x) × Untouched masks masks' is_live_in live_in' is_live_out live_out' work work'
-  pub accepted : judged s (length masks) (length is_live_in) (length is_live_out) (length work) ≡ fit
-      → (v : ℕ) × (r ≡ Accepted v) × Answered (flow_of s) masks masks' is_live_in live_in' is_live_out live_out' work work' v
+pub record Promise (s masks masks' live_in live_in' live_out live_out' work work' : List ℕ) (r : Answer) : Type 0 where
+  pub refused : (x : Refusal) → judged s (length masks) (length live_in) (length live_out) (length work) ≡ unfit x
+      → (r ≡ Refused x) × Untouched masks masks' live_in live_in' live_out live_out' work work'
+  pub accepted : judged s (length masks) (length live_in) (length live_out) (length work) ≡ fit
+      → (v : ℕ) × (r ≡ Accepted v) × Answered (flow_of s) masks masks' live_in live_in' live_out live_out' work work' v

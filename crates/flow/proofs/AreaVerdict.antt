@@ -9,14 +9,14 @@ use Rattle.flow.specs.Limits.{work_words}
 use Rattle.flow.specs.Format.{fit, unfit, first, verdict, area_checks}
 use Rattle.flow.specs.Clauses.Answers.{is_fit}
 
-abbrev pub long_enough : (n arrays masks live_in is_live_out work : ℕ) → Bool
-long_enough n arrays masks live_in is_live_out work =
-    leb (n * arrays) masks && (leb n live_in && (leb n is_live_out && leb (work_words n) work))
+abbrev pub long_enough : (n arrays masks live_in live_out work : ℕ) → Bool
+long_enough n arrays masks live_in live_out work =
+    leb (n * arrays) masks && (leb n live_in && (leb n live_out && leb (work_words n) work))
 
-module _ (n arrays masks live_in is_live_out work : ℕ) where
-  pub area-verdict : verdict (area_checks n arrays masks live_in is_live_out work) ≡ cond (long_enough n arrays masks live_in is_live_out work) fit (unfit Areas)
+module _ (n arrays masks live_in live_out work : ℕ) where
+  pub area-verdict : verdict (area_checks n arrays masks live_in live_out work) ≡ cond (long_enough n arrays masks live_in live_out work) fit (unfit Areas)
   unfolding verdict area_checks
-  area-verdict = go (leb (n * arrays) masks) (leb n live_in) (leb n is_live_out) (leb (work_words n) work)
+  area-verdict = go (leb (n * arrays) masks) (leb n live_in) (leb n live_out) (leb (work_words n) work)
     where
       go : (a b c d : Bool) → first a Areas (first b Areas (first c Areas (first d Areas fit))) ≡ cond (a && (b && (c && d))) fit (unfit Areas)
       go false b c d = refl
@@ -25,8 +25,8 @@ module _ (n arrays masks live_in is_live_out work : ℕ) where
       go true true true false = refl
       go true true true true = refl
 
-  pub areas-fit : is_fit (verdict (area_checks n arrays masks live_in is_live_out work)) ≡ long_enough n arrays masks live_in is_live_out work
-  areas-fit = ap is_fit area-verdict ∙ go (long_enough n arrays masks live_in is_live_out work)
+  pub areas-fit : is_fit (verdict (area_checks n arrays masks live_in live_out work)) ≡ long_enough n arrays masks live_in live_out work
+  areas-fit = ap is_fit area-verdict ∙ go (long_enough n arrays masks live_in live_out work)
     where
       go : (b : Bool) → is_fit (cond b fit (unfit Areas)) ≡ b
       go true = refl

@@ -418,8 +418,8 @@ abbrev pub area_check : ℕ → ℕ → Check
 area_check need have = check (leb need have) Areas
 
 unfoldable pub area_checks : ℕ → ℕ → ℕ → ℕ → ℕ → ℕ → List Check
-area_checks n arrays masks live_in is_live_out work =
-    area_check (n * arrays) masks ∷ area_check n live_in ∷ area_check n is_live_out ∷ area_check (work_words n) work ∷ []
+area_checks n arrays masks live_in live_out work =
+    area_check (n * arrays) masks ∷ area_check n live_in ∷ area_check n live_out ∷ area_check (work_words n) work ∷ []
 
 -- a verdict's number and place as the outside sees them: 0 and 0 where the file is fit
 abbrev pub verdict_number : Verdict → ℕ

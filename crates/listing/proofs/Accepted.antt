@@ -24,19 +24,19 @@ use Rattle.listing.specs.Clauses.Room.{Room, word_in, mask_byte, areas_text}
 use Rattle.listing.proofs.MaskField.{same_text}
 
 -- what was judged fit: the file, and areas of these lengths
-pub record Judged (s : List ℕ) (masks is_live_in is_live_out work : ℕ) : Type 0 where
+pub record Judged (s : List ℕ) (masks live_in live_out work : ℕ) : Type 0 where
   pub file : FitFile s
   pub masks_fit : statements_of s * arrays_of s ≤ masks
-  pub in_fit : statements_of s ≤ is_live_in
-  pub out_fit : statements_of s ≤ is_live_out
+  pub in_fit : statements_of s ≤ live_in
+  pub out_fit : statements_of s ≤ live_out
   pub work_fit : work_words (statements_of s) ≤ work
 
-pub judged-fit : (s : List ℕ) (masks is_live_in is_live_out work : ℕ) → judged s masks is_live_in is_live_out work ≡ fit → Judged s masks is_live_in is_live_out work
+pub judged-fit : (s : List ℕ) (masks live_in live_out work : ℕ) → judged s masks live_in live_out work ≡ fit → Judged s masks live_in live_out work
 unfolding area_checks
-judged-fit s masks is_live_in is_live_out work h =
-    let areas = area_checks (size (flow_of s)) (flow_of s).arrays masks is_live_in is_live_out work in
+judged-fit s masks live_in live_out work h =
+    let areas = area_checks (size (flow_of s)) (flow_of s).arrays masks live_in live_out work in
     let fits = rw (size_is s, arrays-is s) at (fit-right (file_checks s) areas h) in
-    let rooms = all_hold (area_checks (statements_of s) (arrays_of s) masks is_live_in is_live_out work) fits in
+    let rooms = all_hold (area_checks (statements_of s) (arrays_of s) masks live_in live_out work) fits in
     record {
       file = record { checked = fit-left (file_checks s) areas h };
       masks_fit = omega (arith, leb-true);
@@ -46,15 +46,15 @@ judged-fit s masks is_live_in is_live_out work h =
     }
 
 -- the areas hold the masks, 0 to 7, and the live words of the definitions
-pub record Holds (f : Flow) (masks is_live_in is_live_out : List ℕ) : Type 0 where
+pub record Holds (f : Flow) (masks live_in live_out : List ℕ) : Type 0 where
   pub mask : (i a : ℕ) → i < size f → a < f.arrays → mask_byte masks f.arrays i a ≡ mask_of f i a
   pub below : (i a : ℕ) → i < size f → a < f.arrays → mask_byte masks f.arrays i a < 8
-  pub live_in : (i : ℕ) → i < size f → word_in is_live_in i ≡ live_in_word f i
-  pub live_out : (i : ℕ) → i < size f → word_in is_live_out i ≡ live_out_word f i
+  pub live_in : (i : ℕ) → i < size f → word_in live_in i ≡ live_in_word f i
+  pub live_out : (i : ℕ) → i < size f → word_in live_out i ≡ live_out_word f i
 
 -- all that the listing takes from what an accepted call has written
-pub holds : {f : Flow} {masks masks' is_live_in live_in' is_live_out live_out' work work' : List ℕ} {visits : ℕ}
-    → WellFormed f → Answered f masks masks' is_live_in live_in' is_live_out live_out' work work' visits → Holds f masks' live_in' live_out'
+pub holds : {f : Flow} {masks masks' live_in live_in' live_out live_out' work work' : List ℕ} {visits : ℕ}
+    → WellFormed f → Answered f masks masks' live_in live_in' live_out live_out' work work' visits → Holds f masks' live_in' live_out'
 holds {f} wf d = record {
   mask = masks_computed wf d;
   below = d.below;
@@ -62,12 +62,12 @@ holds {f} wf d = record {
   live_out = d.live_out.written;
 }
 
-module _ (s : List ℕ) {masks is_live_in is_live_out : List ℕ} (h : Holds (flow_of s) masks is_live_in is_live_out) where
+module _ (s : List ℕ) {masks live_in live_out : List ℕ} (h : Holds (flow_of s) masks live_in live_out) where
   mask-held : (i a : ℕ) → i < size (flow_of s) → a < (flow_of s).arrays → mask_byte masks (arrays_of s) i a ≡ mask_of (flow_of s) i a
   mask-held i a l m = subst (λ n. mask_byte masks n i a ≡ mask_of (flow_of s) i a) (arrays-is s) (h.mask i a l m)
 
-  pub room : FitFile s → statements_of s ≤ served → statements_of s * arrays_of s ≤ length masks → statements_of s ≤ length is_live_in → statements_of s ≤ length is_live_out
-      → Room s masks is_live_in is_live_out
+  pub room : FitFile s → statements_of s ≤ served → statements_of s * arrays_of s ≤ length masks → statements_of s ≤ length live_in → statements_of s ≤ length live_out
+      → Room s masks live_in live_out
   room f few m i o = record {
     fit = f;
     few = few;
@@ -79,6 +79,6 @@ module _ (s : List ℕ) {masks is_live_in is_live_out : List ℕ} (h : Holds (fl
     out_room = o;
   }
 
-  pub text-held : areas_text s masks is_live_in is_live_out ≡ flow_text (flow_of s) (mask_of (flow_of s)) (live_in_word (flow_of s)) (live_out_word (flow_of s))
+  pub text-held : areas_text s masks live_in live_out ≡ flow_text (flow_of s) (mask_of (flow_of s)) (live_in_word (flow_of s)) (live_out_word (flow_of s))
   text-held =
       same_text (flow_of s) mask-held h.live_in h.live_out

@@ -50,11 +50,11 @@ short_text : (s : List ℕ) → length s ≤ max_input → text s ≡ listing (v
 unfolding text
 short_text s l = rw (le-ltb max_input (length s) l)
 
-module _ {s masks masks' is_live_in live_in' is_live_out live_out' work work' : List ℕ} {r : Answer}
-    (p : Promise s masks masks' is_live_in live_in' is_live_out live_out' work work' r)
-    (m : length masks ≡ served * max_arrays) (i : length is_live_in ≡ served) (o : length is_live_out ≡ served) (w : length work ≡ work_words served) where
-  lengths : judged s (length masks) (length is_live_in) (length is_live_out) (length work) ≡ verdict_of s
-  lengths = ap₂ (λ k l. judged s k l (length is_live_out) (length work)) m i ∙ ap₂ (λ k l. judged s (served * max_arrays) served k l) o w
+module _ {s masks masks' live_in live_in' live_out live_out' work work' : List ℕ} {r : Answer}
+    (p : Promise s masks masks' live_in live_in' live_out live_out' work work' r)
+    (m : length masks ≡ served * max_arrays) (i : length live_in ≡ served) (o : length live_out ≡ served) (w : length work ≡ work_words served) where
+  lengths : judged s (length masks) (length live_in) (length live_out) (length work) ≡ verdict_of s
+  lengths = ap₂ (λ k l. judged s k l (length live_out) (length work)) m i ∙ ap₂ (λ k l. judged s (served * max_arrays) served k l) o w
 
   pub refused-text : {x : Refusal} {number place : ℕ} → r ≡ Refused x → length s ≤ max_input → number ≡ number_of x → place ≡ place_of x
       → line_of ((letter_r ∷ []) ∷ decimal number ∷ decimal place ∷ []) ≡ text s
@@ -91,9 +91,9 @@ module _ {s masks masks' is_live_in live_in' is_live_out live_out' work work' : 
         ∙ sym (short_text s l ∙ ap (λ v. listing v (flow_of s)) (sym lengths ∙ (told-accepted p e).0))
 
 -- the areas serve the flow, so that the text has room
-pub text-room : (s masks is_live_in is_live_out out : List ℕ) → ((x : ℕ) → Fits w8 (get_or s x 0)) → Room s masks is_live_in is_live_out → length out ≡ 11 + 108 * served
-    → HasRoom out 0 (areas_text s masks is_live_in is_live_out)
-text-room s masks is_live_in is_live_out out b h l = record { fits = omega (arith, text-length (flow_of s) (mask_byte masks (arrays_of s)) (word_in is_live_in) (word_in is_live_out) fits_in, l) }
+pub text-room : (s masks live_in live_out out : List ℕ) → ((x : ℕ) → Fits w8 (get_or s x 0)) → Room s masks live_in live_out → length out ≡ 11 + 108 * served
+    → HasRoom out 0 (areas_text s masks live_in live_out)
+text-room s masks live_in live_out out b h l = record { fits = omega (arith, text-length (flow_of s) (mask_byte masks (arrays_of s)) (word_in live_in) (word_in live_out) fits_in, l) }
   where
     fits_in : Served (flow_of s)
     fits_in = record {

@@ -54,14 +54,14 @@ pub record Served (f : Flow) : Type 0 where
   pub names : f.names ≤ max_names
   pub line : (i : ℕ) → i < size f → (statement f i).line < 65536
 
-module _ (f : Flow) (mask : ℕ → ℕ → ℕ) (live_in is_live_out : ℕ → ℕ) (h : Served f) where
+module _ (f : Flow) (mask : ℕ → ℕ → ℕ) (live_in live_out : ℕ → ℕ) (h : Served f) where
   first-length : length (first_line f) ≤ 11
   unfolding first_line line_of
   first-length =
       simp length-append
       (omega (arith, decimal-length (size f) 1 (omega (arith, h.statements)), decimal-length f.arrays 1 (omega (arith, h.arrays)), decimal-length f.names 1 (omega (arith, h.names))))
 
-  statement-length : (i : ℕ) → i < size f → length (statement_line f mask live_in is_live_out i) ≤ 108
+  statement-length : (i : ℕ) → i < size f → length (statement_line f mask live_in live_out i) ≤ 108
   unfolding statement_line line_of
   statement-length i l =
       simp length-append
@@ -71,17 +71,17 @@ module _ (f : Flow) (mask : ℕ → ℕ → ℕ) (live_in is_live_out : ℕ → 
         decimal-length (statement f i).line 4 (omega (arith, h.line i l)),
         mask-length f.arrays (mask i) h.arrays,
         hex_length (live_in i),
-        hex_length (is_live_out i),
+        hex_length (live_out i),
       ))
 
-  pub text-length : length (flow_text f mask live_in is_live_out) ≤ 11 + 108 * served
+  pub text-length : length (flow_text f mask live_in live_out) ≤ 11 + 108 * served
   unfolding flow_text
   text-length =
       omega (
         arith,
-        length-append (first_line f) (concat_map (statement_line f mask live_in is_live_out) (up_to (size f))),
+        length-append (first_line f) (concat_map (statement_line f mask live_in live_out) (up_to (size f))),
         first-length,
-        lines-length (size f) (statement_line f mask live_in is_live_out) statement-length,
+        lines-length (size f) (statement_line f mask live_in live_out) statement-length,
         h.statements,
       )
 

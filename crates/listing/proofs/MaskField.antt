@@ -39,17 +39,17 @@ same_lines (suc n) l m h =
     ∙ ap₂ (λ x y. x ++ (y ++ [])) (same_lines n l m (λ i k. h i (omega arith))) (h n (omega arith))
     ∙ sym (concat_map-append m (up_to n) (n ∷ []))
 
-module _ (f : Flow) {mask mask' : ℕ → ℕ → ℕ} {live_in live_in' is_live_out live_out' : ℕ → ℕ}
+module _ (f : Flow) {mask mask' : ℕ → ℕ → ℕ} {live_in live_in' live_out live_out' : ℕ → ℕ}
     (m : (i a : ℕ) → i < size f → a < f.arrays → mask i a ≡ mask' i a)
     (b : (i : ℕ) → i < size f → live_in i ≡ live_in' i)
-    (o : (i : ℕ) → i < size f → is_live_out i ≡ live_out' i) where
-  same_line : (i : ℕ) → i < size f → statement_line f mask live_in is_live_out i ≡ statement_line f mask' live_in' live_out' i
+    (o : (i : ℕ) → i < size f → live_out i ≡ live_out' i) where
+  same_line : (i : ℕ) → i < size f → statement_line f mask live_in live_out i ≡ statement_line f mask' live_in' live_out' i
   unfolding statement_line
   same_line i l =
       let head : List ℕ → ℕ → ℕ → List ℕ = λ x u v. line_of (decimal i ∷ decimal (statement f i).line ∷ x ∷ hexadecimal u ∷ hexadecimal v ∷ []) in
-      ap (λ x. head x (live_in i) (is_live_out i)) (same_masks f.arrays (mask i) (mask' i) (λ a. m i a l))
+      ap (λ x. head x (live_in i) (live_out i)) (same_masks f.arrays (mask i) (mask' i) (λ a. m i a l))
       ∙ ap₂ (λ u v. head (mask_digits f.arrays (mask' i)) u v) (b i l) (o i l)
 
-  pub same_text : flow_text f mask live_in is_live_out ≡ flow_text f mask' live_in' live_out'
+  pub same_text : flow_text f mask live_in live_out ≡ flow_text f mask' live_in' live_out'
   unfolding flow_text
   same_text = ap (λ t. first_line f ++ t) (same_lines (size f) _ _ same_line)

@@ -50,7 +50,7 @@ module _ (line : ℕ → List ℕ) where
     line_added {o''} {at''} b = rw (add-one, one_more i) (then a b)
 
 -- the row of statement i begins at r and ends before e
-module _ {s masks live_in is_live_out : List ℕ} (room : Room s masks live_in is_live_out) (i : ℕ) (l : i < statements_of s) (r e : ℕ) (begin : r ≡ i * arrays_of s)
+module _ {s masks live_in live_out : List ℕ} (room : Room s masks live_in live_out) (i : ℕ) (l : i < statements_of s) (r e : ℕ) (begin : r ≡ i * arrays_of s)
     (end : e ≡ r + arrays_of s) where
   abbrev row : List ℕ
   row = take (e - r) (drop r masks)
@@ -78,11 +78,11 @@ module _ {s masks live_in is_live_out : List ℕ} (room : Room s masks live_in i
   line-number = part_line (record-fit room.fit i l) ∙ sym (says s i l).line
 
   pub line-written : (number : ℕ) → number ≡ line_at (record_part s (record_place s i)) 0
-      → line_of (decimal i ∷ decimal number ∷ mask_digits (length row) (word_in row) ∷ hexadecimal (word_in live_in i) ∷ hexadecimal (word_in is_live_out i) ∷ [])
-      ≡ areas_line s masks live_in is_live_out i
+      → line_of (decimal i ∷ decimal number ∷ mask_digits (length row) (word_in row) ∷ hexadecimal (word_in live_in i) ∷ hexadecimal (word_in live_out i) ∷ [])
+      ≡ areas_line s masks live_in live_out i
   unfolding statement_line
   line-written number n =
-      ap₂ (λ x y. line_of (decimal i ∷ decimal x ∷ y ∷ hexadecimal (word_in live_in i) ∷ hexadecimal (word_in is_live_out i) ∷ []))
+      ap₂ (λ x y. line_of (decimal i ∷ decimal x ∷ y ∷ hexadecimal (word_in live_in i) ∷ hexadecimal (word_in live_out i) ∷ []))
       (n ∙ line-number)
       (ap (λ k. mask_digits k (word_in row)) (row-length ∙ sym (arrays-is s))
       ∙ same_masks (flow_of s).arrays (word_in row) (λ a. get_or masks (i * arrays_of s + a) 0) (λ a h. row_at a (subst (λ k. a < k) (arrays-is s) h)))
@@ -93,10 +93,10 @@ pub names_is : (s : List ℕ) → (flow_of s).names ≡ names_of s
 unfolding flow_of
 names_is s = refl
 
-pub text-parts : (s masks live_in is_live_out : List ℕ) {n a m : ℕ} → n ≡ statements_of s → a ≡ arrays_of s → m ≡ names_of s
-    → areas_text s masks live_in is_live_out
-    ≡ line_of ((letter_f ∷ []) ∷ decimal n ∷ decimal a ∷ decimal m ∷ []) ++ concat_map (areas_line s masks live_in is_live_out) (up_to n)
+pub text-parts : (s masks live_in live_out : List ℕ) {n a m : ℕ} → n ≡ statements_of s → a ≡ arrays_of s → m ≡ names_of s
+    → areas_text s masks live_in live_out
+    ≡ line_of ((letter_f ∷ []) ∷ decimal n ∷ decimal a ∷ decimal m ∷ []) ++ concat_map (areas_line s masks live_in live_out) (up_to n)
 unfolding flow_text first_line
-text-parts s masks live_in is_live_out {n} {a} {m} p q r =
-    let parts : ℕ → ℕ → ℕ → List ℕ = λ k x y. line_of ((letter_f ∷ []) ∷ decimal k ∷ decimal x ∷ decimal y ∷ []) ++ concat_map (areas_line s masks live_in is_live_out) (up_to k) in
+text-parts s masks live_in live_out {n} {a} {m} p q r =
+    let parts : ℕ → ℕ → ℕ → List ℕ = λ k x y. line_of ((letter_f ∷ []) ∷ decimal k ∷ decimal x ∷ decimal y ∷ []) ++ concat_map (areas_line s masks live_in live_out) (up_to k) in
     ap (λ k. parts k (flow_of s).arrays (flow_of s).names) (size_is s ∙ sym p) ∙ ap₂ (λ x y. parts n x y) (arrays-is s ∙ sym q) (names_is s ∙ sym r)

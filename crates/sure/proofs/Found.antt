@@ -100,12 +100,12 @@ returns_ask_none f n = (λ i l e. rw (return_no_gosub (kind f i) e) refl, λ i l
 -- Walks of the law, and what is missed
 
 comes-missed : (f : Flow) {x i : ℕ} → x < 64 → Comes (backward f (returning f)) x i → Missed f x i
-comes-missed f l (Comes.start t) = Missed.at_return_lem t.1 t.0
+comes-missed f l (Comes.start t) = Missed.at_return t.1 t.0
 comes-missed f l (Comes.given e t q g) = absurd g
 comes-missed f {x} {i} l (Comes.through e t q p c) = Missed.on t (λ b m. comes-missed f l (q b (l, in_word (returning f i) (one-returning f i) m))) e (comes-missed f l c)
 
 missed-comes : {f : Flow} {x i : ℕ} → Missed f x i → Comes (backward f (returning f)) x i
-missed-comes (Missed.at_return_lem e r) = Comes.start (r, e)
+missed-comes (Missed.at_return e r) = Comes.start (r, e)
 missed-comes {f} {x} {i} (Missed.on e q m c) = Comes.through m e (λ b p. missed-comes (q b (word_in (returning f i) p.1))) tt (missed-comes c)
 
 -- what comes where bodies are asked, comes where fewer are

@@ -220,16 +220,16 @@ AllAny f t = (v : Node) (a : ℕ) → v.stmt < size f → a < f.arrays → t (nu
 pub any_numbers : (f : Flow) (t : Proposal) → AllAny f t → (d a : ℕ) → d < size f + size f → a < f.arrays → t d a ≡ any_state
 any_numbers f t h d a l k = subst (λ (j : ℕ). t j a ≡ any_state) (number-node (size f) d) (h (node f d) a (node-below (size f) d l) k)
 
-pub is_all_anyy_sound : (f : Flow) (t : Proposal) → is_all_any f t ≡ true → AllAny f t
+pub is_all_any-sound : (f : Flow) (t : Proposal) → is_all_any f t ≡ true → AllAny f t
 unfolding is_all_any
-is_all_anyy_sound f t h v a l k =
+is_all_any-sound f t h v a l k =
     eqb-true (t (number f v) a) any_state
     (all_below-at f.arrays (λ a. eqb (t (number f v) a) any_state)
     (all_below-at (size f + size f) (λ d. all_below f.arrays (λ a. eqb (t d a) any_state)) h (number f v) (number-below f v l)) a k)
 
-pub is_all_anyy_complete : (f : Flow) (t : Proposal) → AllAny f t → is_all_any f t ≡ true
+pub is_all_any-complete : (f : Flow) (t : Proposal) → AllAny f t → is_all_any f t ≡ true
 unfolding is_all_any
-is_all_anyy_complete f t h =
+is_all_any-complete f t h =
     all_below-all (size f + size f) (λ d. all_below f.arrays (λ a. eqb (t d a) any_state))
     (λ d l. all_below-all f.arrays (λ a. eqb (t d a) any_state) (λ a k. eq-eqb (t d a) any_state (any_numbers f t h d a l k)))
 
@@ -254,14 +254,14 @@ module _ {f : Flow} {t : Proposal} (wf : WellFormed f) where
     where
       go : Dec (size f ≡ 0) → (b : Bool) → opaque_handler f ≡ b → Accepted f t
       go (yes e) b q = Accepted.no_statements e
-      go (no n) true q = Accepted.All-any (opaque_handler-sound f q) (is_all_anyy_sound f t (sym (accepted-any f t (omega (arith, n)) q) ∙ h))
+      go (no n) true q = Accepted.all_any (opaque_handler-sound f q) (is_all_any-sound f t (sym (accepted-any f t (omega (arith, n)) q) ∙ h))
       go (no n) false q = let some : 0 < size f = omega (arith, n) in Accepted.holding some (handler-not-opaque wf q) (all_held-sound f t (sym (accepted-held f t some q) ∙ h))
 
   pub accepted-complete : Accepted f t → accepted f t ≡ true
   accepted-complete (Accepted.no_statements e) = accepted-none f t e
-  accepted-complete (Accepted.All-any o h) = go (ℕ_discrete (size f) 0)
+  accepted-complete (Accepted.all_any o h) = go (ℕ_discrete (size f) 0)
     where
       go : Dec (size f ≡ 0) → accepted f t ≡ true
       go (yes e) = accepted-none f t e
-      go (no n) = accepted-any f t (omega (arith, n)) (opaque_handler-complete wf o) ∙ is_all_anyy_complete f t h
+      go (no n) = accepted-any f t (omega (arith, n)) (opaque_handler-complete wf o) ∙ is_all_any-complete f t h
   accepted-complete (Accepted.holding some clear h) = accepted-held f t some (not-opaque-handler f clear) ∙ all_held-complete f t h

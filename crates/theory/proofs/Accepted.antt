@@ -49,7 +49,7 @@ holding-follows f t bytes h = record {
 pub accepted-runs : (f : Flow) (t : Proposal) → WellFormed f → Bytes f t → Accepted f t → Listed f → {x : Config} → Run f x
     → (x.stmt < size f) × ((b : Base) × ((a : ℕ) → a < f.arrays → holds (t (number f (at b x.stmt)) a) (x.states a) ≡ true))
 accepted-runs f t wf bytes (Accepted.no_statements e) listed r = let l = run-below wf r in absurd (omega arith)
-accepted-runs f t wf bytes (Accepted.All-any o h) listed {x} r =
+accepted-runs f t wf bytes (Accepted.all_any o h) listed {x} r =
     (run-below wf r, (Zero, λ a l. subst (λ (m : ℕ). holds m (x.states a) ≡ true) (sym (h (at Zero x.stmt) a (run-below wf r) l)) (any-state (x.states a))))
 accepted-runs f t wf bytes (Accepted.holding some clear h) listed r = run-follows f (Held f.arrays t) wf listed clear (holding-follows f t bytes h) r
 
@@ -81,7 +81,7 @@ module _ {f : Flow} (wf : WellFormed f) where
           (subst (λ (y : ℕ). holds (step_all (x.effects a) y) s ≡ true) (same (number f v) a (number-below f v l) k) h))
 
   pub own-accepted : {t : Proposal} → Own f t → Accepted f t
-  own-accepted (Own.All-any o same) = Accepted.All-any o (λ v a l k. same (number f v) a (number-below f v l) k)
+  own-accepted (Own.all_any o same) = Accepted.all_any o (λ v a l k. same (number f v) a (number-below f v l) k)
   own-accepted {t} (Own.left clear over same) = go (ℕ_discrete (size f) 0)
     where
       go : Dec (size f ≡ 0) → Accepted f t
@@ -94,13 +94,13 @@ module _ {f : Flow} (wf : WellFormed f) where
   own-mask = go (opaque_handler f) refl
     where
       go : (b : Bool) → opaque_handler f ≡ b → Own f (own_mask f)
-      go true q = Own.All-any (opaque_handler-sound f q) (λ d a l k. rw q)
+      go true q = Own.all_any (opaque_handler-sound f q) (λ d a l k. rw q)
       go false q = Own.left (handler-not-opaque wf q) (solved-over (doubled f) (doubled_well_formed f wf)) (λ d a l k. rw q)
 
   -- and nothing else is
   pub own_unique : {t : Proposal} → Own f t → (d a : ℕ) → d < size f + size f → a < f.arrays → t d a ≡ own_mask f d a
   unfolding own_mask
-  own_unique (Own.All-any o same) d a l k = same d a l k ∙ sym (rw (opaque_handler-complete wf o))
+  own_unique (Own.all_any o same) d a l k = same d a l k ∙ sym (rw (opaque_handler-complete wf o))
   own_unique (Own.left clear over same) d a l k =
       same d a l k ∙ (ap (λ (x : Progress). x.state.masks d a) (over-solved (doubled_well_formed f wf) over) ∙ sym (rw (not-opaque-handler f clear)))
 
@@ -129,8 +129,8 @@ follows-brings g P {a} {s = u} wf follows some (Brings.along {d = d} {s = s} {e 
 pub own_least : {f : Flow} → WellFormed f → {t u : Proposal} → Own f t → Bytes f u → Accepted f u → (d a : ℕ) → d < size f + size f → a < f.arrays → Holds (u d a) (t d a)
 unfolding doubled
 own_least wf own bytes (Accepted.no_statements e) d a l k s h = absurd (omega arith)
-own_least {f} wf {u = u} own bytes (Accepted.All-any o any) d a l k s h = subst (λ (m : ℕ). holds m s ≡ true) (sym (any_numbers f u any d a l k)) (any-state s)
-own_least wf (Own.All-any o same) bytes (Accepted.holding some clear held) d a l k s h = absurd (clear o)
+own_least {f} wf {u = u} own bytes (Accepted.all_any o any) d a l k s h = subst (λ (m : ℕ). holds m s ≡ true) (sym (any_numbers f u any d a l k)) (any-state s)
+own_least wf (Own.all_any o same) bytes (Accepted.holding some clear held) d a l k s h = absurd (clear o)
 own_least {f} wf {u = u} (Own.left clear over same) bytes (Accepted.holding some free held) d a l k s h =
     let nodes : 0 < size f + size f = omega arith in
     (follows-brings (doubled f) (Held f.arrays u) (doubled_well_formed f wf) (holding-follows f u bytes held) nodes

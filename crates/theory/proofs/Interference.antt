@@ -12,11 +12,11 @@ use Rattle.flow.specs.Flow.{Flow, size}
 use Rattle.theory.specs.Lists.{any, up_to, max_below}
 use Rattle.theory.specs.Key.{on_handler}
 use Rattle.theory.specs.Clauses.WellFormed.{WellFormed}
-use Rattle.theory.specs.Live.{member, reads, writes, LiveIn, LiveOut, live_in, is_live_out}
+use Rattle.theory.specs.Live.{member, reads, writes, LiveIn, LiveOut, is_live_in, is_live_out}
 use Rattle.theory.specs.Interference.{After, Used, Together, Interferes, after, used, together_at, together, interferes, interference_word, live_count, most_live}
 use Rattle.theory.proofs.Lists.{or_cases, or_left, or_right, and_both, and-true, same_test, any-In, any_find, up_to-In, In-up_to}
 use Rattle.theory.proofs.Below.{max_below-at, max_below-attained}
-use Rattle.theory.proofs.Live.{is_live_inn_sound, is_live_inn_complete, is_live_outt_sound, is_live_outt_complete}
+use Rattle.theory.proofs.Live.{is_live_in-sound, is_live_in-complete, is_live_out-sound, is_live_out-complete}
 use Rattle.theory.proofs.Names.{names_word-member, names_word-lt, names_word-empty}
 
 -- Each test finds what its rule names
@@ -26,7 +26,7 @@ unfolding after
 after-sound f x i h = go (or_cases (is_live_out f x i) (writes f i x) h)
   where
     go : (is_live_out f x i ≡ true) ⊎ (writes f i x ≡ true) → After f x i
-    go (inl e) = After.live (is_live_outt_sound f x i e)
+    go (inl e) = After.live (is_live_out-sound f x i e)
     go (inr e) = After.written e
 
 used_sound : (f : Flow) (x : ℕ) → used f x ≡ true → Used f x
@@ -46,10 +46,10 @@ used-complete {f} {x} (Used.written {i = i} l e) = any-In (λ i. reads f i x || 
 
 together_at-sound : (f : Flow) (x y i : ℕ) → i < size f → together_at f x y i ≡ true → Together f x y
 unfolding together_at
-together_at-sound f x y i l h = go (or_cases (live_in f x i && live_in f y i) (after f x i && after f y i) h)
+together_at-sound f x y i l h = go (or_cases (is_live_in f x i && is_live_in f y i) (after f x i && after f y i) h)
   where
-    go : ((live_in f x i && live_in f y i) ≡ true) ⊎ ((after f x i && after f y i) ≡ true) → Together f x y
-    go (inl e) = let t = and_both (live_in f x i) (live_in f y i) e in Together.at_start l (is_live_inn_sound f x i t.0) (is_live_inn_sound f y i t.1)
+    go : ((is_live_in f x i && is_live_in f y i) ≡ true) ⊎ ((after f x i && after f y i) ≡ true) → Together f x y
+    go (inl e) = let t = and_both (is_live_in f x i) (is_live_in f y i) e in Together.at_start l (is_live_in-sound f x i t.0) (is_live_in-sound f y i t.1)
     go (inr e) = let t = and_both (after f x i) (after f y i) e in Together.at_end l (after-sound f x i t.0) (after-sound f y i t.1)
 
 together-sound : (f : Flow) (x y : ℕ) → together f x y ≡ true → Together f x y
@@ -89,7 +89,7 @@ module _ {f : Flow} (w : WellFormed f) where
 
   after-complete : {x i : ℕ} → After f x i → after f x i ≡ true
   unfolding after
-  after-complete {x} {i} (After.live h) = or_left (is_live_out f x i) (writes f i x) (is_live_outt_complete w h)
+  after-complete {x} {i} (After.live h) = or_left (is_live_out f x i) (writes f i x) (is_live_out-complete w h)
   after-complete {x} {i} (After.written e) = or_right (is_live_out f x i) (writes f i x) e
 
   -- without a handler
@@ -97,10 +97,10 @@ module _ {f : Flow} (w : WellFormed f) where
   unfolding together_at
   together_at-complete {x} {y} e (Together.at_start {i = i} l a b) =
       any-In (together_at f x y) (up_to-In (size f) i l)
-      (or_left (live_in f x i && live_in f y i) (after f x i && after f y i) (and-true (live_in f x i) (live_in f y i) (is_live_inn_complete w l a) (is_live_inn_complete w l b)))
+      (or_left (is_live_in f x i && is_live_in f y i) (after f x i && after f y i) (and-true (is_live_in f x i) (is_live_in f y i) (is_live_in-complete w l a) (is_live_in-complete w l b)))
   together_at-complete {x} {y} e (Together.at_end {i = i} l a b) =
       any-In (together_at f x y) (up_to-In (size f) i l)
-      (or_right (live_in f x i && live_in f y i) (after f x i && after f y i) (and-true (after f x i) (after f y i) (after-complete a) (after-complete b)))
+      (or_right (is_live_in f x i && is_live_in f y i) (after f x i && after f y i) (and-true (after f x i) (after f y i) (after-complete a) (after-complete b)))
   together_at-complete e (Together.by_handler {h = h} q a b) = let z : ◌≡◌ {A = Option ℕ} none (some h) = sym e ∙ q in let bad : ◌≡◌ {A = ℕ} 0 1 = cc in absurd (omega arith)
 
   together-complete : {x y : ℕ} → Together f x y → together f x y ≡ true

@@ -39,6 +39,7 @@ places_fewest n = within_fewest n n (below_power n)
 
 -- no other number of digits is the fewest
 not_more : (b n j k : ℕ) → 0 < b → IsDigitCount b 1 n j → IsDigitCount b 1 n k → j < k → ⊥
+not_more b n j zero p _ _ l = elim l [ ]
 not_more b n j (suc k) p (o, h, _) (_, _, q) l =
     let m : b ^ j ≤ b ^ k = pow-le-pow_right p (omega arith) in
     let r : b ^ k ≤ n = simp unary_clauses at (q (omega arith)) in

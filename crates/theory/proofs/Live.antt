@@ -32,18 +32,18 @@ pub unwritten-In : (f : Flow) (x i : ℕ) {j : ℕ} → writes f i x ≡ false �
 unfolding unwritten
 unwritten-In f x i e m = rw e m
 
-pub is_live_inn_sound : (f : Flow) (x i : ℕ) → is_live_in f x i ≡ true → LiveIn f x i
+pub is_live_in-sound : (f : Flow) (x i : ℕ) → is_live_in f x i ≡ true → LiveIn f x i
 unfolding is_live_in
-is_live_inn_sound f x i h =
+is_live_in-sound f x i h =
     let r = any_find (λ j. reads f j x) (reached (unwritten f x) (size f) i) h in
     reach_back (LiveIn f x) (λ k j m l. let u = In-unwritten f x k m in LiveIn.later u.0 u.1 l)
     (reached-sound (unwritten f x) (size f) i r.1) (LiveIn.now r.2)
 
-pub is_live_outt_sound : (f : Flow) (x i : ℕ) → is_live_out f x i ≡ true → LiveOut f x i
+pub is_live_out-sound : (f : Flow) (x i : ℕ) → is_live_out f x i ≡ true → LiveOut f x i
 unfolding is_live_out
-is_live_outt_sound f x i h =
+is_live_out-sound f x i h =
     let r = any_find (is_live_in f x) (successors f i) h in
-    LiveOut.at_successor r.1 (is_live_inn_sound f x r.0 r.2)
+    LiveOut.at_successor r.1 (is_live_in-sound f x r.0 r.2)
 
 module _ {f : Flow} (w : WellFormed f) where
   pub unwritten-below : (x i j : ℕ) → In j (unwritten f x i) → j < size f
@@ -54,15 +54,15 @@ module _ {f : Flow} (w : WellFormed f) where
   live_where (LiveIn.now {i = i} h) = (i, Reach.here, h)
   live_where {x} (LiveIn.later {i = i} u m l) = let r = live_where l in (r.0, reach_first (unwritten-In f x i u m) r.1, r.2)
 
-  pub is_live_inn_complete : {x i : ℕ} → i < size f → LiveIn f x i → is_live_in f x i ≡ true
+  pub is_live_in-complete : {x i : ℕ} → i < size f → LiveIn f x i → is_live_in f x i ≡ true
   unfolding is_live_in
-  is_live_inn_complete {x} l h =
+  is_live_in-complete {x} l h =
       let r = live_where h in
       any-In (λ j. reads f j x) (reached-complete (size f) (unwritten f x) (unwritten-below x) l r.1) r.2
 
-  pub is_live_outt_complete : {x i : ℕ} → LiveOut f x i → is_live_out f x i ≡ true
+  pub is_live_out-complete : {x i : ℕ} → LiveOut f x i → is_live_out f x i ≡ true
   unfolding is_live_out
-  is_live_outt_complete {x} {i} (LiveOut.at_successor {j = j} m h) = any-In (is_live_in f x) m (is_live_inn_complete (w.successor i j m) h)
+  is_live_out-complete {x} {i} (LiveOut.at_successor {j = j} m h) = any-In (is_live_in f x) m (is_live_in-complete (w.successor i j m) h)
 
   -- Equations
 
@@ -71,11 +71,11 @@ module _ {f : Flow} (w : WellFormed f) where
     in_then (LiveIn.now h) = or_left (reads f i x) (is_live_out f x i && not (writes f i x)) h
     in_then (LiveIn.later u m h) =
         or_right (reads f i x) (is_live_out f x i && not (writes f i x))
-        (and-true (is_live_out f x i) (not (writes f i x)) (is_live_outt_complete (LiveOut.at_successor m h)) (ap not u))
+        (and-true (is_live_out f x i) (not (writes f i x)) (is_live_out-complete (LiveOut.at_successor m h)) (ap not u))
 
     then_in : (reads f i x ≡ true) ⊎ ((is_live_out f x i && not (writes f i x)) ≡ true) → LiveIn f x i
     then_in (inl h) = LiveIn.now h
-    then_in (inr h) = go (is_live_outt_sound f x i (and_both (is_live_out f x i) (not (writes f i x)) h).0)
+    then_in (inr h) = go (is_live_out-sound f x i (and_both (is_live_out f x i) (not (writes f i x)) h).0)
       where
         go : LiveOut f x i → LiveIn f x i
         go (LiveOut.at_successor m k) = LiveIn.later (not-true (writes f i x) (and_both (is_live_out f x i) (not (writes f i x)) h).1) m k
@@ -85,8 +85,8 @@ module _ {f : Flow} (w : WellFormed f) where
   live_equations = record {
     live_in = λ x i l.
         same_test (is_live_in f x i) (reads f i x || (is_live_out f x i && not (writes f i x)))
-        (λ h. in_then x i l (is_live_inn_sound f x i h))
-        (λ h. is_live_inn_complete l (then_in x i l (or_cases (reads f i x) (is_live_out f x i && not (writes f i x)) h)));
+        (λ h. in_then x i l (is_live_in-sound f x i h))
+        (λ h. is_live_in-complete l (then_in x i l (or_cases (reads f i x) (is_live_out f x i && not (writes f i x)) h)));
     live_out = λ x i l. refl;
   }
 

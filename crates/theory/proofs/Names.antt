@@ -11,8 +11,8 @@ use borrow.Author.Tests.{eqb-true, eqb-false}
 use Rattle.flow.specs.Flow.{Flow, size}
 use Rattle.theory.specs.Lists.{sum_below}
 use Rattle.theory.specs.Clauses.WellFormed.{WellFormed}
-use Rattle.theory.specs.Live.{member, LiveIn, LiveOut, bit_of, names_word, live_in, is_live_out, live_in_word, live_out_word}
-use Rattle.theory.proofs.Live.{is_live_inn_sound, is_live_inn_complete, is_live_outt_sound, is_live_outt_complete}
+use Rattle.theory.specs.Live.{member, LiveIn, LiveOut, bit_of, names_word, is_live_in, is_live_out, live_in_word, live_out_word}
+use Rattle.theory.proofs.Live.{is_live_in-sound, is_live_in-complete, is_live_out-sound, is_live_out-complete}
 
 -- the word of the names below k
 word_below : ℕ → (ℕ → Bool) → ℕ
@@ -100,13 +100,13 @@ names_word-empty f p h = sym (names_word_unique f p 0 (pow_pos f.names) (λ x l.
     absent : (x : ℕ) → member 0 x ≡ false
     absent x = simp zero-div
 
-pub live_in_word-member : (f : Flow) (i x : ℕ) → x < f.names → member (live_in_word f i) x ≡ live_in f x i
+pub live_in_word-member : (f : Flow) (i x : ℕ) → x < f.names → member (live_in_word f i) x ≡ is_live_in f x i
 unfolding live_in_word
-live_in_word-member f i = names_word-member f (λ x. live_in f x i)
+live_in_word-member f i = names_word-member f (λ x. is_live_in f x i)
 
 pub live_in_word-lt : (f : Flow) (i : ℕ) → live_in_word f i < 2 ^ f.names
 unfolding live_in_word
-live_in_word-lt f i = names_word-lt f (λ x. live_in f x i)
+live_in_word-lt f i = names_word-lt f (λ x. is_live_in f x i)
 
 pub live_out_word-member : (f : Flow) (i x : ℕ) → x < f.names → member (live_out_word f i) x ≡ is_live_out f x i
 unfolding live_out_word
@@ -119,13 +119,13 @@ live_out_word-lt f i = names_word-lt f (λ x. is_live_out f x i)
 -- Live sets by walks: a bit is set exactly when the name is live
 
 pub live_in_word-sound : (f : Flow) (i x : ℕ) → x < f.names → member (live_in_word f i) x ≡ true → LiveIn f x i
-live_in_word-sound f i x l h = is_live_inn_sound f x i (sym (live_in_word-member f i x l) ∙ h)
+live_in_word-sound f i x l h = is_live_in-sound f x i (sym (live_in_word-member f i x l) ∙ h)
 
 pub live_in_word-complete : {f : Flow} → WellFormed f → {i x : ℕ} → i < size f → x < f.names → LiveIn f x i → member (live_in_word f i) x ≡ true
-live_in_word-complete {f} w {i} {x} k l h = live_in_word-member f i x l ∙ is_live_inn_complete w k h
+live_in_word-complete {f} w {i} {x} k l h = live_in_word-member f i x l ∙ is_live_in-complete w k h
 
 pub live_out_word-sound : (f : Flow) (i x : ℕ) → x < f.names → member (live_out_word f i) x ≡ true → LiveOut f x i
-live_out_word-sound f i x l h = is_live_outt_sound f x i (sym (live_out_word-member f i x l) ∙ h)
+live_out_word-sound f i x l h = is_live_out-sound f x i (sym (live_out_word-member f i x l) ∙ h)
 
 pub live_out_word-complete : {f : Flow} → WellFormed f → {i x : ℕ} → x < f.names → LiveOut f x i → member (live_out_word f i) x ≡ true
-live_out_word-complete {f} w {i} {x} l h = live_out_word-member f i x l ∙ is_live_outt_complete w h
+live_out_word-complete {f} w {i} {x} l h = live_out_word-member f i x l ∙ is_live_out-complete w h

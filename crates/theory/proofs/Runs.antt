@@ -275,7 +275,7 @@ module _ (f : Flow) (T : Table) (wf : WellFormed f) (listed : Listed f) (clear :
       (level_on l (walk_continuation f c d))
   return-move {i} {s = s} h (Invariant.inner t w o d q m call r link) =
       resumed d q m (λ a. kept_then (r a) (act-kept f i a s w (not_wiping w o)))
-      (λ a n. let k = act-none f i a s (not_wiping w o) n in link a k.1 (Missed.at_return_lem k.0 (ap is_return h)))
+      (λ a n. let k = act-none f i a s (not_wiping w o) n in link a k.1 (Missed.at_return k.0 (ap is_return h)))
       call
 
   -- a key: its edge brings the row as it is
@@ -300,6 +300,7 @@ module _ (f : Flow) (T : Table) (wf : WellFormed f) (listed : Listed f) (clear :
 
   -- the RETURN that takes the key's frame: the row of the statement before which the key came holds what the handler made of it
   resume-move : {i j : ℕ} {s : ℕ → State} {k : List Frame} → Invariant f T i s (key j ∷ k) → Invariant f T j (act f i s) k
+  resume-move {i = i} {j = j} {s = s} {k = k} (Invariant.outer _ l) = elim l [ ]
   resume-move {i} {s = s} (Invariant.keyed t w o h call r) =
       interrupted
       (λ a. kept-key f a (λ p. handler_touches-complete wf (HandlerTouches.body_touches h p)) (kept_then (r a) (act-kept f i a s w (not_wiping w o))))

@@ -201,11 +201,11 @@ return_no_gosub (Kind.gosub l c) h = cc
 return_no_gosub (Kind.on_gosub ls c) h = refl
 
 -- what a walk meets, it meets at some statement of it
-meets_at : {next : ℕ → List ℕ} {e i : ℕ} {P : ℕ → Type 0} {w : Reach next e i} → Meets P i w → (j : ℕ) × Reach next e j × P j
+meets_at : {next : ℕ → List ℕ} {e : ℕ} {P : ℕ → Type 0} {i : ℕ} {w : Reach next e i} → Meets P i w → (j : ℕ) × Reach next e j × P j
 meets_at (Meets.last {i = i} {w = w} p) = (i, w, p)
 meets_at (Meets.before m) = meets_at m
 
-meets_map : {next : ℕ → List ℕ} {e i : ℕ} {P Q : ℕ → Type 0} {w : Reach next e i} → ((j : ℕ) → Reach next e j → P j → Q j) → Meets P i w → Meets Q i w
+meets_map : {next : ℕ → List ℕ} {e : ℕ} {P Q : ℕ → Type 0} {i : ℕ} {w : Reach next e i} → ((j : ℕ) → Reach next e j → P j → Q j) → Meets P i w → Meets Q i w
 meets_map h (Meets.last {i = i} {w = w} p) = Meets.last (h i w p)
 meets_map h (Meets.before m) = Meets.before (meets_map h m)
 

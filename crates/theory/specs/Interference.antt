@@ -5,7 +5,7 @@ use Rattle.std.proofs.Math.Option.{some}
 use Rattle.flow.specs.Flow.{Flow, size}
 use Rattle.theory.specs.Lists.{any, up_to, sum_below, max_below}
 use Rattle.theory.specs.Key.{on_handler}
-use Rattle.theory.specs.Live.{reads, writes, LiveIn, LiveOut, live_in, is_live_out, bit_of, names_word}
+use Rattle.theory.specs.Live.{reads, writes, LiveIn, LiveOut, is_live_in, is_live_out, bit_of, names_word}
 
 -- live-out together with the writes
 pub data After (f : Flow) (x i : ℕ) : Type 0 where
@@ -36,7 +36,7 @@ used f x = any (λ i. reads f i x || writes f i x) (up_to (size f))
 
 -- both names at the start of a statement, or both at its end
 unfoldable pub together_at : Flow → ℕ → ℕ → ℕ → Bool
-together_at f x y i = (live_in f x i && live_in f y i) || (after f x i && after f y i)
+together_at f x y i = (is_live_in f x i && is_live_in f y i) || (after f x i && after f y i)
 
 -- with a handler, whatever is together somewhere is used too
 unfoldable pub together : Flow → ℕ → ℕ → Bool
@@ -51,7 +51,7 @@ interference_word f x = names_word f (interferes f x)
 
 -- the size of a live-in set
 unfoldable pub live_count : Flow → ℕ → ℕ
-live_count f i = sum_below f.names (λ x. bit_of (live_in f x i))
+live_count f i = sum_below f.names (λ x. bit_of (is_live_in f x i))
 
 -- how many names are live at once
 unfoldable pub most_live : Flow → ℕ

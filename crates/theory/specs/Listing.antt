@@ -57,18 +57,18 @@ first_line f = line_of ((letter_f ∷ []) ∷ decimal (size f) ∷ decimal f.arr
 
 -- statement, line, mask digits, live-in, live-out
 unfoldable pub statement_line : Flow → (ℕ → ℕ → ℕ) → (ℕ → ℕ) → (ℕ → ℕ) → ℕ → List ℕ
-statement_line f mask live_in is_live_out i =
+statement_line f mask live_in live_out i =
     line_of
     (decimal i
     ∷ decimal (statement f i).line
     ∷ mask_digits f.arrays (mask i)
     ∷ hexadecimal (live_in i)
-    ∷ hexadecimal (is_live_out i)
+    ∷ hexadecimal (live_out i)
     ∷ [])
 
 -- a flow with its masks and live sets
 unfoldable pub flow_text : Flow → (ℕ → ℕ → ℕ) → (ℕ → ℕ) → (ℕ → ℕ) → List ℕ
-flow_text f mask live_in is_live_out = first_line f ++ concat_map (statement_line f mask live_in is_live_out) (up_to (size f))
+flow_text f mask live_in live_out = first_line f ++ concat_map (statement_line f mask live_in live_out) (up_to (size f))
 
 -- `R`, number, place
 unfoldable pub refusal_text : Refusal → List ℕ

@@ -24,12 +24,12 @@ found_of_answer (Accepted v) = v
 found_of_answer (Refused r) = 0
 
 -- the door: an answer that keeps the promise, as this paper's numbers
-pub record Door (s masks masks' live_in live_in' is_live_out live_out' work work' : List ℕ) (place visits r : ℕ) : Type 0 where
+pub record Door (s masks masks' live_in live_in' live_out live_out' work work' : List ℕ) (place visits r : ℕ) : Type 0 where
   pub answer : Answer
   pub number : r ≡ number_of_answer answer
   pub place_is : place ≡ place_of_answer answer
   pub visits_is : visits ≡ found_of_answer answer
-  pub promise : Promise s masks masks' live_in live_in' is_live_out live_out' work work' answer
+  pub promise : Promise s masks masks' live_in live_in' live_out live_out' work work' answer
 
 -- the door of the certain names
 pub record CertainDoor (s work work' : List ℕ) (place certain r : ℕ) : Type 0 where

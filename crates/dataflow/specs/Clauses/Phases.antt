@@ -33,11 +33,11 @@ pub record FitFlow (s : List ℕ) (h : Header) (work : List ℕ) : Type 0 where
   pub work_room : work_words h.statements ≤ length work
 
 -- and areas with room
-pub record FitAreas (s : List ℕ) (h : Header) (masks is_live_in is_live_out work : List ℕ) : Type 0 where
+pub record FitAreas (s : List ℕ) (h : Header) (masks live_in live_out work : List ℕ) : Type 0 where
   pub flow_fit : FitFlow s h work
   pub masks_room : h.statements * h.arrays ≤ length masks
-  pub in_room : h.statements ≤ length is_live_in
-  pub out_room : h.statements ≤ length is_live_out
+  pub in_room : h.statements ≤ length live_in
+  pub out_room : h.statements ≤ length live_out
 
 -- the masks as the queue rule leaves them or, where the handler's body is opaque, as they are without a visit
 pub record MasksFound (f : Flow) (masks masks' : List ℕ) (visits : ℕ) : Type 0 where
@@ -46,10 +46,10 @@ pub record MasksFound (f : Flow) (masks masks' : List ℕ) (visits : ℕ) : Type
   pub masks_size : length masks' ≡ length masks
   pub masks_kept : (x : ℕ) → size f * f.arrays ≤ x → get_or masks' x 0 ≡ get_or masks x 0
 
-pub record Findings (f : Flow) (masks masks' is_live_in live_in' is_live_out live_out' : List ℕ) (visits : ℕ) : Type 0 where
+pub record Findings (f : Flow) (masks masks' live_in live_in' live_out live_out' : List ℕ) (visits : ℕ) : Type 0 where
   pub found : MasksFound f masks masks' visits
-  pub live_in : Written (size f) (live_in_word f) is_live_in live_in'
-  pub live_out : Written (size f) (live_out_word f) is_live_out live_out'
+  pub live_in : Written (size f) (live_in_word f) live_in live_in'
+  pub live_out : Written (size f) (live_out_word f) live_out live_out'
 
 -- the calls have their summaries, and the solver's words are still zero
 pub record SummariesMade (s : List ℕ) (h : Header) (ws : List ℕ) : Type 0 where

@@ -18,18 +18,18 @@ mask_byte masks arrays i a = get_or masks (i * arrays + a) 0
 pub record Small (masks : List ℕ) : Type 0 where
   pub below : (a : ℕ) → a < length masks → get_or masks a 0 < 8
 
-pub record Room (s masks live_in is_live_out : List ℕ) : Type 0 where
+pub record Room (s masks live_in live_out : List ℕ) : Type 0 where
   pub fit : FitFile s
   pub few : statements_of s ≤ served
   pub masks_room : statements_of s * arrays_of s ≤ length masks
   pub masks_below : (i a : ℕ) → i < statements_of s → a < arrays_of s → mask_byte masks (arrays_of s) i a < 8
   pub in_room : statements_of s ≤ length live_in
-  pub out_room : statements_of s ≤ length is_live_out
+  pub out_room : statements_of s ≤ length live_out
 
 -- the listing of the flow that the file stands for, with the masks and the live sets that the areas hold
 abbrev pub areas_text : List ℕ → List ℕ → List ℕ → List ℕ → List ℕ
-areas_text s masks live_in is_live_out = flow_text (flow_of s) (mask_byte masks (arrays_of s)) (word_in live_in) (word_in is_live_out)
+areas_text s masks live_in live_out = flow_text (flow_of s) (mask_byte masks (arrays_of s)) (word_in live_in) (word_in live_out)
 
 -- its line for statement i
 abbrev pub areas_line : List ℕ → List ℕ → List ℕ → List ℕ → ℕ → List ℕ
-areas_line s masks live_in is_live_out = statement_line (flow_of s) (mask_byte masks (arrays_of s)) (word_in live_in) (word_in is_live_out)
+areas_line s masks live_in live_out = statement_line (flow_of s) (mask_byte masks (arrays_of s)) (word_in live_in) (word_in live_out)

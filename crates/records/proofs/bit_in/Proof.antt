@@ -9,14 +9,14 @@ use borrow.Author.Tests.{eq-eqb, ne_eqb}
 use Rattle.records.proofs.bit_in.Statement.{statement}
 use Rattle.records.proofs.bit_in.Tie as tie
 
-shl-result : tie.Need-overflow-shl-result
+shl-result : tie.Need-overflow_shl-result
 shl-result c = search rules
 
-returns : tie.Need-returns
-returns c = rw (eq-eqb _ _ c.if1.true) (one_shl (c.before.args.a % 64) (omega arith))
+returns : tie.Need-returns-then-a-w
+returns c = rw (eq-eqb _ _ c.if-a-w.true) (one_shl (c.args.a % 64) (omega arith))
 
-returns-2 : tie.Need-returns-2
-returns-2 c = rw (ne_eqb _ _ c.if1.false) refl
+returns-2 : tie.Need-returns-else-a-w
+returns-2 c = rw (ne_eqb _ _ c.if-a-w.false) refl
 
-pub bit-in-spec : {M : Type 1} → statement M
-bit-in-spec = tie.close (tie.spec shl-result returns returns-2)
+pub bit_in_spec : {M : Type 1} → statement M
+bit_in_spec = tie.close (tie.spec shl-result returns returns-2)

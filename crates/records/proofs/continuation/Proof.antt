@@ -15,39 +15,39 @@ use Rattle.records.proofs.continuation.Tie as tie
 kind-requires : tie.Need-kind-requires
 kind-requires c κs = search rules
 
-returns : tie.Need-returns
-returns c = let s = c.before.before.before.args.file.now in
-    let p = c.before.before.before.args.p in
+returns : tie.Need-returns-then-kind-lt-KIND_GOSUB
+returns c = let s = c.args.file.now in
+    let p = c.args.p in
     ap continuation_to (sym (continuation-none s p (λ e. omega arith) (λ e. omega arith)))
 
-record-end-requires : tie.Need-record-end-requires
+record-end-requires : tie.Need-record_end-requires
 record-end-requires c κs = search rules
 
-sub-u16-at : tie.Need-overflow-sub-u16-at
-sub-u16-at c = let s = c.before.before.before.before.args.file.now in
-    let p = c.before.before.before.before.args.p in
+sub-u16-at : tie.Need-overflow_sub-record_end
+sub-u16-at c = let s = c.args.file.now in
+    let p = c.args.p in
     omega (arith, data-before-end s p)
 
-u16-at-requires : tie.Need-u16-at-requires
-u16-at-requires c κs = let s = c.before.before.before.before.args.file.now in
-    let p = c.before.before.before.before.args.p in
-    omega (arith, data-before-end s p, end_fits c.before.before.before.before.requires)
+u16-at-requires : tie.Need-u16_at-t-requires
+u16-at-requires c κs = let s = c.args.file.now in
+    let p = c.args.p in
+    omega (arith, data-before-end s p, end_fits c.requires)
 
-returns-2 : tie.Need-returns-2
-returns-2 c = let s = c.before.before.before.before.before.before.args.file.now in
-    let p = c.before.before.before.before.before.before.args.p in
+returns-2 : tie.Need-returns-then-t-eq-NO_CONTINUATION
+returns-2 c = let s = c.args.file.now in
+    let p = c.args.p in
     let at : u16_at s (record_end s p - 2) ≡ 65535 = cc in
-    rw (continuation-ends c.before.before.before.before.before.before.requires (omega arith)) (rw at refl)
+    rw (continuation-ends c.requires (omega arith)) (rw at refl)
 
-returns-3 : tie.Need-returns-3
-returns-3 c = let s = c.before.before.before.before.before.before.args.file.now in
-    let p = c.before.before.before.before.before.before.args.p in
-    let at : c.before.u16-at.result ≡ u16_at s (record_end s p - 2) = cc in
-    rw (continuation-ends c.before.before.before.before.before.before.requires (omega arith))
-    (rw (ne_eqb (u16_at s (record_end s p - 2)) 65535 (λ e. c.if2.false (cc))) (cc))
+returns-3 : tie.Need-returns-else-t-eq-NO_CONTINUATION
+returns-3 c = let s = c.args.file.now in
+    let p = c.args.p in
+    let at : c.u16_at-t.result ≡ u16_at s (record_end s p - 2) = cc in
+    rw (continuation-ends c.requires (omega arith))
+    (rw (ne_eqb (u16_at s (record_end s p - 2)) 65535 (λ e. c.if-t-eq-NO_CONTINUATION.false (cc))) (cc))
 
-pub continuation-spec : {M : Type 1} → statement M
-continuation-spec =
+pub continuation_spec : {M : Type 1} → statement M
+continuation_spec =
     tie.close
     (tie.spec
     kind-requires

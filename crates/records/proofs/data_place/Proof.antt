@@ -6,14 +6,14 @@ use native.Mathlib.Omega.{arith}
 use Rattle.records.proofs.data_place.Statement.{statement}
 use Rattle.records.proofs.data_place.Tie as tie
 
-names-place-requires : tie.Need-names-place-requires
+names-place-requires : tie.Need-names_place-requires
 names-place-requires c κs = search rules
 
-add-result : tie.Need-overflow-add-result
-add-result c = omega (arith, data-fits c.before.before.requires)
+add-result : tie.Need-overflow_add-result
+add-result c = omega (arith, data-fits c.requires)
 
 returns : tie.Need-returns
 returns c = search rules
 
-pub data-place-spec : {M : Type 1} → statement M
-data-place-spec = tie.close (tie.spec names-place-requires add-result returns)
+pub data_place_spec : {M : Type 1} → statement M
+data_place_spec = tie.close (tie.spec names-place-requires add-result returns)

@@ -6,32 +6,32 @@ use native.Mathlib.Omega.{arith}
 use Rattle.records.proofs.item.Statement.{statement}
 use Rattle.records.proofs.item.Tie as tie
 
-data-place-requires : tie.Need-data-place-requires
+data-place-requires : tie.Need-data_place-requires
 data-place-requires c κs = search rules
 
-add_at : tie.Need-overflow-add-at
-add_at c = omega (arith, item-fits c.before.before.requires.0 c.before.before.args.k c.before.before.requires.1)
+add_at : tie.Need-overflow_add-at
+add_at c = omega (arith, item-fits c.requires.0 c.args.k c.requires.1)
 
-mul_at : tie.Need-overflow-mul-at
-mul_at c = omega (arith, item-fits c.before.before.requires.0 c.before.before.args.k c.before.before.requires.1)
+mul_at : tie.Need-overflow_mul-at
+mul_at c = omega (arith, item-fits c.requires.0 c.args.k c.requires.1)
 
-add-at-2 : tie.Need-overflow-add-at-2
-add-at-2 c = omega (arith, item-fits c.before.before.requires.0 c.before.before.args.k c.before.before.requires.1)
+add-at-2 : tie.Need-overflow_add-at-2
+add-at-2 c = omega (arith, item-fits c.requires.0 c.args.k c.requires.1)
 
-u8-at-requires : tie.Need-u8-at-requires
-u8-at-requires c κs = omega (arith, item-fits c.before.before.requires.0 c.before.before.args.k c.before.before.requires.1)
+u8-at-requires : tie.Need-u8_at-requires
+u8-at-requires c κs = omega (arith, item-fits c.requires.0 c.args.k c.requires.1)
 
-add-u8-at : tie.Need-overflow-add-u8-at
-add-u8-at c = omega (arith, item-fits c.before.before.before.requires.0 c.before.before.before.args.k c.before.before.before.requires.1)
+add-u8-at : tie.Need-overflow_add-at-3
+add-u8-at c = omega (arith, item-fits c.requires.0 c.args.k c.requires.1)
 
-u8-at-requires-2 : tie.Need-u8-at-requires-2
-u8-at-requires-2 c κs = omega (arith, item-fits c.before.before.before.requires.0 c.before.before.before.args.k c.before.before.before.requires.1)
+u8-at-requires-2 : tie.Need-u8_at-requires-2
+u8-at-requires-2 c κs = omega (arith, item-fits c.requires.0 c.args.k c.requires.1)
 
 returns : tie.Need-returns
 returns c = (cc, cc)
 
-pub item-spec : {M : Type 1} → statement M
-item-spec =
+pub item_spec : {M : Type 1} → statement M
+item_spec =
     tie.close
     (tie.spec
     data-place-requires

@@ -13,22 +13,22 @@ use Rattle.records.proofs.item_count.Tie as tie
 kind-requires : tie.Need-kind-requires
 kind-requires c κs = search rules
 
-data-place-requires : tie.Need-data-place-requires
+data-place-requires : tie.Need-data_place-requires
 data-place-requires c κs = search rules
 
-u8-at-requires : tie.Need-u8-at-requires
-u8-at-requires c κs = let k : kind_at c.before.before.before.before.args.file.now c.before.before.before.before.args.p ≡ 4 = cc in
-    omega (arith, end_fits c.before.before.before.before.requires, end_is c.before.before.before.before.args.file.now c.before.before.before.before.args.p 4 k)
+u8-at-requires : tie.Need-u8_at-requires
+u8-at-requires c κs = let k : kind_at c.args.file.now c.args.p ≡ 4 = cc in
+    omega (arith, end_fits c.requires, end_is c.args.file.now c.args.p 4 k)
 
-returns : tie.Need-returns
+returns : tie.Need-returns-then-kind-eq-KIND_DIM
 unfolding item_count
-returns c = let k : kind_at c.before.before.before.before.before.args.file.now c.before.before.before.before.before.args.p ≡ 4 = cc in
+returns c = let k : kind_at c.args.file.now c.args.p ≡ 4 = cc in
     rw k (cc)
 
-returns-2 : tie.Need-returns-2
+returns-2 : tie.Need-returns-else-kind-eq-KIND_DIM
 unfolding item_count
-returns-2 c = rw (ne_eqb (kind_at c.before.before.before.args.file.now c.before.before.before.args.p) 4 (λ e. c.if1.false (cc)))
+returns-2 c = rw (ne_eqb (kind_at c.args.file.now c.args.p) 4 (λ e. c.if-kind-eq-KIND_DIM.false (cc)))
 
-pub item-count-spec : {M : Type 1} → statement M
-item-count-spec =
+pub item_count_spec : {M : Type 1} → statement M
+item_count_spec =
     tie.close (tie.spec kind-requires data-place-requires u8-at-requires returns returns-2)

@@ -6,14 +6,14 @@ use native.Mathlib.Omega.{arith}
 use Rattle.records.proofs.kind.Statement.{statement}
 use Rattle.records.proofs.kind.Tie as tie
 
-add-u8-at : tie.Need-overflow-add-u8-at
-add-u8-at c = omega (arith, start_fits c.before.requires)
+add-u8-at : tie.Need-overflow_add-p
+add-u8-at c = omega (arith, start_fits c.requires)
 
-u8-at-requires : tie.Need-u8-at-requires
-u8-at-requires c κs = omega (arith, start_fits c.before.requires)
+u8-at-requires : tie.Need-u8_at-requires
+u8-at-requires c κs = omega (arith, start_fits c.requires)
 
 returns : tie.Need-returns
 returns c = search rules
 
-pub kind-spec : {M : Type 1} → statement M
-kind-spec = tie.close (tie.spec add-u8-at u8-at-requires returns)
+pub kind_spec : {M : Type 1} → statement M
+kind_spec = tie.close (tie.spec add-u8-at u8-at-requires returns)

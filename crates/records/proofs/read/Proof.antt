@@ -6,14 +6,14 @@ use native.Mathlib.Omega.{arith}
 use Rattle.records.proofs.read.Statement.{statement}
 use Rattle.records.proofs.read.Tie as tie
 
-names-place-requires : tie.Need-names-place-requires
+names-place-requires : tie.Need-names_place-requires
 names-place-requires c κs = search rules
 
-add-u64-at : tie.Need-overflow-add-u64-at
-add-u64-at c = omega (arith, data-fits c.before.before.requires)
+add-u64-at : tie.Need-overflow_add-names_place
+add-u64-at c = omega (arith, data-fits c.requires)
 
-u64-at-requires : tie.Need-u64-at-requires
-u64-at-requires c κs = omega (arith, data-fits c.before.before.requires)
+u64-at-requires : tie.Need-u64_at-requires
+u64-at-requires c κs = omega (arith, data-fits c.requires)
 
 returns : tie.Need-returns
 returns c = cc

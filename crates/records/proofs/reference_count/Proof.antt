@@ -6,14 +6,14 @@ use native.Mathlib.Omega.{arith}
 use Rattle.records.proofs.reference_count.Statement.{statement}
 use Rattle.records.proofs.reference_count.Tie as tie
 
-references-place-requires : tie.Need-references-place-requires
+references-place-requires : tie.Need-references_place-requires
 references-place-requires c κs = search rules
 
-u8-at-requires : tie.Need-u8-at-requires
-u8-at-requires c κs = omega (arith, references-fit c.before.before.requires)
+u8-at-requires : tie.Need-u8_at-requires
+u8-at-requires c κs = omega (arith, references-fit c.requires)
 
 returns : tie.Need-returns
 returns c = cc
 
-pub reference-count-spec : {M : Type 1} → statement M
-reference-count-spec = tie.close (tie.spec references-place-requires u8-at-requires returns)
+pub reference_count_spec : {M : Type 1} → statement M
+reference_count_spec = tie.close (tie.spec references-place-requires u8-at-requires returns)

@@ -12,59 +12,59 @@ use native.Mathlib.Omega.{arith}
 use Rattle.records.proofs.references_word.Statement.{statement}
 use Rattle.records.proofs.references_word.Tie as tie
 
-abbrev invariant-loop : tie.invariant-loop
+abbrev invariant-loop : tie.invariant-loop-k
 invariant-loop file p w at n word₀ k₀ word k = (k ≤ n) × (word ≡ set_word k (reference_at file p) w)
 
-abbrev decreases-loop : tie.decreases-loop
+abbrev decreases-loop : tie.decreases-loop-k
 decreases-loop file p w at n word₀ k₀ word k = n - k
 
-count : (c : tie.After-u8-at invariant-loop decreases-loop) → let a = c.before.before.before.args in
-    c.u8-at.result ≡ reference_count a.file.now a.p
+count : (c : tie.After-u8_at-n invariant-loop decreases-loop) → let a = c.args in
+    c.u8_at-n.result ≡ reference_count a.file.now a.p
 count c = cc
 
-element-fits : (c : tie.In-loop invariant-loop decreases-loop) → let a = c.before.before.before.before.before.args in
-    references_place a.file.now a.p + 1 + c.before.loop.k + 1 ≤ length a.file.now
-element-fits c = omega (arith, data-fits c.before.before.before.before.before.requires, count c.before.before)
+element-fits : (c : tie.In-loop-k invariant-loop decreases-loop) → let a = c.args in
+    references_place a.file.now a.p + 1 + c.loop-k.k + 1 ≤ length a.file.now
+element-fits c = omega (arith, data-fits c.requires, count c.before.before)
 
-references-place-requires : tie.Need-references-place-requires invariant-loop decreases-loop
+references-place-requires : tie.Need-references_place-at-requires invariant-loop decreases-loop
 references-place-requires c κs = search rules
 
-u8-at-requires : tie.Need-u8-at-requires invariant-loop decreases-loop
-u8-at-requires c κs = omega (arith, references-fit c.before.before.requires)
+u8-at-requires : tie.Need-u8_at-n-requires invariant-loop decreases-loop
+u8-at-requires c κs = omega (arith, references-fit c.requires)
 
-loop-holds : tie.Need-loop-init invariant-loop decreases-loop
+loop-holds : tie.Need-loop-k-init invariant-loop decreases-loop
 unfolding set_word
 loop-holds c = (omega arith, refl)
 
-add-u8-at : tie.Need-overflow-add-u8-at invariant-loop decreases-loop
+add-u8-at : tie.Need-overflow_add-at invariant-loop decreases-loop
 add-u8-at c = omega (arith, element-fits c)
 
-add-u8-at-2 : tie.Need-overflow-add-u8-at-2 invariant-loop decreases-loop
+add-u8-at-2 : tie.Need-overflow_add-at-in-loop-k invariant-loop decreases-loop
 add-u8-at-2 c = omega (arith, element-fits c)
 
-u8-at-requires-2 : tie.Need-u8-at-requires-2 invariant-loop decreases-loop
+u8-at-requires-2 : tie.Need-u8_at-requires invariant-loop decreases-loop
 u8-at-requires-2 c κs = omega (arith, element-fits c)
 
-bit-in-requires : tie.Need-bit-in-requires invariant-loop decreases-loop
+bit-in-requires : tie.Need-bit_in-word-requires invariant-loop decreases-loop
 bit-in-requires c κs = search rules
 
-add-k : tie.Need-overflow-add-k invariant-loop decreases-loop
+add-k : tie.Need-overflow_add-k invariant-loop decreases-loop
 add-k c = omega arith
 
-loop-less : tie.Need-loop-smaller invariant-loop decreases-loop
+loop-less : tie.Need-loop-k-smaller invariant-loop decreases-loop
 loop-less c = omega arith
 
-loop-again : tie.Need-loop-preserved invariant-loop decreases-loop
+loop-again : tie.Need-loop-k-preserved invariant-loop decreases-loop
 unfolding set_word
 loop-again c = (omega arith, rw add-one (cc))
 
 returns : tie.Need-returns invariant-loop decreases-loop
-returns c = let a = c.before.before.before.before.before.args in
-    let all : c.before.loop.k ≡ reference_count a.file.now a.p = omega (arith, count c.before.before) in
-    c.before.loop.invariant.1 ∙ ap (λ k. set_word k (reference_at a.file.now a.p) a.w) all
+returns c = let a = c.args in
+    let all : c.loop-k.k ≡ reference_count a.file.now a.p = omega (arith, count c.before.before) in
+    c.loop-k.invariant.1 ∙ ap (λ k. set_word k (reference_at a.file.now a.p) a.w) all
 
-pub references-word-spec : {M : Type 1} → statement M
-references-word-spec =
+pub references_word_spec : {M : Type 1} → statement M
+references_word_spec =
     tie.close
     (tie.spec
     invariant-loop

@@ -6,14 +6,14 @@ use native.Mathlib.Omega.{arith}
 use Rattle.records.proofs.written.Statement.{statement}
 use Rattle.records.proofs.written.Tie as tie
 
-names-place-requires : tie.Need-names-place-requires
+names-place-requires : tie.Need-names_place-requires
 names-place-requires c κs = search rules
 
-u64-at-requires : tie.Need-u64-at-requires
-u64-at-requires c κs = omega (arith, data-fits c.before.before.requires)
+u64-at-requires : tie.Need-u64_at-requires
+u64-at-requires c κs = omega (arith, data-fits c.requires)
 
 returns : tie.Need-returns
 returns c = cc
 
-pub written-spec : {M : Type 1} → statement M
-written-spec = tie.close (tie.spec names-place-requires u64-at-requires returns)
+pub written_spec : {M : Type 1} → statement M
+written_spec = tie.close (tie.spec names-place-requires u64-at-requires returns)

@@ -11,17 +11,17 @@ use Rattle.flow.proofs.Numbers.{le_at-lt}
 use Rattle.records.proofs.lines.below.Statement.{statement}
 use Rattle.records.proofs.lines.below.Tie as tie
 
-add-result : tie.Need-overflow-add-result
+add-result : tie.Need-overflow_add-result
 add-result c = search rules
 
-u16-at-requires : tie.Need-u16-at-requires
+u16-at-requires : tie.Need-u16_at-requires
 u16-at-requires c κs = search rules
 
 -- what two bytes hold
-small : (c : tie.After-u16-at) → c.u16-at.result < 65536
-small c = let a = c.before.before.args in omega (arith, le_at-lt 2 a.file.now a.at c.before.shared-slice-known.given)
+small : (c : tie.After-u16_at) → c.u16_at.result < 65536
+small c = let a = c.args in omega (arith, le_at-lt 2 a.file.now a.at c.shared_slice_known-1.given)
 
-sub-result : tie.Need-overflow-sub-result
+sub-result : tie.Need-overflow_sub-result
 sub-result c = omega (arith, small c)
 
 carry : (v l : ℕ) → v < 65536 → l < 65536 → (65535 + l - v) / 65536 ≡ cond (ltb v l) 1 0
@@ -33,8 +33,8 @@ carry v l a b = go (ltb v l) refl
 
 returns : tie.Need-returns
 returns c =
-    let a = c.before.before.args in
-    carry c.u16-at.result a.line (small c) c.before.before.requires.1 ∙ ap (λ (v : ℕ). cond (ltb v a.line) 1 0) c.u16-at.ensures
+    let a = c.args in
+    carry c.u16_at.result a.line (small c) c.requires.1 ∙ ap (λ (v : ℕ). cond (ltb v a.line) 1 0) c.u16_at.ensures
 
-pub below-spec : {M : Type 1} → statement M
-below-spec = tie.close (tie.spec add-result u16-at-requires sub-result returns)
+pub below_spec : {M : Type 1} → statement M
+below_spec = tie.close (tie.spec add-result u16-at-requires sub-result returns)

@@ -11,16 +11,16 @@ use Rattle.records.proofs.offsets.word.Tie as tie
 acts-requires : tie.Need-acts-requires
 acts-requires c κs = search rules
 
-add-result : tie.Need-overflow-add-result
-add-result c = omega (arith, start_fits c.before.before.before.requires)
+add-result : tie.Need-overflow_add-result
+add-result c = omega (arith, start_fits c.requires)
 
-returns : tie.Need-returns
+returns : tie.Need-returns-then-acts
 unfolding word_at
-returns c = rw (sym c.before.acts.ensures ∙ c.if1.true)
+returns c = rw (sym c.acts.ensures ∙ c.if-acts.true)
 
-returns-2 : tie.Need-returns-2
+returns-2 : tie.Need-returns-else-acts
 unfolding word_at
-returns-2 c = rw (sym c.before.acts.ensures ∙ c.if1.false)
+returns-2 c = rw (sym c.acts.ensures ∙ c.if-acts.false)
 
-pub word-spec : {M : Type 1} → statement M
-word-spec = tie.close (tie.spec acts-requires add-result returns returns-2)
+pub word_spec : {M : Type 1} → statement M
+word_spec = tie.close (tie.spec acts-requires add-result returns returns-2)
