@@ -7,20 +7,20 @@ use Rattle.theory.specs.Doubled.{offset_in}
 use Rattle.statements.proofs.doubled.node.Statement.{statement}
 use Rattle.statements.proofs.doubled.node.Tie as tie
 
-enum_told : tie.Need-enum-told
+enum_told : tie.Need-enum_told-1
 enum_told c = search rules
 
-enum-told-2 : tie.Need-enum-told-2
+enum-told-2 : tie.Need-enum_told-in-N
 enum-told-2 c = search rules
 
-add-t5 : tie.Need-overflow-add-t5
+add-t5 : tie.Need-overflow_add-result
 add-t5 c = search rules
 
-returns : tie.Need-returns
-returns c = omega (arith, ap (offset_in c.before.before.args.n) c.enum_told.given.1)
+returns : tie.Need-returns-in-Zero
+returns c = omega (arith, ap (offset_in c.args.n) c.in-Zero.is)
 
-returns-2 : tie.Need-returns-2
-returns-2 c = omega (arith, ap (offset_in c.before.before.before.args.n) c.before.enum-told2.given.1)
+returns-2 : tie.Need-returns-in-N
+returns-2 c = omega (arith, ap (offset_in c.args.n) c.in-N.is)
 
-pub node-spec : {M : Type 1} → statement M
-node-spec = tie.close (tie.spec enum_told enum-told-2 add-t5 returns returns-2)
+pub node_spec : {M : Type 1} → statement M
+node_spec = tie.close (tie.spec enum_told enum-told-2 add-t5 returns returns-2)

@@ -13,5 +13,5 @@ continuation-requires c κs = search rules
 returns : tie.Need-returns
 returns c = cc
 
-pub continuation-spec : {M : Type 1} → statement M
-continuation-spec = tie.close (tie.spec offset-requires continuation-requires returns)
+pub continuation_spec : {M : Type 1} → statement M
+continuation_spec = tie.close (tie.spec offset-requires continuation-requires returns)

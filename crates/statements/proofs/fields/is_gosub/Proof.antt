@@ -10,7 +10,7 @@ kind-requires : tie.Need-kind-requires
 kind-requires c κs = search rules
 
 returns : tie.Need-returns
-returns c = ap (λ x. eqb x 5) c.kind.ensures ∙ c.before.before.requires.gosub
+returns c = ap (λ x. eqb x 5) c.kind.ensures ∙ c.requires.gosub
 
-pub is-gosub-spec : {M : Type 1} → statement M
-is-gosub-spec = tie.close (tie.spec kind-requires returns)
+pub is_gosub_spec : {M : Type 1} → statement M
+is_gosub_spec = tie.close (tie.spec kind-requires returns)

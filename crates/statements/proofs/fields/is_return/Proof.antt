@@ -13,7 +13,7 @@ kind-requires : tie.Need-kind-requires
 kind-requires c κs = search rules
 
 returns : tie.Need-returns
-returns c = ap (λ x. eqb x 1) c.kind.ensures ∙ c.before.offset.ensures.return
+returns c = ap (λ x. eqb x 1) c.kind.ensures ∙ c.offset.ensures.return
 
-pub is-return-spec : {M : Type 1} → statement M
-is-return-spec = tie.close (tie.spec offset-requires kind-requires returns)
+pub is_return_spec : {M : Type 1} → statement M
+is_return_spec = tie.close (tie.spec offset-requires kind-requires returns)

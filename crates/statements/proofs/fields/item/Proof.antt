@@ -14,9 +14,9 @@ item-requires c κs = search rules
 
 returns : tie.Need-returns
 returns c =
-    let start = c.before.before.before.before in
-    let at = c.before.offset.ensures.items.at start.args.k no_item start.requires.2 in
+    let start = c in
+    let at = c.offset.ensures.items.at start.args.k no_item start.requires.2 in
     (c.item.ensures.0 ∙ ap (λ x. x.array) (sym at), c.item.ensures.1 ∙ ap (λ x. x.flag) (sym at))
 
-pub item-spec : {M : Type 1} → statement M
-item-spec = tie.close (tie.spec offset-requires item-requires returns)
+pub item_spec : {M : Type 1} → statement M
+item_spec = tie.close (tie.spec offset-requires item-requires returns)

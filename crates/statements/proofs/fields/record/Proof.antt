@@ -14,8 +14,8 @@ record-requires c κs = search rules
 
 returns : tie.Need-returns
 returns c =
-    let file = c.before.before.before.before.args.file.now in
-    c.record.ensures ∙ ap (record_part file) c.before.offset.ensures.place
+    let file = c.args.file.now in
+    c.record.ensures ∙ ap (record_part file) c.offset.ensures.place
 
-pub record-spec : {M : Type 1} → statement M
-record-spec = tie.close (tie.spec offset-requires record-requires returns)
+pub record_spec : {M : Type 1} → statement M
+record_spec = tie.close (tie.spec offset-requires record-requires returns)

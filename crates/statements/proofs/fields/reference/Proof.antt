@@ -13,8 +13,8 @@ reference-requires c κs = search rules
 
 returns : tie.Need-returns
 returns c =
-    let start = c.before.before.before.before in
-    c.reference.ensures ∙ sym (c.before.offset.ensures.references.at start.args.k 0 start.requires.2)
+    let start = c in
+    c.reference.ensures ∙ sym (c.offset.ensures.references.at start.args.k 0 start.requires.2)
 
-pub reference-spec : {M : Type 1} → statement M
-reference-spec = tie.close (tie.spec offset-requires reference-requires returns)
+pub reference_spec : {M : Type 1} → statement M
+reference_spec = tie.close (tie.spec offset-requires reference-requires returns)

@@ -14,16 +14,16 @@ use Rattle.statements.proofs.fields.references_word.Tie as tie
 offset-requires : tie.Need-offset-requires
 offset-requires c κs = search rules
 
-references-word-requires : tie.Need-references-word-requires
+references-word-requires : tie.Need-references_word-requires
 references-word-requires c κs = search rules
 
 returns : tie.Need-returns
-returns c = let start = c.before.before.before.before in
+returns c = let start = c in
     let s = start.args.file.now in
-    let p = c.before.offset.result in
-    subst (λ w. MembersWord w (λ a. elem a (references (flow_of s) start.args.i.0))) (sym c.references-word.ensures)
-    (subst (λ l. MembersWord (set_word (reference_count s p) (reference_at s p) 0) (λ a. elem a l)) (sym c.before.offset.ensures.references.list)
+    let p = c.offset.result in
+    subst (λ w. MembersWord w (λ a. elem a (references (flow_of s) start.args.i.0))) (sym c.references_word.ensures)
+    (subst (λ l. MembersWord (set_word (reference_count s p) (reference_at s p) 0) (λ a. elem a l)) (sym c.offset.ensures.references.list)
     (members-word (reference_at s p) (reference_count s p)))
 
-pub references-word-spec : {M : Type 1} → statement M
-references-word-spec = tie.close (tie.spec offset-requires references-word-requires returns)
+pub references_word_spec : {M : Type 1} → statement M
+references_word_spec = tie.close (tie.spec offset-requires references-word-requires returns)

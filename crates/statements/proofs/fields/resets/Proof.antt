@@ -11,21 +11,21 @@ use Rattle.theory.specs.Doubled.{resets}
 use Rattle.statements.proofs.fields.resets.Statement.{statement}
 use Rattle.statements.proofs.fields.resets.Tie as tie
 
-kind-requires : tie.Need-kind-requires
+kind-requires : tie.Need-kind-kind-requires
 kind-requires c κs = search rules
 
-number : (c : tie.After-kind)
-    → (eqb c.kind.result 2 || eqb c.kind.result 3)
-    ≡ resets (kind (flow_of c.before.before.args.file.now) c.before.before.args.i.0)
-number c = ap (λ x. eqb x 2 || eqb x 3) c.kind.ensures ∙ c.before.before.requires.resets
+number : (c : tie.After-kind-kind)
+    → (eqb c.kind-kind.result 2 || eqb c.kind-kind.result 3)
+    ≡ resets (kind (flow_of c.args.file.now) c.args.i.0)
+number c = ap (λ x. eqb x 2 || eqb x 3) c.kind-kind.ensures ∙ c.requires.resets
 
-returns : tie.Need-returns
-returns c = let first : eqb c.before.kind.result 2 ≡ (eqb c.before.kind.result 2 || eqb c.before.kind.result 3) = rw c.if1.true in
+returns : tie.Need-returns-then-kind-eq-KIND_CLR
+returns c = let first : eqb c.kind-kind.result 2 ≡ (eqb c.kind-kind.result 2 || eqb c.kind-kind.result 3) = rw c.if-kind-eq-KIND_CLR.true in
     first ∙ number c.before
 
-returns-2 : tie.Need-returns-2
-returns-2 c = let second : eqb c.before.kind.result 3 ≡ (eqb c.before.kind.result 2 || eqb c.before.kind.result 3) = rw (ne_eqb _ _ c.if1.false) in
+returns-2 : tie.Need-returns-else-kind-eq-KIND_CLR
+returns-2 c = let second : eqb c.kind-kind.result 3 ≡ (eqb c.kind-kind.result 2 || eqb c.kind-kind.result 3) = rw (ne_eqb _ _ c.if-kind-eq-KIND_CLR.false) in
     second ∙ number c.before
 
-pub resets-spec : {M : Type 1} → statement M
-resets-spec = tie.close (tie.spec kind-requires returns returns-2)
+pub resets_spec : {M : Type 1} → statement M
+resets_spec = tie.close (tie.spec kind-requires returns returns-2)

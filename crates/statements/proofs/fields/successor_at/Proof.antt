@@ -9,7 +9,7 @@ successor-requires : tie.Need-successor-requires
 successor-requires c κs = search rules
 
 returns : tie.Need-returns
-returns c = let s = c.before.before in c.successor.ensures ∙ sym (s.requires.0.successors.at s.args.k 0 s.requires.1)
+returns c = let s = c in c.successor.ensures ∙ sym (s.requires.0.successors.at s.args.k 0 s.requires.1)
 
-pub successor-at-spec : {M : Type 1} → statement M
-successor-at-spec = tie.close (tie.spec successor-requires returns)
+pub successor_at_spec : {M : Type 1} → statement M
+successor_at_spec = tie.close (tie.spec successor-requires returns)

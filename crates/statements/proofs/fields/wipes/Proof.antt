@@ -11,27 +11,27 @@ use Rattle.statements.proofs.ByNumber.{wipes-is}
 use Rattle.statements.proofs.fields.wipes.Statement.{statement}
 use Rattle.statements.proofs.fields.wipes.Tie as tie
 
-offset-requires : tie.Need-offset-requires
+offset-requires : tie.Need-offset-p-requires
 offset-requires c κs = search rules
 
 resets-requires : tie.Need-resets-requires
 resets-requires c κs = search rules
 
-returns : tie.Need-returns
-returns c = let start = c.before.before.before.before.before in
+returns : tie.Need-returns-then-resets
+returns c = let start = c in
     let x = kind (flow_of start.args.file.now) start.args.i.0 in
-    let e : resets x ≡ true = sym c.before.resets.ensures ∙ c.if1.true in
+    let e : resets x ≡ true = sym c.resets.ensures ∙ c.if-resets.true in
     sym (wipes-is x ∙ rw e)
 
-item-count-requires : tie.Need-item-count-requires
+item-count-requires : tie.Need-item_count-requires
 item-count-requires c κs = search rules
 
-returns-2 : tie.Need-returns-2
-returns-2 c = let start = c.before.before.before.before.before.before in
+returns-2 : tie.Need-returns
+returns-2 c = let start = c in
     let x = kind (flow_of start.args.file.now) start.args.i.0 in
-    let e : resets x ≡ false = sym c.before.before.resets.ensures ∙ c.before.if1.false in
-    ap (ltb 0) (c.item_count.ensures ∙ sym c.before.before.before.offset.ensures.items.count) ∙ sym (wipes-is x ∙ rw e)
+    let e : resets x ≡ false = sym c.resets.ensures ∙ c.if-resets.false in
+    ap (ltb 0) (c.item_count.ensures ∙ sym c.offset-p.ensures.items.count) ∙ sym (wipes-is x ∙ rw e)
 
-pub wipes-spec : {M : Type 1} → statement M
-wipes-spec =
+pub wipes_spec : {M : Type 1} → statement M
+wipes_spec =
     tie.close (tie.spec offset-requires resets-requires returns item-count-requires returns-2)

@@ -10,15 +10,15 @@ use Rattle.statements.proofs.layout.part.Tie as tie
 queue-requires : tie.Need-queue-requires
 queue-requires c κs = search rules
 
-mul-result : tie.Need-overflow-mul-result
-mul-result c = omega (arith, mul-le-mul_right c.before.args.n c.before.requires.1)
+mul-result : tie.Need-overflow_mul-result
+mul-result c = omega (arith, mul-le-mul_right c.args.n c.requires.1)
 
-add-result : tie.Need-overflow-add-result
+add-result : tie.Need-overflow_add-result
 add-result c =
-    omega (arith, queue-below c.before.requires.0, mul-le-mul_right c.before.args.n c.before.requires.1)
+    omega (arith, queue-below c.requires.0, mul-le-mul_right c.args.n c.requires.1)
 
 returns : tie.Need-returns
 returns c = search rules
 
-pub part-spec : {M : Type 1} → statement M
-part-spec = tie.close (tie.spec queue-requires mul-result add-result returns)
+pub part_spec : {M : Type 1} → statement M
+part_spec = tie.close (tie.spec queue-requires mul-result add-result returns)

@@ -5,12 +5,12 @@ use Rattle.statements.specs.Clauses.Layout.{row_words}
 use Rattle.statements.proofs.layout.row_words.Statement.{statement}
 use Rattle.statements.proofs.layout.row_words.Tie as tie
 
-add-result : tie.Need-overflow-add-result
+add-result : tie.Need-overflow_add-result
 add-result c = search rules
 
 returns : tie.Need-returns
 unfolding row_words
 returns c = search rules
 
-pub row-words-spec : {M : Type 1} → statement M
-row-words-spec = tie.close (tie.spec add-result returns)
+pub row_words_spec : {M : Type 1} → statement M
+row_words_spec = tie.close (tie.spec add-result returns)

@@ -12,23 +12,23 @@ use Rattle.statements.proofs.layout.rows_end.Tie as tie
 matrix-requires : tie.Need-matrix-requires
 matrix-requires c κs = search rules
 
-row-words-requires : tie.Need-row-words-requires
+row-words-requires : tie.Need-row_words-requires
 row-words-requires c κs = search rules
 
-product : (c : tie.After-row-words) → c.row_words.result * c.before.before.args.k ≡ row_words c.before.before.args.n * c.before.before.args.k
-product c = ap (λ w. w * c.before.before.args.k) c.row_words.ensures
+product : (c : tie.After-row_words) → c.row_words.result * c.args.k ≡ row_words c.args.n * c.args.k
+product c = ap (λ w. w * c.args.k) c.row_words.ensures
 
-mul-result : tie.Need-overflow-mul-result
+mul-result : tie.Need-overflow_mul-result
 unfolding rows_end
-mul-result c = let start = c.before.before in omega (arith, product c, row_below start.requires.0 start.requires.1)
+mul-result c = let start = c in omega (arith, product c, row_below start.requires.0 start.requires.1)
 
-add-result : tie.Need-overflow-add-result
+add-result : tie.Need-overflow_add-result
 unfolding rows_end
-add-result c = let start = c.before.before in omega (arith, product c, c.before.matrix.ensures, row_below start.requires.0 start.requires.1)
+add-result c = let start = c in omega (arith, product c, c.matrix.ensures, row_below start.requires.0 start.requires.1)
 
 returns : tie.Need-returns
 unfolding rows_end
-returns c = omega (arith, product c, c.before.matrix.ensures)
+returns c = omega (arith, product c, c.matrix.ensures)
 
-pub rows-end-spec : {M : Type 1} → statement M
-rows-end-spec = tie.close (tie.spec matrix-requires row-words-requires mul-result add-result returns)
+pub rows_end_spec : {M : Type 1} → statement M
+rows_end_spec = tie.close (tie.spec matrix-requires row-words-requires mul-result add-result returns)
