@@ -15,73 +15,73 @@ use borrow.Author.Rules.{rules}
 use Rattle.interference.proofs.add_clique.Statement.{statement}
 use Rattle.interference.proofs.add_clique.Tie as tie
 
-abbrev invariant-loop : tie.invariant-loop
+abbrev invariant-loop : tie.invariant-loop-rest
 invariant-loop rows₀ set rest₀ rows rest = Adding rows₀ rows set rest
 
-abbrev decreases-loop : tie.decreases-loop
+abbrev decreases-loop : tie.decreases-loop-rest
 decreases-loop rows₀ set rest₀ rows rest = tally (bit rest) 64
 
-loop-holds : tie.Need-loop-init invariant-loop decreases-loop
-loop-holds c = adding_all c.before.ranges.set.fits
+loop-holds : tie.Need-loop-rest-init invariant-loop decreases-loop
+loop-holds c = adding_all c.ranges.set.fits
 
-cast-x : tie.Need-overflow-cast-x invariant-loop decreases-loop
+cast-x : tie.Need-overflow_cast-x invariant-loop decreases-loop
 cast-x c = record { fits = lt_of_le_of_lt (trailing_le 64 _) (lit< tt) }
 
 -- a turn takes the lowest name
-module _ (c : tie.In-loop invariant-loop decreases-loop) where
+module _ (c : tie.In-loop-rest invariant-loop decreases-loop) where
   abbrev rest : ℕ
-  rest = c.before.loop.rest
+  rest = c.loop-rest.rest
 
   some : 0 < rest
-  some = omega (arith, c.loop-test.true)
+  some = omega (arith, c.loop-rest-test.true)
 
   low : count_trailing_zeros 64 rest < 64
-  low = lowest-lt rest c.before.loop.invariant.word64 some
+  low = lowest-lt rest c.loop-rest.invariant.word64 some
 
-shl-name : tie.Need-overflow-shl-name invariant-loop decreases-loop
+shl-name : tie.Need-overflow_shl-name invariant-loop decreases-loop
 shl-name c = low c
 
 difference-requires : tie.Need-difference-requires invariant-loop decreases-loop
 difference-requires c κs = search rules
 
-union-word-requires : tie.Need-union-word-requires invariant-loop decreases-loop
-union-word-requires c κs = let turn = c.before.before in lowest-room turn.before.loop.invariant (some turn) turn.before.before.before.requires
+union-word-requires : tie.Need-union_word-requires invariant-loop decreases-loop
+union-word-requires c κs = let turn = c in lowest-room turn.loop-rest.invariant (some turn.before.before) turn.requires
 
-difference-requires-2 : tie.Need-difference-requires-2 invariant-loop decreases-loop
+difference-requires-2 : tie.Need-difference-rest-requires invariant-loop decreases-loop
 difference-requires-2 c κs = search rules
 
 -- the turn is done
-module _ (c : tie.After-difference2 invariant-loop decreases-loop) where
-  abbrev turn : tie.In-loop invariant-loop decreases-loop
+module _ (c : tie.After-difference-rest invariant-loop decreases-loop) where
+  abbrev turn : tie.In-loop-rest invariant-loop decreases-loop
   turn = c.before.before.before.before.before.before
 
-  without-lowest : c.difference2.result ≡ without (rest turn) (2 ^ count_trailing_zeros 64 (rest turn))
-  without-lowest = c.difference2.ensures ∙ ap (without (rest turn)) (one_shl (count_trailing_zeros 64 (rest turn)) (low turn))
+  without-lowest : c.difference-rest.result ≡ without (rest turn) (2 ^ count_trailing_zeros 64 (rest turn))
+  without-lowest = c.difference-rest.ensures ∙ ap (without (rest turn)) (one_shl (count_trailing_zeros 64 (rest turn)) (low turn))
 
-loop-less : tie.Need-loop-smaller invariant-loop decreases-loop
+loop-less : tie.Need-loop-rest-smaller invariant-loop decreases-loop
 loop-less c =
     let t = turn c in
-    subst (λ (x : ℕ). tally (bit x) 64 < tally (bit (rest t)) 64) (sym (without-lowest c)) (lowest_less (rest t) t.before.loop.inv.word64 (some t))
+    subst (λ (x : ℕ). tally (bit x) 64 < tally (bit (rest t)) 64) (sym (without-lowest c)) (lowest_less (rest t) t.loop-rest.invariant.word64 (some t))
 
-loop-again : tie.Need-loop-preserved invariant-loop decreases-loop
+loop-again : tie.Need-loop-rest-preserved invariant-loop decreases-loop
 loop-again c =
     let t = turn c in
-    let a = t.before.before.before.args in
-    let u = c.before.before.before.union-word in
-    let others = c.before.before.before.before.difference in
-    let joined : Joined t.before.loop.rows u.new.0 (count_trailing_zeros 64 (rest t)) (without a.set (2 ^ count_trailing_zeros 64 (rest t))) u.result =
-    subst (λ (w : ℕ). Joined t.before.loop.rows u.new.0 (count_trailing_zeros 64 (rest t)) w u.result) (others.ensures ∙ ap (without a.set) (one_shl (count_trailing_zeros 64 (rest t)) (low t))) u.ensures in
+    let a = t.args in
+    let u = c.union_word in
+    let others = c.difference in
+    let joined : Joined t.loop-rest.rows u.new.0 (count_trailing_zeros 64 (rest t)) (without a.set (2 ^ count_trailing_zeros 64 (rest t))) u.result =
+    subst (λ (w : ℕ). Joined t.loop-rest.rows u.new.0 (count_trailing_zeros 64 (rest t)) w u.result) (others.ensures ∙ ap (without a.set) (one_shl (count_trailing_zeros 64 (rest t)) (low t))) u.ensures in
     subst (λ (w : ℕ). Adding a.rows.now u.new.0 a.set w) (sym (without-lowest c))
-    (adding_on t.before.loop.inv (some t) t.before.before.before.pre joined (subst (λ (w : ℕ). w < 2 ^ 64) (without-lowest c) c.difference2.type-inv))
+    (adding_on t.loop-rest.invariant (some t) t.requires joined (subst (λ (w : ℕ). w < 2 ^ 64) (without-lowest c) c.difference-rest.type_inv))
 
-same_length : tie.Need-same-length invariant-loop decreases-loop
-same_length c = c.before.loop.invariant.size
+same_length : tie.Need-shape_of-rows invariant-loop decreases-loop
+same_length c = c.loop-rest.invariant.size
 
 returns : tie.Need-returns invariant-loop decreases-loop
-returns c = all_added c.before.loop.invariant c.loop-test.false
+returns c = all_added c.loop-rest.invariant c.loop-rest-test.false
 
-pub add-clique-spec : {M : Type 1} → statement M
-add-clique-spec =
+pub add_clique_spec : {M : Type 1} → statement M
+add_clique_spec =
     tie.close
     (tie.spec
     invariant-loop

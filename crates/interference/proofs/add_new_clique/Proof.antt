@@ -9,18 +9,18 @@ use Rattle.interference.proofs.add_new_clique.Tie as tie
 difference-requires : tie.Need-difference-requires
 difference-requires c κs = search rules
 
-returns : tie.Need-returns
-returns c = NewCliqueAdded.within refl refl (sym c.before.difference.ensures ∙ c.if1.true)
+returns : tie.Need-returns-then-difference-eq0
+returns c = NewCliqueAdded.within refl refl (sym c.difference.ensures ∙ c.if-difference-eq0.true)
 
-add-clique-requires : tie.Need-add-clique-requires
+add-clique-requires : tie.Need-add_clique-requires
 add-clique-requires c κs = search rules
 
-same_length : tie.Need-same-length
+same_length : tie.Need-shape_of-rows
 same_length c = search rules
 
-returns-2 : tie.Need-returns-2
-returns-2 c = NewCliqueAdded.new c.before.before.add-clique.ensures refl
+returns-2 : tie.Need-returns
+returns-2 c = NewCliqueAdded.new c.add_clique.ensures refl
 
-pub add-new-clique-spec : {M : Type 1} → statement M
-add-new-clique-spec =
+pub add_new_clique_spec : {M : Type 1} → statement M
+add_new_clique_spec =
     tie.close (tie.spec difference-requires returns add-clique-requires same_length returns-2)

@@ -19,17 +19,17 @@ use borrow.Author.Rules.{rules}
 use Rattle.interference.proofs.add_statements.Statement.{statement}
 use Rattle.interference.proofs.add_statements.Tie as tie
 
-abbrev invariant-loop : tie.invariant-loop
+abbrev invariant-loop : tie.invariant-loop-i
 invariant-loop file work live_in live_out rows₀ n last₀ i₀ rows last i = (i ≤ n) × (last < 2 ^ 64) × Going (flow_of file).names (Seen (flow_of file) i) rows₀ rows last
 
-abbrev decreases-loop : tie.decreases-loop
+abbrev decreases-loop : tie.decreases-loop-i
 decreases-loop file work live_in live_out rows₀ n last₀ i₀ rows last i = n - i
 
-loop-holds : tie.Need-loop-init invariant-loop decreases-loop
+loop-holds : tie.Need-loop-i-init invariant-loop decreases-loop
 loop-holds c = (omega arith, omega arith, going_none (λ x y t. omega (arith, t.1)))
 
 -- a turn: statement i
-module _ (c : tie.In-loop invariant-loop decreases-loop) where
+module _ (c : tie.In-loop-i invariant-loop decreases-loop) where
   abbrev start : tie.Start invariant-loop decreases-loop
   start = c.before.before.before.before.before.before.before
 
@@ -37,90 +37,90 @@ module _ (c : tie.In-loop invariant-loop decreases-loop) where
   file = start.args.file.now
 
   abbrev i : ℕ
-  i = c.before.loop.i
+  i = c.loop-i.i
 
   in_is : get_or start.args.live_in.now i 0 ≡ live_in_word (flow_of file) i
-  in_is = start.pre.1.live_in.word i (omega arith)
+  in_is = start.requires.1.live_in.word i (omega arith)
 
   out-is : get_or start.args.live_out.now i 0 ≡ live_out_word (flow_of file) i
-  out-is = start.pre.1.live_out.word i (omega arith)
+  out-is = start.requires.1.live_out.word i (omega arith)
 
   -- a set of names is below the power that the words ask for
-  room : (w : ℕ) → w < 2 ^ (flow_of file).names → w < 2 ^ length c.before.loop.rows
-  room w l = lt_of_lt_of_le l (pow_mono (omega (arith, start.pre.0.room, c.before.loop.invariant.2.kept.size)))
+  room : (w : ℕ) → w < 2 ^ (flow_of file).names → w < 2 ^ length c.loop-i.rows
+  room w l = lt_of_lt_of_le l (pow_mono (omega (arith, start.requires.0.room, c.loop-i.invariant.2.kept.size)))
 
-offset-requires : tie.Need-offset-requires invariant-loop decreases-loop
+offset-requires : tie.Need-offset-p-requires invariant-loop decreases-loop
 offset-requires c κs = ((start c).requires.0.ready, omega arith)
 
-mul-add-new-clique : tie.Need-overflow-mul-add-new-clique invariant-loop decreases-loop
-mul-add-new-clique c = let turn = c.before.before in omega (arith, ready-most (start turn).requires.0.ready)
+mul-add-new-clique : tie.Need-offset_bounds-live_in-i invariant-loop decreases-loop
+mul-add-new-clique c = let turn = c in omega (arith, ready-most (start turn.before.before).requires.0.ready)
 
-shared-slice-read-add-new-clique : tie.Need-shared-slice-read-add-new-clique invariant-loop decreases-loop
-shared-slice-read-add-new-clique c = let turn = c.before.before.before in omega (arith, (start turn).requires.1.live_in.room)
+shared-slice-read-add-new-clique : tie.Need-bounds-live_in-i invariant-loop decreases-loop
+shared-slice-read-add-new-clique c = let turn = c in omega (arith, (start turn.before.before.before).requires.1.live_in.room)
 
-add-new-clique-requires : tie.Need-add-new-clique-requires invariant-loop decreases-loop
+add-new-clique-requires : tie.Need-add_new_clique-last-requires invariant-loop decreases-loop
 add-new-clique-requires c κs =
-    let turn = c.before.before.before in
-    room turn (get_or (start turn).args.live_in.now (i turn) 0) (subst (λ (w : ℕ). w < 2 ^ (flow_of (file turn)).names) (sym (in_is turn)) (live_in_word-lt (flow_of (file turn)) (i turn)))
+    let turn = c in
+    room turn.before.before.before (get_or (start turn.before.before.before).args.live_in.now (i turn.before.before.before) 0) (subst (λ (w : ℕ). w < 2 ^ (flow_of (file turn.before.before.before)).names) (sym (in_is turn.before.before.before)) (live_in_word-lt (flow_of (file turn.before.before.before)) (i turn.before.before.before)))
 
 -- the names at the start are added
-module _ (c : tie.After-add-new-clique invariant-loop decreases-loop) where
-  abbrev turn : tie.In-loop invariant-loop decreases-loop
+module _ (c : tie.After-add_new_clique-last invariant-loop decreases-loop) where
+  abbrev turn : tie.In-loop-i invariant-loop decreases-loop
   turn = c.before.before.before.before
 
-mul-add-new-clique-2 : tie.Need-overflow-mul-add-new-clique-2 invariant-loop decreases-loop
-mul-add-new-clique-2 c = let t = turn c.before.before.before in omega (arith, ready-most (start t).pre.0.ready)
+mul-add-new-clique-2 : tie.Need-offset_bounds-live_out-i invariant-loop decreases-loop
+mul-add-new-clique-2 c = let t = turn c.before.before.before in omega (arith, ready-most (start t).requires.0.ready)
 
-shared-slice-read-add-new-clique-2 : tie.Need-shared-slice-read-add-new-clique-2 invariant-loop decreases-loop
-shared-slice-read-add-new-clique-2 c = let t = turn c.before.before.before.before in omega (arith, (start t).pre.1.live_out.room)
+shared-slice-read-add-new-clique-2 : tie.Need-bounds-live_out-i invariant-loop decreases-loop
+shared-slice-read-add-new-clique-2 c = let t = turn c.before.before.before.before in omega (arith, (start t).requires.1.live_out.room)
 
 written-requires : tie.Need-written-requires invariant-loop decreases-loop
-written-requires c κs = c.before.before.before.before.before.before.before.offset.ensures.fit
+written-requires c κs = c.offset-p.ensures.fit
 
 -- what the statement ends with
 module _ (c : tie.After-written invariant-loop decreases-loop) where
-  abbrev begun : tie.After-add-new-clique invariant-loop decreases-loop
+  abbrev begun : tie.After-add_new_clique-last invariant-loop decreases-loop
   begun = c.before.before.before.before.before
 
   after_is : bit_or (get_or (start (turn begun)).args.live_out.now (i (turn begun)) 0) c.written.result ≡ after_word (flow_of (file (turn begun))) (i (turn begun))
-  after_is = ap₂ bit_or (out-is (turn begun)) (c.written.ensures ∙ sym begun.before.before.before.offset.ensures.written)
+  after_is = ap₂ bit_or (out-is (turn begun)) (c.written.ensures ∙ sym begun.offset-p.ensures.written)
 
-add-new-clique-requires-2 : tie.Need-add-new-clique-requires-2 invariant-loop decreases-loop
+add-new-clique-requires-2 : tie.Need-add_new_clique-last-requires-in-loop-i invariant-loop decreases-loop
 add-new-clique-requires-2 c κs =
     let t = turn (begun c) in
-    subst (λ (k : ℕ). bit_or (get_or (start t).args.live_out.now (i t) 0) c.written.result < 2 ^ k) (sym (begun c).add-new-clique.auto.0)
-    (room t _ (subst (λ (w : ℕ). w < 2 ^ (flow_of (file t)).names) (sym (after_is c)) (after-lt (start t).pre.0.ready (i t))))
+    subst (λ (k : ℕ). bit_or (get_or (start t).args.live_out.now (i t) 0) c.written.result < 2 ^ k) (sym (begun c).add_new_clique-last.auto.0)
+    (room t _ (subst (λ (w : ℕ). w < 2 ^ (flow_of (file t)).names) (sym (after_is c)) (after-lt (start t).requires.0.ready (i t))))
 
-add-i : tie.Need-overflow-add-i invariant-loop decreases-loop
-add-i c = let t = turn (begun c.before.before.before) in omega (arith, ready-most (start t).pre.0.ready)
+add-i : tie.Need-overflow_add-i invariant-loop decreases-loop
+add-i c = let t = turn (begun c.before.before.before) in omega (arith, ready-most (start t).requires.0.ready)
 
-loop-less : tie.Need-loop-smaller invariant-loop decreases-loop
+loop-less : tie.Need-loop-i-smaller invariant-loop decreases-loop
 loop-less c = search rules
 
-loop-again : tie.Need-loop-preserved invariant-loop decreases-loop
+loop-again : tie.Need-loop-i-preserved invariant-loop decreases-loop
 loop-again c =
-    let ended = c.before.before.before in
-    let first = begun ended in
+    let ended = c in
+    let first = begun ended.before.before.before in
     let t = turn first in (
       omega arith,
-      c.before.before.add-new-clique2.type-inv,
-      going_statement (start t).pre.0.ready t.before.loop.inv.2 t.before.loop.inv.1 first.add-new-clique.ok (in_is t) (after_is ended) first.add-new-clique.ensures c.before.before.add-new-clique2.ensures,
+      c.add_new_clique-last-in-loop-i.type_inv,
+      going_statement (start t).requires.0.ready t.loop-i.invariant.2 t.loop-i.invariant.1 first.add_new_clique-last.ok (in_is t) (after_is ended.before.before.before) first.add_new_clique-last.ensures c.add_new_clique-last-in-loop-i.ensures,
     )
 
-same_length : tie.Need-same-length invariant-loop decreases-loop
-same_length c = c.before.loop.invariant.2.kept.size
+same_length : tie.Need-shape_of-rows invariant-loop decreases-loop
+same_length c = c.loop-i.invariant.2.kept.size
 
 returns : tie.Need-returns invariant-loop decreases-loop
 returns c =
-    let loop = c.before.loop in
-    let a = c.before.before.before.before.before.before.before.args in
+    let loop = c.loop-i in
+    let a = c.args in
     let all : loop.i ≡ a.n = omega (arith, loop.invariant.0) in
     let g : Going (flow_of a.file.now).names (Seen (flow_of a.file.now) a.n) a.rows.now loop.rows loop.last =
     subst (λ (k : ℕ). Going (flow_of a.file.now).names (Seen (flow_of a.file.now) k) a.rows.now loop.rows loop.last) all loop.invariant.2 in
     record { pairs = g.pairs; kept = g.kept }
 
-pub add-statements-spec : {M : Type 1} → statement M
-add-statements-spec =
+pub add_statements_spec : {M : Type 1} → statement M
+add_statements_spec =
     tie.close
     (tie.spec
     invariant-loop

@@ -7,22 +7,22 @@ use Rattle.interference.proofs.Interfering.{used-lt, noted-used}
 use Rattle.interference.proofs.add_used.Statement.{statement}
 use Rattle.interference.proofs.add_used.Tie as tie
 
-gather-uses-requires : tie.Need-gather-uses-requires
+gather-uses-requires : tie.Need-gather_uses-all-requires
 gather-uses-requires c κs = search rules
 
-add-clique-requires : tie.Need-add-clique-requires
+add-clique-requires : tie.Need-add_clique-requires
 add-clique-requires c κs =
-    let start = c.before.before.before.before.before.before in
-    lt_of_lt_of_le (used-lt start.requires.ready c.before.before.gather-uses.ensures) (pow_mono start.requires.room)
+    let start = c in
+    lt_of_lt_of_le (used-lt start.requires.ready c.gather_uses-all.ensures) (pow_mono start.requires.room)
 
-same_length : tie.Need-same-length
+same_length : tie.Need-shape_of-rows
 same_length c = search rules
 
 returns : tie.Need-returns
 returns c =
-    let added = c.before.before in
-    let start = added.before.before.before.before.before.before.before in
-    noted-used start.requires.ready added.before.before.before.gather-uses.ensures added.add-clique.ensures
+    let added = c in
+    let start = added in
+    noted-used start.requires.ready added.gather_uses-all.ensures added.add_clique.ensures
 
-pub add-used-spec : {M : Type 1} → statement M
-add-used-spec = tie.close (tie.spec gather-uses-requires add-clique-requires same_length returns)
+pub add_used_spec : {M : Type 1} → statement M
+add_used_spec = tie.close (tie.spec gather-uses-requires add-clique-requires same_length returns)

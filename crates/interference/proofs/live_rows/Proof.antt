@@ -5,23 +5,23 @@ use Rattle.interference.proofs.Interfering.{live_rows}
 use Rattle.interference.proofs.live_rows.Statement.{statement}
 use Rattle.interference.proofs.live_rows.Tie as tie
 
-zero-row-requires : tie.Need-zero-row-requires
+zero-row-requires : tie.Need-zero_row-requires
 zero-row-requires c κs = search rules
 
-add-statements-requires : tie.Need-add-statements-requires
+add-statements-requires : tie.Need-add_statements-requires
 add-statements-requires c κs = search rules
 
-same_length : tie.Need-same-length
+same_length : tie.Need-shape_of-rows
 same_length c = search rules
 
 returns : tie.Need-returns
 returns c =
-    let added = c.before.before in
-    let zeroed = added.before.before.before.before in
-    let start = zeroed.before.before.before.before.before.before.before in
+    let added = c in
+    let zeroed = added in
+    let start = zeroed in
     let p = start.requires in
-    live_rows p.0.rows_room.ready start.args.rows.now p.0.names_is p.0.rows_room.room zeroed.zero_row.ensures p.2 added.add-statements.ensures
+    live_rows p.0.rows_room.ready start.args.rows.now p.0.names_is p.0.rows_room.room zeroed.zero_row.ensures p.2 added.add_statements.ensures
 
-pub live-rows-spec : {M : Type 1} → statement M
-live-rows-spec =
+pub live_rows_spec : {M : Type 1} → statement M
+live_rows_spec =
     tie.close (tie.spec zero-row-requires add-statements-requires same_length returns)

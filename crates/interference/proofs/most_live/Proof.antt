@@ -12,29 +12,29 @@ use Rattle.theory.specs.Lists.{max_below}
 use Rattle.interference.proofs.most_live.Statement.{statement}
 use Rattle.interference.proofs.most_live.Tie as tie
 
-abbrev invariant-loop : tie.invariant-loop
+abbrev invariant-loop : tie.invariant-loop-i
 invariant-loop live_in n most₀ i₀ most i = (i ≤ n) × (most ≡ max_below i (λ k. ones (get_or live_in k 0)))
 
-abbrev decreases-loop : tie.decreases-loop
+abbrev decreases-loop : tie.decreases-loop-i
 decreases-loop live_in n most₀ i₀ most i = n - i
 
-loop-holds : tie.Need-loop-init invariant-loop decreases-loop
+loop-holds : tie.Need-loop-i-init invariant-loop decreases-loop
 unfolding max_below
 loop-holds c = (omega arith, refl)
 
-mul-live : tie.Need-overflow-mul-live invariant-loop decreases-loop
+mul-live : tie.Need-offset_bounds-live_in-i invariant-loop decreases-loop
 mul-live c = search rules
 
-shared-slice-read-live : tie.Need-shared-slice-read-live invariant-loop decreases-loop
+shared-slice-read-live : tie.Need-bounds-live_in-i invariant-loop decreases-loop
 shared-slice-read-live c = search rules
 
-cast-live : tie.Need-overflow-cast-live invariant-loop decreases-loop
-cast-live c = omega (arith, ones-le 64 _ (c.shared-slice-known.given c.before.before.loop.i).fits)
+cast-live : tie.Need-overflow_cast-live invariant-loop decreases-loop
+cast-live c = omega (arith, ones-le 64 _ (c.shared_slice_known-1.given c.loop-i.i).fits)
 
-add-i : tie.Need-overflow-add-i invariant-loop decreases-loop
+add-i : tie.Need-overflow_add-i invariant-loop decreases-loop
 add-i c = search rules
 
-loop-less : tie.Need-loop-smaller invariant-loop decreases-loop
+loop-less : tie.Need-loop-i-smaller invariant-loop decreases-loop
 loop-less c = search rules
 
 -- one word more
@@ -42,19 +42,19 @@ max-more : (k : ℕ) (f : ℕ → ℕ) → max_below (k + 1) f ≡ max (max_belo
 unfolding max_below
 max-more k f = ap (λ z. max_below z f) (add-one k)
 
-loop-again : tie.Need-loop-preserved invariant-loop decreases-loop
+loop-again : tie.Need-loop-i-preserved invariant-loop decreases-loop
 loop-again c =
-    let loop = c.before.before.before.loop in
-    let more = max-more loop.i (λ k. ones (get_or c.before.before.before.before.args.live_in.now k 0)) in
-    (omega arith, ⊎_elim (λ w. omega (arith, more, loop.invariant.1)) (λ w. omega (arith, more, loop.invariant.1)) c.if1.branch)
+    let loop = c.loop-i in
+    let more = max-more loop.i (λ k. ones (get_or c.args.live_in.now k 0)) in
+    (omega arith, ⊎_elim (λ w. omega (arith, more, loop.invariant.1)) (λ w. omega (arith, more, loop.invariant.1)) c.if-most-live.branch)
 
 returns : tie.Need-returns invariant-loop decreases-loop
 returns c =
-    let all : c.before.loop.i ≡ c.before.before.args.n = omega (arith, c.before.loop.invariant.0) in
-    c.before.loop.invariant.1 ∙ ap (λ z. max_below z (λ k. ones (get_or c.before.before.args.live_in.now k 0))) all
+    let all : c.loop-i.i ≡ c.args.n = omega (arith, c.loop-i.invariant.0) in
+    c.loop-i.invariant.1 ∙ ap (λ z. max_below z (λ k. ones (get_or c.args.live_in.now k 0))) all
 
-pub most-live-spec : {M : Type 1} → statement M
-most-live-spec =
+pub most_live_spec : {M : Type 1} → statement M
+most_live_spec =
     tie.close
     (tie.spec
     invariant-loop

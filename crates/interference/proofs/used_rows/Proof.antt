@@ -5,23 +5,23 @@ use Rattle.interference.proofs.Interfering.{used_rows}
 use Rattle.interference.proofs.used_rows.Statement.{statement}
 use Rattle.interference.proofs.used_rows.Tie as tie
 
-zero-row-requires : tie.Need-zero-row-requires
+zero-row-requires : tie.Need-zero_row-requires
 zero-row-requires c κs = search rules
 
-add-used-requires : tie.Need-add-used-requires
+add-used-requires : tie.Need-add_used-requires
 add-used-requires c κs = search rules
 
-same_length : tie.Need-same-length
+same_length : tie.Need-shape_of-rows
 same_length c = search rules
 
 returns : tie.Need-returns
 returns c =
-    let added = c.before.before in
-    let zeroed = added.before.before.before.before in
-    let start = zeroed.before.before.before.before.before in
+    let added = c in
+    let zeroed = added in
+    let start = zeroed in
     let p = start.requires in
-    used_rows p.0.rows_room.ready start.args.rows.now p.0.names_is p.0.rows_room.room zeroed.zero_row.ensures p.1.1 added.add-used.ensures
+    used_rows p.0.rows_room.ready start.args.rows.now p.0.names_is p.0.rows_room.room zeroed.zero_row.ensures p.1.1 added.add_used.ensures
 
-pub used-rows-spec : {M : Type 1} → statement M
-used-rows-spec =
+pub used_rows_spec : {M : Type 1} → statement M
+used_rows_spec =
     tie.close (tie.spec zero-row-requires add-used-requires same_length returns)

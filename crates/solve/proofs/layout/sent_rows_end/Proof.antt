@@ -7,21 +7,21 @@ use Rattle.solve.proofs.Room.{end_below}
 use Rattle.solve.proofs.layout.sent_rows_end.Statement.{statement}
 use Rattle.solve.proofs.layout.sent_rows_end.Tie as tie
 
-nodes-end-requires : tie.Need-nodes-end-requires
+nodes-end-requires : tie.Need-nodes_end-requires
 nodes-end-requires c κs = search rules
 
-mul-result : tie.Need-overflow-mul-result
-mul-result c = omega (arith, mul-le-mul_right c.before.args.k c.before.requires.1)
+mul-result : tie.Need-overflow_mul-result
+mul-result c = omega (arith, mul-le-mul_right c.args.k c.requires.1)
 
-mul-result-2 : tie.Need-overflow-mul-result-2
-mul-result-2 c = omega (arith, mul-le-mul_right c.before.args.k c.before.requires.1)
+mul-result-2 : tie.Need-overflow_mul-result-2
+mul-result-2 c = omega (arith, mul-le-mul_right c.args.k c.requires.1)
 
-add-result : tie.Need-overflow-add-result
-add-result c = omega (arith, end_below c.before.requires.0 c.before.requires.1 c.before.requires.2)
+add-result : tie.Need-overflow_add-result
+add-result c = omega (arith, end_below c.requires.0 c.requires.1 c.requires.2)
 
 returns : tie.Need-returns
 returns c = search rules
 
-pub sent-rows-end-spec : {M : Type 1} → statement M
-sent-rows-end-spec =
+pub sent_rows_end_spec : {M : Type 1} → statement M
+sent_rows_end_spec =
     tie.close (tie.spec nodes-end-requires mul-result mul-result-2 add-result returns)

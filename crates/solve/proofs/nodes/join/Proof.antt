@@ -10,22 +10,22 @@ use Rattle.solve.proofs.nodes.join.Tie as tie
 waits-requires : tie.Need-waits-requires
 waits-requires c κs = search rules
 
-same_length : tie.Need-same-length
+same_length : tie.Need-shape_of-work-then-waits
 same_length c = search rules
 
-returns : tie.Need-returns
-returns c = let s = c.before.before.before.before in record { waits = λ l h. waits-again h s.requires.3 (eqb-true _ _ (sym c.before.waits.ensures ∙ c.if1.true)); kept = rest-refl }
+returns : tie.Need-returns-then-waits
+returns c = let s = c in record { waits = λ l h. waits-again h s.requires.3 (eqb-true _ _ (sym c.waits.ensures ∙ c.if-waits.true)); kept = rest-refl }
 
 enqueue-requires : tie.Need-enqueue-requires
 enqueue-requires c κs = search rules
 
-same-length-2 : tie.Need-same-length-2
+same-length-2 : tie.Need-shape_of-work
 same-length-2 c = search rules
 
-returns-2 : tie.Need-returns-2
+returns-2 : tie.Need-returns
 returns-2 c = search rules
 
-pub join-spec : {M : Type 1} → statement M
-join-spec =
+pub join_spec : {M : Type 1} → statement M
+join_spec =
     tie.close
     (tie.spec waits-requires same_length returns enqueue-requires same-length-2 returns-2)

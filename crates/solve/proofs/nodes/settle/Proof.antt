@@ -11,32 +11,32 @@ use borrow.Author.Rules.{rules}
 use Rattle.solve.proofs.nodes.settle.Statement.{statement}
 use Rattle.solve.proofs.nodes.settle.Tie as tie
 
-state-requires : tie.Need-state-requires
+state-requires : tie.Need-state-at-requires
 state-requires c κs = search rules
 
-mul-old : tie.Need-overflow-mul-old
-mul-old c = let s = c.before.before in omega (arith, row_fits s.args.n s.args.width s.requires.3, s.requires.2, c.state.ensures, node-below s.requires.0 s.requires.1 (le_of_lt s.requires.3))
+mul-old : tie.Need-offset_bounds-work-at
+mul-old c = let s = c in omega (arith, row_fits s.args.n s.args.width s.requires.3, s.requires.2, c.state-at.ensures, node-below s.requires.0 s.requires.1 (le_of_lt s.requires.3))
 
-slice-read-old : tie.Need-slice-read-old
-slice-read-old c = let s = c.before.before.before in omega (arith, row_fits s.args.n s.args.width s.requires.3, s.requires.2, c.before.state.ensures, node-below s.requires.0 s.requires.1 (le_of_lt s.requires.3))
+slice-read-old : tie.Need-bounds-work-at
+slice-read-old c = let s = c in omega (arith, row_fits s.args.n s.args.width s.requires.3, s.requires.2, c.state-at.ensures, node-below s.requires.0 s.requires.1 (le_of_lt s.requires.3))
 
-add-work : tie.Need-overflow-add-work
+add-work : tie.Need-overflow_add-work
 add-work c = search rules
 
-mul-work : tie.Need-overflow-mul-work
-mul-work c = let s = c.before.before.before in omega (arith, row_fits s.args.n s.args.width s.requires.3, s.requires.2, c.before.state.ensures, node-below s.requires.0 s.requires.1 (le_of_lt s.requires.3))
+mul-work : tie.Need-offset_bounds-work-at-2
+mul-work c = let s = c in omega (arith, row_fits s.args.n s.args.width s.requires.3, s.requires.2, c.state-at.ensures, node-below s.requires.0 s.requires.1 (le_of_lt s.requires.3))
 
-slice-write-work : tie.Need-slice-write-work
-slice-write-work c = let s = c.before.before.before in omega (arith, row_fits s.args.n s.args.width s.requires.3, s.requires.2, c.before.state.ensures, node-below s.requires.0 s.requires.1 (le_of_lt s.requires.3))
+slice-write-work : tie.Need-bounds-work-at-2
+slice-write-work c = let s = c in omega (arith, row_fits s.args.n s.args.width s.requires.3, s.requires.2, c.state-at.ensures, node-below s.requires.0 s.requires.1 (le_of_lt s.requires.3))
 
-same_length : tie.Need-same-length
+same_length : tie.Need-shape_of-work
 same_length c = search rules
 
 returns : tie.Need-returns
-returns c = let s = c.before.before.before in let ws = s.args.work.now in (ap (λ (x : ℕ). eqb (get_or ws x 0 / 2) 1) c.before.state.ensures, ap (λ (x : ℕ). set ws x (get_or ws x 0 % 2 + 2)) c.before.state.ensures)
+returns c = let s = c in let ws = s.args.work.now in (ap (λ (x : ℕ). eqb (get_or ws x 0 / 2) 1) c.state-at.ensures, ap (λ (x : ℕ). set ws x (get_or ws x 0 % 2 + 2)) c.state-at.ensures)
 
-pub settle-spec : {M : Type 1} → statement M
-settle-spec =
+pub settle_spec : {M : Type 1} → statement M
+settle_spec =
     tie.close
     (tie.spec
     state-requires

@@ -14,14 +14,14 @@ use Rattle.solve.proofs.nodes.waits.Tie as tie
 state-requires : tie.Need-state-requires
 state-requires c κs = search rules
 
-mul-result : tie.Need-overflow-mul-result
-mul-result c = let s = c.before.before in omega (arith, row_fits s.args.n s.args.width s.requires.3, s.requires.2, c.state.ensures, node-below s.requires.0 s.requires.1 (le_of_lt s.requires.3))
+mul-result : tie.Need-offset_bounds-work-state
+mul-result c = let s = c in omega (arith, row_fits s.args.n s.args.width s.requires.3, s.requires.2, c.state.ensures, node-below s.requires.0 s.requires.1 (le_of_lt s.requires.3))
 
-shared-slice-read-result : tie.Need-shared-slice-read-result
-shared-slice-read-result c = let s = c.before.before.before in omega (arith, row_fits s.args.n s.args.width s.requires.3, s.requires.2, c.before.state.ensures, node-below s.requires.0 s.requires.1 (le_of_lt s.requires.3))
+shared-slice-read-result : tie.Need-bounds-work-state
+shared-slice-read-result c = let s = c in omega (arith, row_fits s.args.n s.args.width s.requires.3, s.requires.2, c.state.ensures, node-below s.requires.0 s.requires.1 (le_of_lt s.requires.3))
 
 returns : tie.Need-returns
-returns c = ap (λ (x : ℕ). eqb (get_or c.before.before.before.args.work.now x 0 % 2) 1) c.before.state.ensures
+returns c = ap (λ (x : ℕ). eqb (get_or c.args.work.now x 0 % 2) 1) c.state.ensures
 
-pub waits-spec : {M : Type 1} → statement M
-waits-spec = tie.close (tie.spec state-requires mul-result shared-slice-read-result returns)
+pub waits_spec : {M : Type 1} → statement M
+waits_spec = tie.close (tie.spec state-requires mul-result shared-slice-read-result returns)

@@ -13,49 +13,49 @@ use borrow.Author.Rules.{rules}
 use Rattle.solve.proofs.push.grow.Statement.{statement}
 use Rattle.solve.proofs.push.grow.Tie as tie
 
-mask-row-requires : tie.Need-mask-row-requires
+mask-row-requires : tie.Need-mask_row-requires
 mask-row-requires c κs = search rules
 
-mul-union : tie.Need-overflow-mul-union
+mul-union : tie.Need-overflow_mul-width
 mul-union c = search rules
 
 union-requires : tie.Need-union-requires
-union-requires c κs = let s = c.before.before.before in let at = c.mask-row.ensures in (omega (arith, row_fits s.args.n s.args.width s.requires.3, s.requires.2), omega (arith, source_fits s.args.n s.args.width s.args.from s.requires.4, s.requires.2))
+union-requires c κs = let s = c in let at = c.mask_row.ensures in (omega (arith, row_fits s.args.n s.args.width s.requires.3, s.requires.2), omega (arith, source_fits s.args.n s.args.width s.args.from s.requires.4, s.requires.2))
 
-state-requires : tie.Need-state-requires
+state-requires : tie.Need-state-at-requires
 state-requires c κs = search rules
 
-mul-work : tie.Need-overflow-mul-work
-mul-work c = let s = c.before.before.before.before.before.before.before.before in omega (arith, c.state.ensures, row_fits s.args.n s.args.width s.requires.3, s.requires.2, node-below s.requires.0 s.requires.1 (le_of_lt s.requires.3))
+mul-work : tie.Need-offset_bounds-work-at
+mul-work c = let s = c in omega (arith, c.state-at.ensures, row_fits s.args.n s.args.width s.requires.3, s.requires.2, node-below s.requires.0 s.requires.1 (le_of_lt s.requires.3))
 
-slice-read-work : tie.Need-slice-read-work
-slice-read-work c = let s = c.before.before.before.before.before.before.before.before.before in omega (arith, c.before.state.ensures, c.before.before.before.before.before.union.auto.0, row_fits s.args.n s.args.width s.requires.3, s.requires.2)
+slice-read-work : tie.Need-bounds-work-at
+slice-read-work c = let s = c in omega (arith, c.state-at.ensures, c.union.auto.0, row_fits s.args.n s.args.width s.requires.3, s.requires.2)
 
-mul-work-2 : tie.Need-overflow-mul-work-2
+mul-work-2 : tie.Need-offset_bounds-work-at-then-union
 mul-work-2 c = mul-work c.before
 
-slice-write-work : tie.Need-slice-write-work
+slice-write-work : tie.Need-bounds-work-at-then-union
 slice-write-work c = slice-read-work c
 
-same_length : tie.Need-same-length
+same_length : tie.Need-shape_of-work-then-union
 same_length c = search rules
 
-returns : tie.Need-returns
+returns : tie.Need-returns-then-union
 returns c =
-    let s = c.before.before.before.before.before.before.before.before.before in
-    let us : List ℕ = c.before.before.before.before.before.union.new.0 in
-    let u = union_at c.before.before.before.before.before.before.mask-row.ensures c.before.before.if1.true c.before.before.before.before.before.union.ensures in
-    subst (λ (x : ℕ). Grown s.args.work.now (set us x (get_or us x 0 % 2)) s.args.n s.args.width s.args.from s.args.d.0) (sym c.before.state.ensures)
-    (grown_more s.args.work.now s.args.n s.args.width s.args.from s.args.d.0 s.requires.2 s.requires.3 s.requires.4 (λ i. (c.before.before.before.before.before.before.before.before.slice-known.given i).fits) u)
+    let s = c in
+    let us : List ℕ = c.union.new.ws in
+    let u = union_at c.mask_row.ensures c.if-union.true c.union.ensures in
+    subst (λ (x : ℕ). Grown s.args.work.now (set us x (get_or us x 0 % 2)) s.args.n s.args.width s.args.from s.args.d.0) (sym c.state-at.ensures)
+    (grown_more s.args.work.now s.args.n s.args.width s.args.from s.args.d.0 s.requires.2 s.requires.3 s.requires.4 (λ i. (c.slice_known-1.given i).fits) u)
 
-same-length-2 : tie.Need-same-length-2
+same-length-2 : tie.Need-shape_of-work-else-union
 same-length-2 c = search rules
 
-returns-2 : tie.Need-returns-2
+returns-2 : tie.Need-returns-else-union
 returns-2 c =
-    let s = c.before.before.before.before.before.before.before in
-    let u = union_at c.before.before.before.before.mask-row.ensures c.if1.false c.before.before.before.union.ensures in
-    grown-not s.args.work.now s.args.n s.args.width s.args.from s.args.d.0 s.requires.2 s.requires.3 s.requires.4 (λ i. (c.before.before.before.before.before.before.slice-known.given i).fits) u
+    let s = c in
+    let u = union_at c.mask_row.ensures c.if-union.false c.union.ensures in
+    grown-not s.args.work.now s.args.n s.args.width s.args.from s.args.d.0 s.requires.2 s.requires.3 s.requires.4 (λ i. (c.slice_known-1.given i).fits) u
 
 pub grow_spec : {M : Type 1} → statement M
 grow_spec =

@@ -12,64 +12,64 @@ use borrow.Author.Rules.{rules}
 use Rattle.solve.proofs.ring.enqueue.Statement.{statement}
 use Rattle.solve.proofs.ring.enqueue.Tie as tie
 
-state-requires : tie.Need-state-requires
+state-requires : tie.Need-state-at-requires
 state-requires c κs = search rules
 
-mul-old : tie.Need-overflow-mul-old
-mul-old c = let s = c.before.before in omega (arith, row_fits s.args.n s.args.width s.requires.3, s.requires.2, c.state.ensures, node-below s.requires.0 s.requires.1 (le_of_lt s.requires.3))
+mul-old : tie.Need-offset_bounds-work-at
+mul-old c = let s = c in omega (arith, row_fits s.args.n s.args.width s.requires.3, s.requires.2, c.state-at.ensures, node-below s.requires.0 s.requires.1 (le_of_lt s.requires.3))
 
-slice-read-old : tie.Need-slice-read-old
-slice-read-old c = let s = c.before.before.before in omega (arith, row_fits s.args.n s.args.width s.requires.3, s.requires.2, c.before.state.ensures, node-below s.requires.0 s.requires.1 (le_of_lt s.requires.3))
+slice-read-old : tie.Need-bounds-work-at
+slice-read-old c = let s = c in omega (arith, row_fits s.args.n s.args.width s.requires.3, s.requires.2, c.state-at.ensures, node-below s.requires.0 s.requires.1 (le_of_lt s.requires.3))
 
 queue-requires : tie.Need-queue-requires
 queue-requires c κs = search rules
 
 -- the free place
 
-place : (c : tie.After-wrap) → c.wrap.result < ring_words c.before.before.before.before.before.args.n
-place c = let s = c.before.before.before.before.before in rw c.wrap.ensures (slot_in s.requires.4.1 s.requires.3)
+place : (c : tie.After-wrap) → c.wrap.result < ring_words c.args.n
+place c = let s = c in rw c.wrap.ensures (slot_in s.requires.4.1 s.requires.3)
 
-add-wrap : tie.Need-overflow-add-wrap
-add-wrap c = let s = c.before.before.before.before in omega (arith, few s.requires.4.1 s.requires.3, s.requires.4.1.front, s.requires.0)
+add-wrap : tie.Need-overflow_add-head
+add-wrap c = let s = c in omega (arith, few s.requires.4.1 s.requires.3, s.requires.4.1.front, s.requires.0)
 
-mul-wrap : tie.Need-overflow-mul-wrap
+mul-wrap : tie.Need-overflow_mul-n
 mul-wrap c = search rules
 
 wrap-requires : tie.Need-wrap-requires
 wrap-requires c κs = search rules
 
-add-work : tie.Need-overflow-add-work
-add-work c = omega (arith, place c, c.before.queue.ensures, queue-below c.before.before.before.before.before.requires.0)
+add-work : tie.Need-overflow_add-work
+add-work c = omega (arith, place c, c.queue.ensures, queue-below c.requires.0)
 
-mul-work : tie.Need-overflow-mul-work
-mul-work c = omega (arith, place c, c.before.queue.ensures, queue-below c.before.before.before.before.before.requires.0)
+mul-work : tie.Need-offset_bounds-work-queue
+mul-work c = omega (arith, place c, c.queue.ensures, queue-below c.requires.0)
 
-slice-write-work : tie.Need-slice-write-work
-slice-write-work c = let s = c.before.before.before.before.before in omega (arith, place c, c.before.queue.ensures, s.requires.2, row_from s.args.n s.args.width (2 * s.args.n))
+slice-write-work : tie.Need-bounds-work-queue
+slice-write-work c = let s = c in omega (arith, place c, c.queue.ensures, s.requires.2, row_from s.args.n s.args.width (2 * s.args.n))
 
 joined-requires : tie.Need-joined-requires
 joined-requires c κs = search rules
 
-mul-work-2 : tie.Need-overflow-mul-work-2
+mul-work-2 : tie.Need-offset_bounds-work-at-2
 mul-work-2 c = mul-old c.before.before.before.before
 
-slice-write-work-2 : tie.Need-slice-write-work-2
-slice-write-work-2 c = let s = c.before.before.before.before.before.before in let long = length-set s.args.work.now (c.before.before.queue.result + c.before.wrap.result) s.args.d in omega (arith, row_fits s.args.n s.args.width s.requires.3, s.requires.2, c.before.before.before.before.state.ensures)
+slice-write-work-2 : tie.Need-bounds-work-at-2
+slice-write-work-2 c = let s = c in let long = length-set s.args.work.now (c.queue.result + c.wrap.result) s.args.d in omega (arith, row_fits s.args.n s.args.width s.requires.3, s.requires.2, c.state-at.ensures)
 
-sub-t18 : tie.Need-overflow-sub-t18
+sub-t18 : tie.Need-overflow_sub-result
 sub-t18 c = search rules
 
-add-t16 : tie.Need-overflow-add-t16
-add-t16 c = let s = c.before.before.before.before.before.before in omega (arith, few s.requires.4.1 s.requires.3, s.requires.0)
+add-t16 : tie.Need-overflow_add-result
+add-t16 c = let s = c in omega (arith, few s.requires.4.1 s.requires.3, s.requires.0)
 
-same_length : tie.Need-same-length
+same_length : tie.Need-shape_of-work
 same_length c = search rules
 
 returns : tie.Need-returns
-returns c = let s = c.before.before.before.before.before.before in enqueued s.args.grew s.requires.4 s.requires.3 s.requires.2 c.before.before.before.before.state.ensures c.before.before.queue.ensures c.before.wrap.ensures c.joined.ensures
+returns c = let s = c in enqueued s.args.grew s.requires.4 s.requires.3 s.requires.2 c.state-at.ensures c.queue.ensures c.wrap.ensures c.joined.ensures
 
-pub enqueue-spec : {M : Type 1} → statement M
-enqueue-spec =
+pub enqueue_spec : {M : Type 1} → statement M
+enqueue_spec =
     tie.close
     (tie.spec
     state-requires
