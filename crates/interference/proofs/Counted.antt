@@ -11,7 +11,7 @@ use Rattle.words.specs.Clauses.Row.{bit, tally}
 use Rattle.words.proofs.Tally.{ones-tally}
 use Rattle.flow.specs.Flow.{Flow, size}
 use Rattle.theory.specs.Lists.{sum_below, max_below}
-use Rattle.theory.specs.Live.{member, bit_of, live_in, live_in_word}
+use Rattle.theory.specs.Live.{member, bit_of, is_live_in, live_in_word}
 use Rattle.theory.specs.Interference.{live_count, most_live}
 use Rattle.theory.proofs.Below.{max_below-same}
 use Rattle.theory.proofs.Names.{live_in_word-member, live_in_word-lt}
@@ -31,7 +31,7 @@ ones-live : (f : Flow) (i : ℕ) → ones (live_in_word f i) ≡ live_count f i
 unfolding live_count
 ones-live f i =
     ones-tally f.names (live_in_word f i) (live_in_word-lt f i)
-    ∙ tally_sum f.names (bit (live_in_word f i)) (λ x. bit_of (live_in f x i)) (λ x l. bit_test (live_in_word f i) x (live_in f x i) (live_in_word-member f i x l))
+    ∙ tally_sum f.names (bit (live_in_word f i)) (λ x. bit_of (is_live_in f x i)) (λ x l. bit_test (live_in_word f i) x (is_live_in f x i) (live_in_word-member f i x l))
 
 pub most_is : (f : Flow) {n : ℕ} {ins : List ℕ} → size f ≡ n → WordsOf n (live_in_word f) ins → max_below n (λ i. ones (get_or ins i 0)) ≡ most_live f
 unfolding most_live

@@ -10,7 +10,7 @@ use lib.ListN.{get_or}
 use Rattle.words.specs.Clauses.Row.{bit}
 use Rattle.flow.specs.Flow.{size}
 use Rattle.flow.specs.Format.{flow_of, names_of}
-use Rattle.theory.specs.Live.{member, LiveIn, live_in, is_live_out, live_in_word, live_out_word}
+use Rattle.theory.specs.Live.{member, LiveIn, is_live_in, is_live_out, live_in_word, live_out_word}
 use Rattle.theory.proofs.Lists.{same_test}
 use Rattle.theory.proofs.Live.{is_live_in-sound, is_live_in-complete, is_live_out-sound, is_live_out-complete}
 use Rattle.theory.proofs.Names.{names_word_unique}
@@ -43,9 +43,9 @@ module _ {s ws ins outs : List ℕ} {n : ℕ} (r : Ready s ws n) (h : Solving (f
   pub solved_in : (i : ℕ) → i < n → get_or ins i 0 ≡ live_in_word (flow_of s) i
   unfolding live_in_word
   solved_in i l =
-      names_word_unique (flow_of s) (λ x. live_in (flow_of s) x i) (get_or ins i 0)
+      names_word_unique (flow_of s) (λ x. is_live_in (flow_of s) x i) (get_or ins i 0)
       (names (word_below (get_or ins i 0) (names_of s) (λ x e. in_name r (h.sound_in i x l e))))
-      (λ x b. same_test (member (get_or ins i 0) x) (live_in (flow_of s) x i)
+      (λ x b. same_test (member (get_or ins i 0) x) (is_live_in (flow_of s) x i)
       (λ e. is_live_in-complete (well_formed r.fit) (let size = ready-size r in omega arith) (h.sound_in i x l (member-bit (get_or ins i 0) x e)))
       (λ e. bit-member (get_or ins i 0) x (in_complete l (is_live_in-sound (flow_of s) x i e))))
 

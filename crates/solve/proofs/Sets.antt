@@ -55,11 +55,11 @@ module _ {p : Problem} {n elements j : ℕ} {sets sets' : ℕ → ℕ → ℕ} {
 -- Nothing waits
 
 -- where all that is due is there, so is all that comes
-pub full_complete : {p : Problem} {n elements : ℕ} {sets : ℕ → ℕ → ℕ} → Full p n elements sets → Within p n → {i x : ℕ} → i < n → x < elements → Comes p x i → sets i x ≡ 1
-full_complete full in-n {i} {x} l m (Comes.start b) = full i x l m (Due.start b)
-full_complete full in-n {i} {x} l m (Comes.given e t needed g) =
+pub full_complete : {p : Problem} {n elements : ℕ} {sets : ℕ → ℕ → ℕ} → Full p n elements sets → Within p n → {x i : ℕ} → i < n → x < elements → Comes p x i → sets i x ≡ 1
+full_complete full in-n {x} {i} l m (Comes.start b) = full i x l m (Due.start b)
+full_complete full in-n {x} {i} l m (Comes.given e t needed g) =
     full i x l m (Due.comes e t (λ b q. full_complete full in-n (in-n.needs i b x q) m (needed b q)) (inl g))
-full_complete full in-n {i} {x} l m (Comes.through {j = j} e t needed q c) =
+full_complete full in-n {x} {i} l m (Comes.through {j = j} e t needed q c) =
     full i x l m (Due.comes e t (λ b q. full_complete full in-n (in-n.needs i b x q) m (needed b q)) (inr (q, full_complete full in-n (in-n.edge i j e) m c)))
 
 module _ {p : Problem} {n elements : ℕ} {sets : ℕ → ℕ → ℕ} {waits : ℕ → Type 0} (all : TakesAll p) (s : Solving p n elements sets waits) (none : (k : ℕ) → k < n → waits k → ⊥)

@@ -7,31 +7,30 @@ use borrow.Author.Rules.{rules}
 use Rattle.certain.proofs.begin.Statement.{statement}
 use Rattle.certain.proofs.begin.Tie as tie
 
-mul-zero-row : tie.Need-overflow-mul-zero-row
+mul-zero-row : tie.Need-overflow_mul-n
 mul-zero-row c = search rules
 
-row-words-requires : tie.Need-row-words-requires
+row-words-requires : tie.Need-row_words-requires
 row-words-requires c κs = search rules
 
-add-zero-row : tie.Need-overflow-add-zero-row
+add-zero-row : tie.Need-overflow_add-n
 add-zero-row c = search rules
 
-zero-row-requires : tie.Need-zero-row-requires
+zero-row-requires : tie.Need-zero_row-requires
 zero-row-requires c κs = search rules
 
 push-requires : tie.Need-push-requires
 push-requires c κs = search rules
 
-same_length : tie.Need-same-length
+same_length : tie.Need-shape_of-work
 same_length c = search rules
 
 returns : tie.Need-returns
 returns c =
-    let start = c.before.before.before.before.before.before.before.before.before.before in
-    begun start.args.work.now start.args.n start.requires.2 start.requires.1 (ap (λ z. 2 * start.args.n + z) c.before.before.before.before.before.before.before.row_words.ensures) c.before.before.before.before.before.before.zero_row.ensures c.before.before.push.ensures
+    begun c.args.work.now c.args.n c.requires.2 c.requires.1 (ap (λ z. 2 * c.args.n + z) c.row_words.ensures) c.zero_row.ensures c.push.ensures
 
-pub begin-spec : {M : Type 1} → statement M
-begin-spec =
+pub begin_spec : {M : Type 1} → statement M
+begin_spec =
     tie.close
     (tie.spec
     mul-zero-row

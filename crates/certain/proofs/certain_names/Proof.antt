@@ -9,32 +9,32 @@ use borrow.Author.Rules.{rules}
 use Rattle.certain.proofs.certain_names.Statement.{statement}
 use Rattle.certain.proofs.certain_names.Tie as tie
 
-gather-uses-requires : tie.Need-gather-uses-requires
+gather-uses-requires : tie.Need-gather_uses-all-requires
 gather-uses-requires c κs = search rules
 
-same_length : tie.Need-same-length
+same_length : tie.Need-shape_of-work-then-written-read-eq0
 same_length c = search rules
 
-returns : tie.Need-returns
-returns c = apart c.before.before.before.before.before.requires.ready c.before.before.before.before.before.requires.no_handler c.before.gather-uses.ensures c.if1.true
+returns : tie.Need-returns-then-written-read-eq0
+returns c = apart c.requires.ready c.requires.no_handler c.gather_uses-all.ensures c.if-written-read-eq0.true
 
 solve-requires : tie.Need-solve-requires
 solve-requires c κs = search rules
 
 early-requires : tie.Need-early-requires
-early-requires c κs = (ready-keeps c.before.before.before.before.before.before.before.before.before.before.requires.ready c.before.before.before.solve.ensures.kept (le_refl _), solved-here c.before.before.before.solve.ensures)
+early-requires c κs = (ready-keeps c.requires.ready c.solve.ensures.kept (le_refl _), solved-here c.solve.ensures)
 
 difference-requires : tie.Need-difference-requires
 difference-requires c κs = search rules
 
-same-length-2 : tie.Need-same-length-2
+same-length-2 : tie.Need-shape_of-work
 same-length-2 c = search rules
 
-returns-2 : tie.Need-returns-2
-returns-2 c = c.difference.ensures ∙ without_early c.before.before.before.before.before.before.before.before.before.before.before.before.requires.ready c.before.before.before.before.before.before.before.before.before.before.before.before.requires.no_handler c.before.before.before.before.before.before.before.before.gather-uses.ensures c.before.early.ensures
+returns-2 : tie.Need-returns
+returns-2 c = c.difference.ensures ∙ without_early c.requires.ready c.requires.no_handler c.gather_uses-all.ensures c.early.ensures
 
-pub certain-names-spec : {M : Type 1} → statement M
-certain-names-spec =
+pub certain_names_spec : {M : Type 1} → statement M
+certain_names_spec =
     tie.close
     (tie.spec
     gather-uses-requires

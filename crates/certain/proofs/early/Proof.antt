@@ -12,67 +12,67 @@ use Rattle.certain.proofs.Covering.{early_none, early_more}
 use Rattle.certain.proofs.early.Statement.{statement}
 use Rattle.certain.proofs.early.Tie as tie
 
-abbrev invariant-loop : tie.invariant-loop
+abbrev invariant-loop : tie.invariant-loop-i
 invariant-loop file work n names₀ i₀ names i = (i ≤ n) × Early (flow_of file) i names
 
-abbrev decreases-loop : tie.decreases-loop
+abbrev decreases-loop : tie.decreases-loop-i
 decreases-loop file work n names₀ i₀ names i = n - i
 
-loop-holds : tie.Need-loop-init invariant-loop decreases-loop
+loop-holds : tie.Need-loop-i-init invariant-loop decreases-loop
 loop-holds c = (omega arith, early_none)
 
-offset-requires : tie.Need-offset-requires invariant-loop decreases-loop
-offset-requires c κs = (c.before.before.before.before.requires.0, omega arith)
+offset-requires : tie.Need-offset-p-requires invariant-loop decreases-loop
+offset-requires c κs = (c.requires.0, omega arith)
 
-set-requires : tie.Need-set-requires invariant-loop decreases-loop
-set-requires c κs = (ready-most c.before.before.before.before.before.requires.0, omega arith)
+set-requires : tie.Need-set-at-requires invariant-loop decreases-loop
+set-requires c κs = (ready-most c.requires.0, omega arith)
 
-add-difference : tie.Need-overflow-add-difference invariant-loop decreases-loop
-add-difference c = let most = ready-most c.before.before.before.before.before.before.requires.0 in omega (arith, c.set.ensures, most)
+add-difference : tie.Need-overflow_add-at invariant-loop decreases-loop
+add-difference c = let most = ready-most c.requires.0 in omega (arith, c.set-at.ensures, most)
 
-mul-difference : tie.Need-overflow-mul-difference invariant-loop decreases-loop
-mul-difference c = let most = ready-most c.before.before.before.before.before.before.requires.0 in omega (arith, c.set.ensures, most)
+mul-difference : tie.Need-offset_bounds-work-at invariant-loop decreases-loop
+mul-difference c = let most = ready-most c.requires.0 in omega (arith, c.set-at.ensures, most)
 
-shared-slice-read-difference : tie.Need-shared-slice-read-difference invariant-loop decreases-loop
-shared-slice-read-difference c = let room = area-room c.before.before.before.before.before.before.before.requires.0 (omega arith) in omega (arith, c.before.set.ensures, room)
+shared-slice-read-difference : tie.Need-bounds-work-at invariant-loop decreases-loop
+shared-slice-read-difference c = let room = area-room c.requires.0 (omega arith) in omega (arith, c.set-at.ensures, room)
 
-mul-difference-2 : tie.Need-overflow-mul-difference-2 invariant-loop decreases-loop
-mul-difference-2 c = let most = ready-most c.before.before.before.before.before.before.before.requires.0 in omega (arith, c.before.set.ensures, most)
+mul-difference-2 : tie.Need-offset_bounds-work-at-in-loop-i invariant-loop decreases-loop
+mul-difference-2 c = let most = ready-most c.requires.0 in omega (arith, c.set-at.ensures, most)
 
-shared-slice-read-difference-2 : tie.Need-shared-slice-read-difference-2 invariant-loop decreases-loop
-shared-slice-read-difference-2 c = let room = area-room c.before.before.before.before.before.before.before.before.requires.0 (omega arith) in omega (arith, c.before.before.set.ensures, room)
+shared-slice-read-difference-2 : tie.Need-bounds-work-at-in-loop-i invariant-loop decreases-loop
+shared-slice-read-difference-2 c = let room = area-room c.requires.0 (omega arith) in omega (arith, c.set-at.ensures, room)
 
-difference-requires : tie.Need-difference-requires invariant-loop decreases-loop
+difference-requires : tie.Need-difference-before-requires invariant-loop decreases-loop
 difference-requires c κs = tt
 
 read-requires : tie.Need-read-requires invariant-loop decreases-loop
-read-requires c κs = c.before.before.before.before.offset.ensures.fit
+read-requires c κs = c.offset-p.ensures.fit
 
-difference-requires-2 : tie.Need-difference-requires-2 invariant-loop decreases-loop
+difference-requires-2 : tie.Need-difference-names-requires invariant-loop decreases-loop
 difference-requires-2 c κs = tt
 
-add-i : tie.Need-overflow-add-i invariant-loop decreases-loop
-add-i c = let most = ready-most c.before.before.before.before.before.before.before.before.before.before.before.requires.0 in omega (arith, most)
+add-i : tie.Need-overflow_add-i invariant-loop decreases-loop
+add-i c = let most = ready-most c.requires.0 in omega (arith, most)
 
-loop-less : tie.Need-loop-smaller invariant-loop decreases-loop
+loop-less : tie.Need-loop-i-smaller invariant-loop decreases-loop
 loop-less c = omega arith
 
-loop-again : tie.Need-loop-preserved invariant-loop decreases-loop
+loop-again : tie.Need-loop-i-preserved invariant-loop decreases-loop
 loop-again c =
-    let start = c.before.before.before.before.before.before.before.before.before.before.before in (
+    (
       omega arith,
-      early_more start.requires.0 start.requires.1 (λ x. (c.before.before.before.before.before.before.before.before.before.shared-slice-known2.given x).fits) (omega arith) c.before.before.before.before.before.before.before.before.loop.invariant.1 c.before.before.before.before.before.set.ensures c.before.before.difference.ensures
-          (c.difference2.ensures ∙ ap (λ z. without z c.before.before.difference.result) (c.before.read.ensures ∙ sym c.before.before.before.before.before.before.offset.ensures.read)),
+      early_more c.requires.0 c.requires.1 (λ x. (c.shared_slice_known-2-1.given x).fits) (omega arith) c.loop-i.invariant.1 c.set-at.ensures c.difference-before.ensures
+          (c.difference-names.ensures ∙ ap (λ z. without z c.difference-before.result) (c.read.ensures ∙ sym c.offset-p.ensures.read)),
     )
 
 returns : tie.Need-returns invariant-loop decreases-loop
 returns c =
-    let loop = c.before.loop in
-    let all : loop.i ≡ c.before.before.before.before.args.n = omega (arith, loop.invariant.0) in
-    subst (λ z. Early (flow_of c.before.before.before.before.args.file.now) z loop.names) all loop.invariant.1
+    let loop = c.loop-i in
+    let all : loop.i ≡ c.args.n = omega (arith, loop.invariant.0) in
+    subst (λ z. Early (flow_of c.args.file.now) z loop.names) all loop.invariant.1
 
-pub early-spec : {M : Type 1} → statement M
-early-spec =
+pub early_spec : {M : Type 1} → statement M
+early_spec =
     tie.close
     (tie.spec
     invariant-loop

@@ -9,28 +9,27 @@ use Rattle.certain.proofs.push.Tie as tie
 set-requires : tie.Need-set-requires
 set-requires c κs = search rules
 
-union-pair-requires : tie.Need-union-pair-requires
+union-pair-requires : tie.Need-union_pair-requires
 union-pair-requires c κs = search rules
 
 waiting-requires : tie.Need-waiting-requires
 waiting-requires c κs = search rules
 
 insert-requires : tie.Need-insert-requires
-insert-requires c κs = let word = member-word c.before.before.before.before.before.before.before.before.before.requires.2 in search rules
+insert-requires c κs = let word = member-word c.requires.2 in search rules
 
-same_length : tie.Need-same-length
+same_length : tie.Need-shape_of-work-then-union_pair
 same_length c = search rules
 
-returns : tie.Need-returns
+returns : tie.Need-returns-then-union_pair
 returns c =
-    let start = c.before.before.before.before.before.before.before.before.before.before.before.before in
-    pushed_waits start.requires.2 start.requires.1 c.before.before.before.before.before.before.before.before.before.set.ensures c.before.before.before.before.before.before.before.before.union-pair.ensures (λ x. (c.before.before.before.before.before.before.before.before.before.before.before.slice-known.given x).fits) start.ranges.names.fits start.ranges.reached.fits c.before.before.before.before.before.if1.true c.before.before.before.waiting.ensures c.before.before.insert.ensures
+    pushed_waits c.requires.2 c.requires.1 c.set.ensures c.union_pair.ensures (λ x. (c.slice_known-1.given x).fits) c.ranges.names.fits c.ranges.reached.fits c.if-union_pair.true c.waiting.ensures c.insert.ensures
 
-same-length-2 : tie.Need-same-length-2
+same-length-2 : tie.Need-shape_of-work-else-union_pair
 same-length-2 c = search rules
 
-returns-2 : tie.Need-returns-2
-returns-2 c = pushed_same c.before.before.before.before.before.before.before.requires.2 c.before.before.before.before.before.before.before.requires.1 c.before.before.before.before.set.ensures c.before.before.before.union-pair.ensures c.if1.false
+returns-2 : tie.Need-returns-else-union_pair
+returns-2 c = pushed_same c.requires.2 c.requires.1 c.set.ensures c.union_pair.ensures c.if-union_pair.false
 
 pub push_spec : {M : Type 1} → statement M
 push_spec =

@@ -11,45 +11,45 @@ use Rattle.certain.proofs.Solution.{Solving, solving-first, solving-more, solved
 use Rattle.certain.proofs.solve.Statement.{statement}
 use Rattle.certain.proofs.solve.Tie as tie
 
-abbrev invariant-loop : tie.invariant-loop
+abbrev invariant-loop : tie.invariant-loop-i
 invariant-loop file work₀ n i₀ work i = Solving (flow_of file) work₀ work n i
 
-abbrev decreases-loop : tie.decreases-loop
+abbrev decreases-loop : tie.decreases-loop-i
 decreases-loop file work₀ n i₀ work i = left work n
 
 begin-requires : tie.Need-begin-requires invariant-loop decreases-loop
-begin-requires c κs = let start = c.before.before.before.requires in (ready-most start.ready, area-room start.ready (omega (arith, start.small)), start.small)
+begin-requires c κs = let start = c.requires in (ready-most start.ready, area-room start.ready (omega (arith, start.small)), start.small)
 
-loop-holds : tie.Need-loop-init invariant-loop decreases-loop
-loop-holds c = solving-first (flow_of c.before.before.before.before.before.before.args.file.now) c.before.before.before.before.before.before.requires.small c.before.before.before.before.before.before.requires.entry_is c.before.before.begin.ensures
+loop-holds : tie.Need-loop-i-init invariant-loop decreases-loop
+loop-holds c = solving-first (flow_of c.args.file.now) c.requires.small c.requires.entry_is c.begin.ensures
 
 visit-requires : tie.Need-visit-requires invariant-loop decreases-loop
-visit-requires c κs = (ready-keeps c.before.before.before.before.before.before.before.before.before.requires.ready (keeps-trans c.before.before.before.before.before.begin.ensures.kept c.before.before.loop.invariant.kept) (le_refl _), omega arith)
+visit-requires c κs = (ready-keeps c.requires.ready (keeps-trans c.begin.ensures.kept c.loop-i.invariant.kept) (le_refl _), omega arith)
 
 waiting-requires : tie.Need-waiting-requires invariant-loop decreases-loop
-waiting-requires c κs = ready-most c.before.before.before.before.before.before.before.before.before.before.before.before.before.requires.ready
+waiting-requires c κs = ready-most c.requires.ready
 
-next-around-requires : tie.Need-next-around-requires invariant-loop decreases-loop
+next-around-requires : tie.Need-next_around-i-requires invariant-loop decreases-loop
 next-around-requires c κs =
-    let start = c.before.before.before.before.before.before.before.before.before.before.before.before.before.before.requires in
+    let start = c.requires in
     let room = area-room start.ready (omega (arith, start.small)) in
-    let inv = c.before.before.before.before.before.before.before.loop.invariant in
-    (waiting-room c.before.before.before.before.before.before.before.before.before.before.before.before.before.before.args.n c.waiting.ensures (omega (arith, room, c.before.before.before.before.before.before.before.before.before.before.begin.ensures.kept.size, inv.kept.size, c.before.before.before.before.visit.ensures.kept.size)), inv.next.high)
+    let inv = c.loop-i.invariant in
+    (waiting-room c.args.n c.waiting.ensures (omega (arith, room, c.begin.ensures.kept.size, inv.kept.size, c.visit.ensures.kept.size)), inv.next.high)
 
-loop-less : tie.Need-loop-smaller invariant-loop decreases-loop
-loop-less c = c.before.before.before.before.before.visit.ensures.falls (c.before.before.before.before.before.before.before.before.loop.invariant.next.member (omega arith))
+loop-less : tie.Need-loop-i-smaller invariant-loop decreases-loop
+loop-less c = c.visit.ensures.falls (c.loop-i.invariant.next.member (omega arith))
 
-loop-again : tie.Need-loop-preserved invariant-loop decreases-loop
-loop-again c = solving-more c.before.before.before.before.before.before.before.before.loop.invariant c.before.before.before.before.before.visit.ensures c.before.waiting.ensures c.next-around.ensures
+loop-again : tie.Need-loop-i-preserved invariant-loop decreases-loop
+loop-again c = solving-more c.loop-i.invariant c.visit.ensures c.waiting.ensures c.next_around-i.ensures
 
-same_length : tie.Need-same-length invariant-loop decreases-loop
-same_length c = c.before.loop.invariant.kept.size ∙ c.before.before.before.before.begin.ensures.kept.size
+same_length : tie.Need-shape_of-work invariant-loop decreases-loop
+same_length c = c.loop-i.invariant.kept.size ∙ c.begin.ensures.kept.size
 
 returns : tie.Need-returns invariant-loop decreases-loop
-returns c = solved (ready-size c.before.before.before.before.before.before.before.before.requires.ready) c.before.before.before.before.begin.ensures.kept c.before.loop.invariant (omega arith)
+returns c = solved (ready-size c.requires.ready) c.begin.ensures.kept c.loop-i.invariant (omega arith)
 
-pub solve-spec : {M : Type 1} → statement M
-solve-spec =
+pub solve_spec : {M : Type 1} → statement M
+solve_spec =
     tie.close
     (tie.spec
     invariant-loop

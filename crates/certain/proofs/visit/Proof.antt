@@ -11,48 +11,47 @@ use Rattle.certain.proofs.visit.Statement.{statement}
 use Rattle.certain.proofs.visit.Tie as tie
 
 waiting-requires : tie.Need-waiting-requires
-waiting-requires c κs = ready-most c.before.before.before.requires.0
+waiting-requires c κs = ready-most c.requires.0
 
 remove-requires : tie.Need-remove-requires
-remove-requires c κs = let room = area-room c.before.before.before.before.requires.0 (omega arith) in omega (arith, c.waiting.ensures, room, member-word c.before.before.before.before.requires.1)
+remove-requires c κs = let room = area-room c.requires.0 (omega arith) in omega (arith, c.waiting.ensures, room, member-word c.requires.1)
 
-written-requires : tie.Need-written-requires
-written-requires c κs = (taken_ready c.before.before.before.before.before.before.before.before.requires.0 c.before.before.before.before.before.before.before.before.requires.1 c.before.before.before.before.waiting.ensures c.before.before.before.remove.ensures, c.before.before.before.before.before.before.before.before.requires.1)
+written-requires : tie.Need-written-writes-requires
+written-requires c κs = (taken_ready c.requires.0 c.requires.1 c.waiting.ensures c.remove.ensures, c.requires.1)
 
-set-requires : tie.Need-set-requires
-set-requires c κs = (ready-most c.before.before.before.before.before.before.before.before.before.requires.0, c.before.before.before.before.before.before.before.before.before.requires.1)
+set-requires : tie.Need-set-at-requires
+set-requires c κs = (ready-most c.requires.0, c.requires.1)
 
-mul-difference : tie.Need-overflow-mul-difference
+mul-difference : tie.Need-offset_bounds-work-at
 mul-difference c = search rules
 
-slice-read-difference : tie.Need-slice-read-difference
+slice-read-difference : tie.Need-bounds-work-at
 slice-read-difference c = search rules
 
-difference-requires : tie.Need-difference-requires
+difference-requires : tie.Need-difference-names-requires
 difference-requires c κs = search rules
 
-add-reached : tie.Need-overflow-add-reached
+add-reached : tie.Need-overflow_add-reached
 add-reached c = search rules
 
-mul-reached : tie.Need-overflow-mul-reached
+mul-reached : tie.Need-offset_bounds-work-at-2
 mul-reached c = search rules
 
-slice-read-reached : tie.Need-slice-read-reached
+slice-read-reached : tie.Need-bounds-work-at-2
 slice-read-reached c = search rules
 
-push-listed-requires : tie.Need-push-listed-requires
-push-listed-requires c κs = (taken_ready c.before.before.before.before.before.before.before.before.before.before.before.before.before.before.requires.0 c.before.before.before.before.before.before.before.before.before.before.before.before.before.before.requires.1 c.before.before.before.before.before.before.before.before.before.before.waiting.ensures c.before.before.before.before.before.before.before.before.before.remove.ensures, c.before.before.before.before.before.before.before.before.before.before.before.before.before.before.requires.1)
+push-listed-requires : tie.Need-push_listed-requires
+push-listed-requires c κs = (taken_ready c.requires.0 c.requires.1 c.waiting.ensures c.remove.ensures, c.requires.1)
 
-same_length : tie.Need-same-length
+same_length : tie.Need-shape_of-work
 same_length c = search rules
 
 returns : tie.Need-returns
 returns c =
-    let start = c.before.before.before.before.before.before.before.before.before.before.before.before.before.before.before.before.before in
-    visited start.requires.0 start.requires.1 (λ x. (c.before.before.before.before.before.before.before.before.before.before.before.before.before.before.before.slice-known.given x).fits) c.before.before.before.before.before.before.before.before.before.before.before.before.before.waiting.ensures c.before.before.before.before.before.before.before.set.ensures c.before.before.before.before.before.before.before.before.before.before.before.before.remove.ensures (c.before.before.before.before.before.difference.ensures ∙ ap (without _) c.before.before.before.before.before.before.before.before.written.ensures) refl c.before.before.push-listed.ensures
+    visited c.requires.0 c.requires.1 (λ x. (c.slice_known-1.given x).fits) c.waiting.ensures c.set-at.ensures c.remove.ensures (c.difference-names.ensures ∙ ap (without _) c.written-writes.ensures) refl c.push_listed.ensures
 
-pub visit-spec : {M : Type 1} → statement M
-visit-spec =
+pub visit_spec : {M : Type 1} → statement M
+visit_spec =
     tie.close
     (tie.spec
     waiting-requires

@@ -45,7 +45,7 @@ difference-requires : tie.Need-difference-requires invariant-loop decreases-loop
 difference-requires c κs = search rules
 
 union-word-requires : tie.Need-union_word-requires invariant-loop decreases-loop
-union-word-requires c κs = let turn = c in lowest-room turn.loop-rest.invariant (some turn.before.before) turn.requires
+union-word-requires c κs = lowest-room c.loop-rest.invariant (some c.before.before) c.requires
 
 difference-requires-2 : tie.Need-difference-rest-requires invariant-loop decreases-loop
 difference-requires-2 c κs = search rules
@@ -69,9 +69,9 @@ loop-again c =
     let a = t.args in
     let u = c.union_word in
     let others = c.difference in
-    let joined : Joined t.loop-rest.rows u.new.0 (count_trailing_zeros 64 (rest t)) (without a.set (2 ^ count_trailing_zeros 64 (rest t))) u.result =
-    subst (λ (w : ℕ). Joined t.loop-rest.rows u.new.0 (count_trailing_zeros 64 (rest t)) w u.result) (others.ensures ∙ ap (without a.set) (one_shl (count_trailing_zeros 64 (rest t)) (low t))) u.ensures in
-    subst (λ (w : ℕ). Adding a.rows.now u.new.0 a.set w) (sym (without-lowest c))
+    let joined : Joined t.loop-rest.rows u.new.ws (count_trailing_zeros 64 (rest t)) (without a.set (2 ^ count_trailing_zeros 64 (rest t))) u.result =
+    subst (λ (w : ℕ). Joined t.loop-rest.rows u.new.ws (count_trailing_zeros 64 (rest t)) w u.result) (others.ensures ∙ ap (without a.set) (one_shl (count_trailing_zeros 64 (rest t)) (low t))) u.ensures in
+    subst (λ (w : ℕ). Adding a.rows.now u.new.ws a.set w) (sym (without-lowest c))
     (adding_on t.loop-rest.invariant (some t) t.requires joined (subst (λ (w : ℕ). w < 2 ^ 64) (without-lowest c) c.difference-rest.type_inv))
 
 same_length : tie.Need-shape_of-rows invariant-loop decreases-loop

@@ -53,15 +53,14 @@ offset-requires : tie.Need-offset-p-requires invariant-loop decreases-loop
 offset-requires c κs = ((start c).requires.0.ready, omega arith)
 
 mul-add-new-clique : tie.Need-offset_bounds-live_in-i invariant-loop decreases-loop
-mul-add-new-clique c = let turn = c in omega (arith, ready-most (start turn.before.before).requires.0.ready)
+mul-add-new-clique c = omega (arith, ready-most (start c.before.before).requires.0.ready)
 
 shared-slice-read-add-new-clique : tie.Need-bounds-live_in-i invariant-loop decreases-loop
-shared-slice-read-add-new-clique c = let turn = c in omega (arith, (start turn.before.before.before).requires.1.live_in.room)
+shared-slice-read-add-new-clique c = omega (arith, (start c.before.before.before).requires.1.live_in.room)
 
 add-new-clique-requires : tie.Need-add_new_clique-last-requires invariant-loop decreases-loop
 add-new-clique-requires c κs =
-    let turn = c in
-    room turn.before.before.before (get_or (start turn.before.before.before).args.live_in.now (i turn.before.before.before) 0) (subst (λ (w : ℕ). w < 2 ^ (flow_of (file turn.before.before.before)).names) (sym (in_is turn.before.before.before)) (live_in_word-lt (flow_of (file turn.before.before.before)) (i turn.before.before.before)))
+    room c.before.before.before (get_or (start c.before.before.before).args.live_in.now (i c.before.before.before) 0) (subst (λ (w : ℕ). w < 2 ^ (flow_of (file c.before.before.before)).names) (sym (in_is c.before.before.before)) (live_in_word-lt (flow_of (file c.before.before.before)) (i c.before.before.before)))
 
 -- the names at the start are added
 module _ (c : tie.After-add_new_clique-last invariant-loop decreases-loop) where
@@ -88,7 +87,7 @@ module _ (c : tie.After-written invariant-loop decreases-loop) where
 add-new-clique-requires-2 : tie.Need-add_new_clique-last-requires-in-loop-i invariant-loop decreases-loop
 add-new-clique-requires-2 c κs =
     let t = turn (begun c) in
-    subst (λ (k : ℕ). bit_or (get_or (start t).args.live_out.now (i t) 0) c.written.result < 2 ^ k) (sym (begun c).add_new_clique-last.auto.0)
+    subst (λ (k : ℕ). bit_or (get_or (start t).args.live_out.now (i t) 0) c.written.result < 2 ^ k) (sym (begun c).add_new_clique-last.auto.rows)
     (room t _ (subst (λ (w : ℕ). w < 2 ^ (flow_of (file t)).names) (sym (after_is c)) (after-lt (start t).requires.0.ready (i t))))
 
 add-i : tie.Need-overflow_add-i invariant-loop decreases-loop
@@ -99,12 +98,11 @@ loop-less c = search rules
 
 loop-again : tie.Need-loop-i-preserved invariant-loop decreases-loop
 loop-again c =
-    let ended = c in
-    let first = begun ended.before.before.before in
+    let first = begun c.before.before.before in
     let t = turn first in (
       omega arith,
       c.add_new_clique-last-in-loop-i.type_inv,
-      going_statement (start t).requires.0.ready t.loop-i.invariant.2 t.loop-i.invariant.1 first.add_new_clique-last.ok (in_is t) (after_is ended.before.before.before) first.add_new_clique-last.ensures c.add_new_clique-last-in-loop-i.ensures,
+      going_statement (start t).requires.0.ready t.loop-i.invariant.2 t.loop-i.invariant.1 first.add_new_clique-last.type_inv (in_is t) (after_is c.before.before.before) first.add_new_clique-last.ensures c.add_new_clique-last-in-loop-i.ensures,
     )
 
 same_length : tie.Need-shape_of-rows invariant-loop decreases-loop

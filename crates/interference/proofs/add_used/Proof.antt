@@ -12,17 +12,15 @@ gather-uses-requires c κs = search rules
 
 add-clique-requires : tie.Need-add_clique-requires
 add-clique-requires c κs =
-    let start = c in
-    lt_of_lt_of_le (used-lt start.requires.ready c.gather_uses-all.ensures) (pow_mono start.requires.room)
+    lt_of_lt_of_le (used-lt c.requires.ready c.gather_uses-all.ensures) (pow_mono c.requires.room)
 
 same_length : tie.Need-shape_of-rows
 same_length c = search rules
 
 returns : tie.Need-returns
 returns c =
-    let added = c in
-    let start = added in
-    noted-used start.requires.ready added.gather_uses-all.ensures added.add_clique.ensures
+    let start = c in
+    noted-used start.requires.ready c.gather_uses-all.ensures c.add_clique.ensures
 
 pub add_used_spec : {M : Type 1} → statement M
 add_used_spec = tie.close (tie.spec gather-uses-requires add-clique-requires same_length returns)

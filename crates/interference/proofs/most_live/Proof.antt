@@ -11,6 +11,7 @@ use lib.ListN.{get_or}
 use Rattle.theory.specs.Lists.{max_below}
 use Rattle.interference.proofs.most_live.Statement.{statement}
 use Rattle.interference.proofs.most_live.Tie as tie
+use Rattle.interference.proofs.most_live.Lts as lts
 
 abbrev invariant-loop : tie.invariant-loop-i
 invariant-loop live_in n most₀ i₀ most i = (i ≤ n) × (most ≡ max_below i (λ k. ones (get_or live_in k 0)))
@@ -46,7 +47,7 @@ loop-again : tie.Need-loop-i-preserved invariant-loop decreases-loop
 loop-again c =
     let loop = c.loop-i in
     let more = max-more loop.i (λ k. ones (get_or c.args.live_in.now k 0)) in
-    (omega arith, ⊎_elim (λ w. omega (arith, more, loop.invariant.1)) (λ w. omega (arith, more, loop.invariant.1)) c.if-most-live.branch)
+    (omega arith, elim c.if-most-live.branch [ lts.then-most-live w ↦ omega (arith, more, loop.invariant.1) | lts.else-most-live w ↦ omega (arith, more, loop.invariant.1) ])
 
 returns : tie.Need-returns invariant-loop decreases-loop
 returns c =

@@ -16,11 +16,9 @@ same_length c = search rules
 
 returns : tie.Need-returns
 returns c =
-    let added = c in
-    let zeroed = added in
-    let start = zeroed in
-    let p = start.requires in
-    used_rows p.0.rows_room.ready start.args.rows.now p.0.names_is p.0.rows_room.room zeroed.zero_row.ensures p.1.1 added.add_used.ensures
+    let zeroed = c in
+    let p = zeroed.requires in
+    used_rows p.0.rows_room.ready zeroed.args.rows.now p.0.names_is p.0.rows_room.room zeroed.zero_row.ensures p.1.1 c.add_used.ensures
 
 pub used_rows_spec : {M : Type 1} → statement M
 used_rows_spec =

@@ -13,62 +13,60 @@ use Rattle.live.proofs.Beginning.{Beginning, cleared-kept, beginning_none, begin
 use Rattle.live.proofs.begin.Statement.{statement}
 use Rattle.live.proofs.begin.Tie as tie
 
-abbrev invariant-loop : tie.invariant-loop
+abbrev invariant-loop : tie.invariant-loop-i
 invariant-loop file work₀ live-in₀ live-out₀ n queue₀ i₀ work live_in live_out queue i = Beginning (flow_of file) n work₀ work live-in₀ live_in live-out₀ live_out queue i
 
-abbrev decreases-loop : tie.decreases-loop
+abbrev decreases-loop : tie.decreases-loop-i
 decreases-loop file work₀ live-in₀ live-out₀ n queue₀ i₀ work live_in live_out queue i = i
 
-cleared : (c : tie.After-clear invariant-loop decreases-loop) → Keeps (matrix_at c.before.before.before.before.before.before.args.n) (nodes_end c.before.before.before.before.before.before.args.n 0) c.before.before.before.before.before.before.args.work.now c.clear.new.0
+cleared : (c : tie.After-clear invariant-loop decreases-loop) → Keeps (matrix_at c.args.n) (nodes_end c.args.n 0) c.args.work.now c.clear.new.work
 cleared c =
-    let start = c.before.before.before.before.before.before in
-    cleared-kept start.args.work.now start.args.n (omega (arith, bare-room start.requires.0.ready start.requires.0.some)) c.clear.ensures
+    cleared-kept c.args.work.now c.args.n (omega (arith, bare-room c.requires.0.ready c.requires.0.some)) c.clear.ensures
 
 clear-requires : tie.Need-clear-requires invariant-loop decreases-loop
-clear-requires c κs = let ready = c.before.before.before.before.before.requires.0.ready in (ready-most ready, omega (arith, bare-room ready c.before.before.before.before.before.requires.0.some))
+clear-requires c κs = let ready = c.requires.0.ready in (ready-most ready, omega (arith, bare-room ready c.requires.0.some))
 
-loop-holds : tie.Need-loop-init invariant-loop decreases-loop
+loop-holds : tie.Need-loop-i-init invariant-loop decreases-loop
 loop-holds c =
-    let start = c.before.before.before.before.before.before.before.before in
-    beginning_none start.args.work.now start.args.n (omega (arith, bare-room start.requires.0.ready start.requires.0.some)) c.before.before.clear.ensures start.requires.0.some start.requires.1
+    beginning_none c.args.work.now c.args.n (omega (arith, bare-room c.requires.0.ready c.requires.0.some)) c.clear.ensures c.requires.0.some c.requires.1
 
-sub-i : tie.Need-overflow-sub-i invariant-loop decreases-loop
+sub-i : tie.Need-overflow_sub-i invariant-loop decreases-loop
 sub-i c = omega arith
 
-note-predecessors-requires : tie.Need-note-predecessors-requires invariant-loop decreases-loop
+note-predecessors-requires : tie.Need-note_predecessors-requires invariant-loop decreases-loop
 note-predecessors-requires c κs =
-    let inv = c.before.before.loop.invariant in
-    ((beginning_start c.before.before.before.before.before.before.before.before.before.before.before.requires.0 (cleared c.before.before.before.before.before) inv).ready, omega (arith, inv.low), inv.free _ (omega arith))
+    let inv = c.loop-i.invariant in
+    ((beginning_start c.requires.0 (cleared c.before.before.before.before.before) inv).ready, omega (arith, inv.low), inv.free _ (omega arith))
 
-settle-or-wait-requires : tie.Need-settle-or-wait-requires invariant-loop decreases-loop
+settle-or-wait-requires : tie.Need-settle_or_wait-queue-requires invariant-loop decreases-loop
 settle-or-wait-requires c κs =
-    let inv = c.before.before.before.before.before.before.before.before.loop.invariant in
-    let noted = c.before.before.before.before.before.note-predecessors.ensures in
-    (noted-start (beginning_start c.before.before.before.before.before.before.before.before.before.before.before.before.before.before.before.before.before.requires.0 (cleared c.before.before.before.before.before.before.before.before.before.before.before) inv) noted, omega (arith, inv.low), (inv.held.0, noted-waits noted inv.held.1))
+    let inv = c.loop-i.invariant in
+    let noted = c.note_predecessors.ensures in
+    (noted-start (beginning_start c.requires.0 (cleared c.before.before.before.before.before.before.before.before.before.before.before) inv) noted, omega (arith, inv.low), (inv.held.0, noted-waits noted inv.held.1))
 
-loop-less : tie.Need-loop-smaller invariant-loop decreases-loop
+loop-less : tie.Need-loop-i-smaller invariant-loop decreases-loop
 loop-less c = omega arith
 
-loop-again : tie.Need-loop-preserved invariant-loop decreases-loop
+loop-again : tie.Need-loop-i-preserved invariant-loop decreases-loop
 loop-again c =
-    let inv = c.before.before.before.before.before.before.before.before.before.before.before.before.before.before.before.loop.invariant in
-    let noted = c.before.before.before.before.before.before.before.before.before.before.before.before.note-predecessors.ensures in
-    beginning_more (noted-start (beginning_start c.before.before.before.before.before.before.before.before.before.before.before.before.before.before.before.before.before.before.before.before.before.before.before.before.requires.0 (cleared c.before.before.before.before.before.before.before.before.before.before.before.before.before.before.before.before.before.before) inv) noted) inv (omega arith) noted c.before.before.before.before.before.before.settle-or-wait.ensures
+    let inv = c.loop-i.invariant in
+    let noted = c.note_predecessors.ensures in
+    beginning_more (noted-start (beginning_start c.requires.0 (cleared c.before.before.before.before.before.before.before.before.before.before.before.before.before.before.before.before.before.before) inv) noted) inv (omega arith) noted c.settle_or_wait-queue.ensures
 
-same_length : tie.Need-same-length invariant-loop decreases-loop
-same_length c = c.before.loop.invariant.kept.size ∙ (cleared c.before.before.before.before).size
+same_length : tie.Need-shape_of-work invariant-loop decreases-loop
+same_length c = c.loop-i.invariant.kept.size ∙ (cleared c.before.before.before.before).size
 
-same-length-2 : tie.Need-same-length-2 invariant-loop decreases-loop
-same-length-2 c = c.before.loop.invariant.in_area.size
+same-length-2 : tie.Need-shape_of-live_in invariant-loop decreases-loop
+same-length-2 c = c.loop-i.invariant.in_area.size
 
-same-length-3 : tie.Need-same-length-3 invariant-loop decreases-loop
-same-length-3 c = c.before.loop.invariant.out_area.size
+same-length-3 : tie.Need-shape_of-live_out invariant-loop decreases-loop
+same-length-3 c = c.loop-i.invariant.out_area.size
 
 returns : tie.Need-returns invariant-loop decreases-loop
-returns c = beginning_all (cleared c.before.before.before.before) c.before.loop.invariant (omega arith)
+returns c = beginning_all (cleared c.before.before.before.before) c.loop-i.invariant (omega arith)
 
-pub begin-spec : {M : Type 1} → statement M
-begin-spec =
+pub begin_spec : {M : Type 1} → statement M
+begin_spec =
     tie.close
     (tie.spec
     invariant-loop

@@ -12,41 +12,40 @@ use borrow.Author.Rules.{rules}
 use Rattle.live.proofs.clear.Statement.{statement}
 use Rattle.live.proofs.clear.Tie as tie
 
-matrix-requires : tie.Need-matrix-requires
+matrix-requires : tie.Need-matrix-matrix-requires
 matrix-requires c κs = search rules
 
 lists-requires : tie.Need-lists-requires
 lists-requires c κs = search rules
 
-sub-zero-row : tie.Need-overflow-sub-zero-row
-sub-zero-row c = let n = c.before.before.before.before.args.n in omega (arith, c.before.before.matrix.ensures, c.lists.ensures, row_from n n)
+sub-zero-row : tie.Need-overflow_sub-lists
+sub-zero-row c = let n = c.args.n in omega (arith, c.matrix-matrix.ensures, c.lists.ensures, row_from n n)
 
-zero-row-requires : tie.Need-zero-row-requires
-zero-row-requires c κs = let s = c.before.before.before.before in omega (arith, c.before.before.matrix.ensures, c.lists.ensures, row_from s.args.n s.args.n, s.requires.1)
+zero-row-requires : tie.Need-zero_row-requires
+zero-row-requires c κs = omega (arith, c.matrix-matrix.ensures, c.lists.ensures, row_from c.args.n c.args.n, c.requires.1)
 
-queue-requires : tie.Need-queue-requires
+queue-requires : tie.Need-queue-queue-requires
 queue-requires c κs = search rules
 
-nodes-end-requires : tie.Need-nodes-end-requires
+nodes-end-requires : tie.Need-nodes_end-requires
 nodes-end-requires c κs = search rules
 
-sub-zero-row-2 : tie.Need-overflow-sub-zero-row-2
+sub-zero-row-2 : tie.Need-overflow_sub-nodes_end
 sub-zero-row-2 c = search rules
 
-zero-row-requires-2 : tie.Need-zero-row-requires-2
+zero-row-requires-2 : tie.Need-zero_row-requires-2
 zero-row-requires-2 c κs = search rules
 
-same_length : tie.Need-same-length
+same_length : tie.Need-shape_of-work
 same_length c = search rules
 
 returns : tie.Need-returns
 returns c =
-    let s = c.before.before.before.before.before.before.before.before.before.before.before.before.before in
-    let n = s.args.n in
+    let n = c.args.n in
     let run : List ℕ → ℕ → ℕ → List ℕ = λ ws from end. zeroed ws from (end - from) in
-    c.before.before.zero-row2.ensures
-    ∙ ap₂ (run c.before.before.before.before.before.before.before.before.zero_row.new.0) c.before.before.before.before.before.queue.ensures c.before.before.before.nodes-end.ensures
-    ∙ ap (λ (ws : List ℕ). run ws (queue_at n) (nodes_end n 0)) (c.before.before.before.before.before.before.before.before.zero_row.ensures ∙ ap₂ (run s.args.work.now) c.before.before.before.before.before.before.before.before.before.before.before.matrix.ensures c.before.before.before.before.before.before.before.before.before.lists.ensures)
+    c.zero_row-2.ensures
+    ∙ ap₂ (run c.zero_row.new.ws) c.queue-queue.ensures c.nodes_end.ensures
+    ∙ ap (λ (ws : List ℕ). run ws (queue_at n) (nodes_end n 0)) (c.zero_row.ensures ∙ ap₂ (run c.args.work.now) c.matrix-matrix.ensures c.lists.ensures)
 
 pub clear_spec : {M : Type 1} → statement M
 clear_spec =

@@ -13,61 +13,57 @@ use Rattle.live.proofs.Noting.{Noting, noting_none, noting_more, noting_all}
 use Rattle.live.proofs.note_predecessors.Statement.{statement}
 use Rattle.live.proofs.note_predecessors.Tie as tie
 
-abbrev invariant-loop : tie.invariant-loop
+abbrev invariant-loop : tie.invariant-loop-k
 invariant-loop file work₀ n i count k₀ work k = Noting (successors (flow_of file) i.0) work₀ work n i.0 k
 
-abbrev decreases-loop : tie.decreases-loop
+abbrev decreases-loop : tie.decreases-loop-k
 decreases-loop file work₀ n i count k₀ work k = count - k
 
-successor-count-requires : tie.Need-successor-count-requires invariant-loop decreases-loop
-successor-count-requires c κs = (c.before.before.before.requires.0, c.before.before.before.requires.1)
+successor-count-requires : tie.Need-successor_count-count-requires invariant-loop decreases-loop
+successor-count-requires c κs = (c.requires.0, c.requires.1)
 
-loop-holds : tie.Need-loop-init invariant-loop decreases-loop
-loop-holds c = noting_none c.before.before.before.before.requires.2
+loop-holds : tie.Need-loop-k-init invariant-loop decreases-loop
+loop-holds c = noting_none c.requires.2
 
-successor-requires : tie.Need-successor-requires invariant-loop decreases-loop
+successor-requires : tie.Need-successor-j-requires invariant-loop decreases-loop
 successor-requires c κs =
-    let start = c.before.before.before.before.before.before.before in
-    (ready-keeps start.requires.0 c.before.before.loop.invariant.kept (omega arith), start.requires.1, omega arith)
+    (ready-keeps c.requires.0 c.loop-k.invariant.kept (omega arith), c.requires.1, omega arith)
 
 row-requires : tie.Need-row-requires invariant-loop decreases-loop
 row-requires c κs =
-    let start = c.before.before.before.before.before.before.before.before.before in
-    (ready-most start.requires.0, omega (arith, c.before.successor.ensures, target_in start.requires.0 start.args.i.0 c.before.before.before.before.loop.k (omega arith)))
+    (ready-most c.requires.0, omega (arith, c.successor-j.ensures, target_in c.requires.0 c.args.i.0 c.loop-k.k (omega arith)))
 
 insert-requires : tie.Need-insert-requires invariant-loop decreases-loop
 insert-requires c κs =
-    let start = c.before.before.before.before.before.before.before.before.before.before in
-    let k = c.before.before.before.before.before.loop.k in
-    let short = target_in start.requires.0 start.args.i.0 k (omega arith) in
-    let place = c.row.ensures ∙ ap (row_at start.args.n) c.before.before.successor.ensures in
-    omega (arith, row_fits start.args.n short, member-word start.requires.1, ready-room start.requires.0 (omega arith), c.before.before.before.before.before.loop.invariant.kept.size)
+    let k = c.loop-k.k in
+    let short = target_in c.requires.0 c.args.i.0 k (omega arith) in
+    let place = c.row.ensures ∙ ap (row_at c.args.n) c.successor-j.ensures in
+    omega (arith, row_fits c.args.n short, member-word c.requires.1, ready-room c.requires.0 (omega arith), c.loop-k.invariant.kept.size)
 
-add-k : tie.Need-overflow-add-k invariant-loop decreases-loop
+add-k : tie.Need-overflow_add-k invariant-loop decreases-loop
 add-k c = omega arith
 
-loop-less : tie.Need-loop-smaller invariant-loop decreases-loop
+loop-less : tie.Need-loop-k-smaller invariant-loop decreases-loop
 loop-less c = omega arith
 
-loop-again : tie.Need-loop-preserved invariant-loop decreases-loop
+loop-again : tie.Need-loop-k-preserved invariant-loop decreases-loop
 loop-again c =
-    let start = c.before.before.before.before.before.before.before.before.before.before.before.before.before in
-    let inv = c.before.before.before.before.before.before.before.before.loop.invariant in
-    let k = c.before.before.before.before.before.before.before.before.loop.k in
-    let place = c.before.before.before.row.ensures ∙ ap (row_at start.args.n) c.before.before.before.before.before.successor.ensures in
-    noting_more inv (omega arith) start.requires.1 (target_in start.requires.0 start.args.i.0 k (omega arith))
-    (omega (arith, ready-room start.requires.0 (omega arith), inv.kept.size))
+    let inv = c.loop-k.invariant in
+    let k = c.loop-k.k in
+    let place = c.row.ensures ∙ ap (row_at c.args.n) c.successor-j.ensures in
+    noting_more inv (omega arith) c.requires.1 (target_in c.requires.0 c.args.i.0 k (omega arith))
+    (omega (arith, ready-room c.requires.0 (omega arith), inv.kept.size))
     place
-    c.before.before.insert.ensures
+    c.insert.ensures
 
-same_length : tie.Need-same-length invariant-loop decreases-loop
-same_length c = c.before.loop.invariant.kept.size
+same_length : tie.Need-shape_of-work invariant-loop decreases-loop
+same_length c = c.loop-k.invariant.kept.size
 
 returns : tie.Need-returns invariant-loop decreases-loop
-returns c = noting_all c.before.loop.invariant (omega arith)
+returns c = noting_all c.loop-k.invariant (omega arith)
 
-pub note-predecessors-spec : {M : Type 1} → statement M
-note-predecessors-spec =
+pub note_predecessors_spec : {M : Type 1} → statement M
+note_predecessors_spec =
     tie.close
     (tie.spec
     invariant-loop

@@ -5,34 +5,32 @@ use borrow.Author.Rules.{rules}
 use Rattle.live.proofs.push_to.Statement.{statement}
 use Rattle.live.proofs.push_to.Tie as tie
 
-union-word-requires : tie.Need-union-word-requires
+union-word-requires : tie.Need-union_word-requires
 union-word-requires c κs = search rules
 
 enqueue-requires : tie.Need-enqueue-requires
 enqueue-requires c κs = search rules
 
-same_length : tie.Need-same-length
+same_length : tie.Need-shape_of-work-then-union_word
 same_length c = search rules
 
-same-length-2 : tie.Need-same-length-2
+same-length-2 : tie.Need-shape_of-live_out-then-union_word
 same-length-2 c = search rules
 
-returns : tie.Need-returns
+returns : tie.Need-returns-then-union_word
 returns c =
-    let start = c.before.before.before.before.before.before.before.before.before.before.before in
-    pushed_waits c.before.before.before.before.before.before.before.union-word.ensures start.requires.3 start.requires.2 c.before.before.before.before.if1.true (λ x. (c.before.before.before.before.before.before.before.before.before.slice-known2.given x).fits) start.ranges.live.fits
-    c.before.before.enqueue.ensures
+    pushed_waits c.union_word.ensures c.requires.3 c.requires.2 c.if-union_word.true (λ x. (c.slice_known-2-1.given x).fits) c.ranges.live.fits
+    c.enqueue.ensures
 
-same-length-3 : tie.Need-same-length-3
+same-length-3 : tie.Need-shape_of-live_out
 same-length-3 c = search rules
 
-returns-2 : tie.Need-returns-2
+returns-2 : tie.Need-returns
 returns-2 c =
-    let start = c.before.before.before.before.before.before.before in
-    pushed_same c.before.before.before.union-word.ensures start.requires.3 start.requires.2 c.if1.false
+    pushed_same c.union_word.ensures c.requires.3 c.requires.2 c.if-union_word.false
 
-pub push-to-spec : {M : Type 1} → statement M
-push-to-spec =
+pub push_to_spec : {M : Type 1} → statement M
+push_to_spec =
     tie.close
     (tie.spec
     union-word-requires

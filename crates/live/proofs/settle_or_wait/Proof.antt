@@ -13,35 +13,34 @@ settle-requires c κs = search rules
 
 enqueue-requires : tie.Need-enqueue-requires
 enqueue-requires c κs =
-    let start = c.before.before.before.before.before.before.before.before.before.before.before.before.before.before in
-    (ready-most start.requires.0.ready, omega (arith, bare-room start.requires.0.ready start.requires.0.some), omega (arith, start.requires.1), start.requires.2)
+    (ready-most c.requires.0.ready, omega (arith, bare-room c.requires.0.ready c.requires.0.some), omega (arith, c.requires.1), c.requires.2)
 
-same_length : tie.Need-same-length
+same_length : tie.Need-shape_of-work-then-settle
 same_length c = search rules
 
-same-length-2 : tie.Need-same-length-2
+same-length-2 : tie.Need-shape_of-live_in-then-settle
 same-length-2 c = search rules
 
-same-length-3 : tie.Need-same-length-3
+same-length-3 : tie.Need-shape_of-live_out-then-settle
 same-length-3 c = search rules
 
-returns : tie.Need-returns
-returns c = settled-waits c.before.before.before.before.before.before.before.before.before.settle.ensures c.before.before.before.before.if1.true c.before.before.enqueue.ensures
+returns : tie.Need-returns-then-settle
+returns c = settled-waits c.settle.ensures c.if-settle.true c.enqueue.ensures
 
-same-length-4 : tie.Need-same-length-4
+same-length-4 : tie.Need-shape_of-work
 same-length-4 c = search rules
 
-same-length-5 : tie.Need-same-length-5
+same-length-5 : tie.Need-shape_of-live_in
 same-length-5 c = search rules
 
-same-length-6 : tie.Need-same-length-6
+same-length-6 : tie.Need-shape_of-live_out
 same-length-6 c = search rules
 
-returns-2 : tie.Need-returns-2
-returns-2 c = settled-still c.before.before.before.before.before.settle.ensures c.if1.false
+returns-2 : tie.Need-returns
+returns-2 c = settled-still c.settle.ensures c.if-settle.false
 
-pub settle-or-wait-spec : {M : Type 1} → statement M
-settle-or-wait-spec =
+pub settle_or_wait_spec : {M : Type 1} → statement M
+settle_or_wait_spec =
     tie.close
     (tie.spec
     settle-requires

@@ -11,75 +11,69 @@ use borrow.Author.Rules.{rules}
 use Rattle.live.proofs.visit.Statement.{statement}
 use Rattle.live.proofs.visit.Tie as tie
 
-take-requires : tie.Need-take-requires
+take-requires : tie.Need-take-j-requires
 take-requires c κs =
-    let start = c.before.before.before.before.before in
-    let waits = start.requires.4.1 in
-    (ready-most start.requires.0, omega (arith, bare-room start.requires.0 (omega (arith, waits.front))), start.requires.5, (start.requires.4.0, waits))
+    let waits = c.requires.4.1 in
+    (ready-most c.requires.0, omega (arith, bare-room c.requires.0 (omega (arith, waits.front))), c.requires.5, (c.requires.4.0, waits))
 
-rest-requires : tie.Need-rest-requires
+rest-requires : tie.Need-rest-queue-requires
 rest-requires c κs =
-    let start = c.before.before.before.before.before.before.before.before in
-    (ready-most start.requires.0, start.requires.5, start.requires.4.1.front)
+    (ready-most c.requires.0, c.requires.5, c.requires.4.1.front)
 
-read-requires : tie.Need-read-requires
+read-requires : tie.Need-read-reads-requires
 read-requires c κs =
-    let start = c.before.before.before.before.before.before.before.before.before.before in
-    let take = c.before.before.before.before.take in
-    (rest-ready start.requires.0 take.ensures.kept, taken_small start.requires.4 start.requires.5 take.ensures)
+    let take = c.take-j in
+    (rest-ready c.requires.0 take.ensures.kept, taken_small c.requires.4 c.requires.5 take.ensures)
 
-written-requires : tie.Need-written-requires
+written-requires : tie.Need-written-writes-requires
 written-requires c κs =
-    let start = c.before.before.before.before.before.before.before.before.before.before.before.before in
-    let take = c.before.before.before.before.before.before.take in
-    (rest-ready start.requires.0 take.ensures.kept, taken_small start.requires.4 start.requires.5 take.ensures)
+    let take = c.take-j in
+    (rest-ready c.requires.0 take.ensures.kept, taken_small c.requires.4 c.requires.5 take.ensures)
 
-mul-difference : tie.Need-overflow-mul-difference
-mul-difference c = omega (arith, ready-most c.before.before.before.before.before.before.before.before.before.before.before.before.before.requires.0, taken_small c.before.before.before.before.before.before.before.before.before.before.before.before.before.requires.4 c.before.before.before.before.before.before.before.before.before.before.before.before.before.requires.5 c.before.before.before.before.before.before.before.take.ensures)
+mul-difference : tie.Need-offset_bounds-live_out-at
+mul-difference c = omega (arith, ready-most c.requires.0, taken_small c.requires.4 c.requires.5 c.take-j.ensures)
 
-slice-read-difference : tie.Need-slice-read-difference
-slice-read-difference c = omega (arith, ready-most c.before.before.before.before.before.before.before.before.before.before.before.before.before.before.requires.0, taken_small c.before.before.before.before.before.before.before.before.before.before.before.before.before.before.requires.4 c.before.before.before.before.before.before.before.before.before.before.before.before.before.before.requires.5 c.before.before.before.before.before.before.before.before.take.ensures, c.before.before.before.before.before.before.before.before.before.before.before.before.before.before.requires.2)
+slice-read-difference : tie.Need-bounds-live_out-at
+slice-read-difference c = omega (arith, ready-most c.requires.0, taken_small c.requires.4 c.requires.5 c.take-j.ensures, c.requires.2)
 
 difference-requires : tie.Need-difference-requires
 difference-requires c κs = search rules
 
-mul-live-in : tie.Need-overflow-mul-live-in
-mul-live-in c = omega (arith, ready-most c.before.before.before.before.before.before.before.before.before.before.before.before.before.before.before.requires.0, taken_small c.before.before.before.before.before.before.before.before.before.before.before.before.before.before.before.requires.4 c.before.before.before.before.before.before.before.before.before.before.before.before.before.before.before.requires.5 c.before.before.before.before.before.before.before.before.before.take.ensures)
+mul-live-in : tie.Need-offset_bounds-live_in-at
+mul-live-in c = omega (arith, ready-most c.requires.0, taken_small c.requires.4 c.requires.5 c.take-j.ensures)
 
-slice-write-live-in : tie.Need-slice-write-live-in
-slice-write-live-in c = omega (arith, ready-most c.before.before.before.before.before.before.before.before.before.before.before.before.before.before.before.requires.0, taken_small c.before.before.before.before.before.before.before.before.before.before.before.before.before.before.before.requires.4 c.before.before.before.before.before.before.before.before.before.before.before.before.before.before.before.requires.5 c.before.before.before.before.before.before.before.before.before.take.ensures, c.before.before.before.before.before.before.before.before.before.before.before.before.before.before.before.requires.1)
+slice-write-live-in : tie.Need-bounds-live_in-at
+slice-write-live-in c = omega (arith, ready-most c.requires.0, taken_small c.requires.4 c.requires.5 c.take-j.ensures, c.requires.1)
 
-push-live-requires : tie.Need-push-live-requires
+push-live-requires : tie.Need-push_live-requires
 push-live-requires c κs =
-    let start = c.before.before.before.before.before.before.before.before.before.before.before.before.before.before.before.before.before in
-    let take = c.before.before.before.before.before.before.before.before.before.before.before.take in
+    let take = c.take-j in
     let size = take.ensures.kept.size in (
-      ready-most start.requires.0,
-      omega (arith, bare-room start.requires.0 (omega (arith, start.requires.4.1.front))),
-      start.requires.2,
-      taken_small start.requires.4 start.requires.5 take.ensures,
-      taken_held start.requires.4 start.requires.5 take.ensures c.before.before.before.before.before.before.before.before.rest.result c.before.before.before.before.before.before.before.before.rest.ensures,
+      ready-most c.requires.0,
+      omega (arith, bare-room c.requires.0 (omega (arith, c.requires.4.1.front))),
+      c.requires.2,
+      taken_small c.requires.4 c.requires.5 take.ensures,
+      taken_held c.requires.4 c.requires.5 take.ensures c.rest-queue.result c.rest-queue.ensures,
     )
 
-same_length : tie.Need-same-length
+same_length : tie.Need-shape_of-work
 same_length c = search rules
 
-same-length-2 : tie.Need-same-length-2
+same-length-2 : tie.Need-shape_of-live_in
 same-length-2 c = search rules
 
-same-length-3 : tie.Need-same-length-3
+same-length-3 : tie.Need-shape_of-live_out
 same-length-3 c = search rules
 
 returns : tie.Need-returns
 returns c =
-    let start = c.before.before.before.before.before.before.before.before.before.before.before.before.before.before.before.before.before.before.before.before.before.before in
-    let take = c.before.before.before.before.before.before.before.before.before.before.before.before.before.before.before.before.take in
-    visited start.requires.0 start.requires.1 start.requires.3 start.requires.4 start.requires.5 take.ensures c.before.before.before.before.before.before.before.before.before.before.before.before.before.rest.ensures
-    (ap₂ bit_or c.before.before.before.before.before.before.before.before.before.before.before.read.ensures (c.before.before.before.before.before.before.before.difference.ensures ∙ ap (without _) c.before.before.before.before.before.before.before.before.before.written.ensures))
-    c.before.before.before.before.push-live.ensures
+    let take = c.take-j in
+    visited c.requires.0 c.requires.1 c.requires.3 c.requires.4 c.requires.5 take.ensures c.rest-queue.ensures
+    (ap₂ bit_or c.read-reads.ensures (c.difference.ensures ∙ ap (without _) c.written-writes.ensures))
+    c.push_live.ensures
 
-pub visit-spec : {M : Type 1} → statement M
-visit-spec =
+pub visit_spec : {M : Type 1} → statement M
+visit_spec =
     tie.close
     (tie.spec
     take-requires

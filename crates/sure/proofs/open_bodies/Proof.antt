@@ -13,90 +13,86 @@ use Rattle.sure.proofs.Becoming.{Opening, opening_none, opening_all, opening_sam
 use Rattle.sure.proofs.open_bodies.Statement.{statement}
 use Rattle.sure.proofs.open_bodies.Tie as tie
 
-abbrev invariant-loop : tie.invariant-loop
+abbrev invariant-loop : tie.invariant-loop-c
 invariant-loop work₀ n c₀ work c = (c ≤ n) × Opening work₀ work n c
 
-abbrev decreases-loop : tie.decreases-loop
+abbrev decreases-loop : tie.decreases-loop-c
 decreases-loop work₀ n c₀ work c = n - c
 
-loop-holds : tie.Need-loop-init invariant-loop decreases-loop
+loop-holds : tie.Need-loop-c-init invariant-loop decreases-loop
 loop-holds c = (omega arith, opening_none)
 
 sure-requires : tie.Need-sure-requires invariant-loop decreases-loop
-sure-requires c κs = c.before.before.before.requires.0
+sure-requires c κs = c.requires.0
 
-add-place : tie.Need-overflow-add-place invariant-loop decreases-loop
-add-place c = let s = c.before.before.before.before in omega (arith, s.requires.0, c.sure.ensures)
+add-place : tie.Need-overflow_add-place invariant-loop decreases-loop
+add-place c = omega (arith, c.requires.0, c.sure.ensures)
 
-mul-body : tie.Need-overflow-mul-body invariant-loop decreases-loop
-mul-body c = let s = c.before.before.before.before in omega (arith, s.requires.0, c.sure.ensures)
+mul-body : tie.Need-offset_bounds-work-place invariant-loop decreases-loop
+mul-body c = omega (arith, c.requires.0, c.sure.ensures)
 
-slice-read-body : tie.Need-slice-read-body invariant-loop decreases-loop
-slice-read-body c = let s = c.before.before.before.before.before in let low = row_from s.args.n s.args.n in omega (arith, s.requires.1, c.before.sure.ensures, c.before.before.before.loop.invariant.1.become.size)
+slice-read-body : tie.Need-bounds-work-place invariant-loop decreases-loop
+slice-read-body c = let low = row_from c.args.n c.args.n in omega (arith, c.requires.1, c.sure.ensures, c.loop-c.invariant.1.become.size)
 
-still-asked-requires : tie.Need-still-asked-requires invariant-loop decreases-loop
+still-asked-requires : tie.Need-still_asked-still-requires invariant-loop decreases-loop
 still-asked-requires c κs =
-    let s = c.before.before.before.before.before.before in
-    let inv = c.before.before.before.before.loop.invariant.1.become in
-    let word = ap (λ z. get_or c.before.before.before.before.loop.work (z + c.before.before.before.before.loop.c) 0) c.before.before.sure.ensures ∙ inv.high c.before.before.before.before.loop.c (le_refl _) (omega arith) in
-    (s.requires.0, omega (arith, s.requires.1, inv.size), omega (arith, word, s.requires.2 c.before.before.before.before.loop.c (omega arith)))
+    let inv = c.loop-c.invariant.1.become in
+    let word = ap (λ z. get_or c.loop-c.work (z + c.loop-c.c) 0) c.sure.ensures ∙ inv.high c.loop-c.c (le_refl _) (omega arith) in
+    (c.requires.0, omega (arith, c.requires.1, inv.size), omega (arith, word, c.requires.2 c.loop-c.c (omega arith)))
 
-mul-work : tie.Need-overflow-mul-work invariant-loop decreases-loop
-mul-work c = omega (arith, c.before.before.before.before.before.before.before.before.requires.0, c.before.before.before.before.sure.ensures)
+mul-work : tie.Need-offset_bounds-work-place-then-still-body invariant-loop decreases-loop
+mul-work c = omega (arith, c.requires.0, c.sure.ensures)
 
-slice-write-work : tie.Need-slice-write-work invariant-loop decreases-loop
-slice-write-work c = let s = c.before.before.before.before.before.before.before.before in let low = row_from s.args.n s.args.n in omega (arith, s.requires.1, c.before.before.before.before.sure.ensures, c.before.before.before.before.before.before.loop.invariant.1.become.size)
+slice-write-work : tie.Need-bounds-work-place-then-still-body invariant-loop decreases-loop
+slice-write-work c = let low = row_from c.args.n c.args.n in omega (arith, c.requires.1, c.sure.ensures, c.loop-c.invariant.1.become.size)
 
 waiting-requires : tie.Need-waiting-requires invariant-loop decreases-loop
-waiting-requires c κs = c.before.before.before.before.before.before.before.before.before.requires.0
+waiting-requires c κs = c.requires.0
 
 mirrored-requires : tie.Need-mirrored-requires invariant-loop decreases-loop
 mirrored-requires c κs = omega arith
 
 insert-requires : tie.Need-insert-requires invariant-loop decreases-loop
 insert-requires c κs =
-    let s = c.before.before.before.before.before.before.before.before.before.before.before in
-    let n : ℕ = s.args.n in
+    let n : ℕ = c.args.n in
     let small : c.mirrored.result < n = omega (arith, c.mirrored.ensures) in
     let word = member-word small in
     let low = row_from n n in
-    omega (arith, s.requires.1, word, row-words-le n, c.before.waiting.ensures, length-set c.before.before.before.before.before.before.before.before.before.loop.work (c.before.before.before.before.before.before.before.sure.result + c.before.before.before.before.before.before.before.before.before.loop.c) c.before.before.before.before.still-asked.result, c.before.before.before.before.before.before.before.before.before.loop.invariant.1.become.size)
+    omega (arith, c.requires.1, word, row-words-le n, c.waiting.ensures, length-set c.loop-c.work (c.sure.result + c.loop-c.c) c.still_asked-still.result, c.loop-c.invariant.1.become.size)
 
-add-c : tie.Need-overflow-add-c invariant-loop decreases-loop
-add-c c = omega (arith, c.before.before.before.before.before.before.before.before.requires.0)
+add-c : tie.Need-overflow_add-c invariant-loop decreases-loop
+add-c c = omega (arith, c.requires.0)
 
-loop-less : tie.Need-loop-smaller invariant-loop decreases-loop
+loop-less : tie.Need-loop-c-smaller invariant-loop decreases-loop
 loop-less c = omega arith
 
-loop-again : tie.Need-loop-preserved invariant-loop decreases-loop
+loop-again : tie.Need-loop-c-preserved invariant-loop decreases-loop
 loop-again c =
-    let s = c.before.before.before.before.before.before.before.before in
-    let n : ℕ = s.args.n in
-    let inv = c.before.before.before.before.before.before.loop.invariant.1 in
-    let k : ℕ = c.before.before.before.before.before.before.loop.c in
+    let n : ℕ = c.args.n in
+    let inv = c.loop-c.invariant.1 in
+    let k : ℕ = c.loop-c.c in
     let small : k < n = omega arith in
-    let place = ap (λ z. z + k) c.before.before.before.before.sure.ensures in
-    let word = ap (λ z. get_or c.before.before.before.before.before.before.loop.work z 0) place ∙ inv.become.high k (le_refl _) small in
-    let still = c.before.still-asked.ensures ∙ ap (opened c.before.before.before.before.before.before.loop.work n) word ∙ opened-stays inv.become (get_or s.args.work.now (sure_at n + k) 0) (s.requires.2 k small) in (
+    let place = ap (λ z. z + k) c.sure.ensures in
+    let word = ap (λ z. get_or c.loop-c.work z 0) place ∙ inv.become.high k (le_refl _) small in
+    let still = c.still_asked-still.ensures ∙ ap (opened c.loop-c.work n) word ∙ opened-stays inv.become (get_or c.args.work.now (sure_at n + k) 0) (c.requires.2 k small) in (
       omega arith,
       ⊎_elim
-          (λ w. subst (λ z. Opening s.args.work.now z n (k + 1)) (sym (w.7 ∙ w.4.ensures.slice)) (opening_set inv small place w.2.ensures w.3.ensures s.requires.1 still))
-          (λ w. subst (λ z. Opening s.args.work.now z n (k + 1)) (sym w.1) (opening_same inv small (sym (ap (λ z. get_or c.before.before.before.before.before.before.loop.work z 0) place) ∙ sym w.0.left ∙ still)))
-          c.if1.branch,
+          (λ w. subst (λ z. Opening c.args.work.now z n (k + 1)) (sym (w.7 ∙ w.4.ensures.slice)) (opening_set inv small place w.2.ensures w.3.ensures c.requires.1 still))
+          (λ w. subst (λ z. Opening c.args.work.now z n (k + 1)) (sym w.1) (opening_same inv small (sym (ap (λ z. get_or c.loop-c.work z 0) place) ∙ sym w.0.left ∙ still)))
+          c.if-still-body.branch,
     )
 
-same_length : tie.Need-same-length invariant-loop decreases-loop
-same_length c = c.before.loop.invariant.1.become.size
+same_length : tie.Need-shape_of-work invariant-loop decreases-loop
+same_length c = c.loop-c.invariant.1.become.size
 
 returns : tie.Need-returns invariant-loop decreases-loop
 returns c =
-    let s = c.before.before.before in
-    let loop = c.before.loop in
-    let all : loop.c ≡ s.args.n = omega (arith, loop.invariant.0) in
-    opening_all (subst (λ z. Opening s.args.work.now loop.work s.args.n z) all loop.invariant.1)
+    let loop = c.loop-c in
+    let all : loop.c ≡ c.args.n = omega (arith, loop.invariant.0) in
+    opening_all (subst (λ z. Opening c.args.work.now loop.work c.args.n z) all loop.invariant.1)
 
-pub open-bodies-spec : {M : Type 1} → statement M
-open-bodies-spec =
+pub open_bodies_spec : {M : Type 1} → statement M
+open_bodies_spec =
     tie.close
     (tie.spec
     invariant-loop

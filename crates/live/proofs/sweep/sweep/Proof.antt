@@ -7,42 +7,42 @@ use Rattle.live.proofs.Sweeps.{start_keeps, Sweep, sweep_none, sweep_more, sweep
 use Rattle.live.proofs.sweep.sweep.Statement.{statement}
 use Rattle.live.proofs.sweep.sweep.Tie as tie
 
-abbrev invariant-loop : tie.invariant-loop
+abbrev invariant-loop : tie.invariant-loop-i
 invariant-loop file work live-in₀ live-out₀ n changed₀ i₀ live_in live_out changed i = Sweep (flow_of file) n live-in₀ live_in live-out₀ live_out changed i
 
-abbrev decreases-loop : tie.decreases-loop
+abbrev decreases-loop : tie.decreases-loop-i
 decreases-loop file work live-in₀ live-out₀ n changed₀ i₀ live_in live_out changed i = i
 
-loop-holds : tie.Need-loop-init invariant-loop decreases-loop
-loop-holds c = sweep_none c.before.before.before.before.requires.1
+loop-holds : tie.Need-loop-i-init invariant-loop decreases-loop
+loop-holds c = sweep_none c.requires.1
 
-sub-i : tie.Need-overflow-sub-i invariant-loop decreases-loop
+sub-i : tie.Need-overflow_sub-i invariant-loop decreases-loop
 sub-i c = omega arith
 
-settle-requires : tie.Need-settle-requires invariant-loop decreases-loop
+settle-requires : tie.Need-settle-more-requires invariant-loop decreases-loop
 settle-requires c κs =
-    let inv = c.before.before.before.loop.invariant in
-    (start_keeps c.before.before.before.before.before.before.before.before.requires.0 keeps-refl inv.in_area inv.out_area, omega (arith, inv.low))
+    let inv = c.loop-i.invariant in
+    (start_keeps c.requires.0 keeps-refl inv.in_area inv.out_area, omega (arith, inv.low))
 
-loop-less : tie.Need-loop-smaller invariant-loop decreases-loop
+loop-less : tie.Need-loop-i-smaller invariant-loop decreases-loop
 loop-less c = omega arith
 
-loop-again : tie.Need-loop-preserved invariant-loop decreases-loop
+loop-again : tie.Need-loop-i-preserved invariant-loop decreases-loop
 loop-again c =
-    let inv = c.before.before.before.before.before.before.before.before.loop.invariant in
-    sweep_more (start_keeps c.before.before.before.before.before.before.before.before.before.before.before.before.before.requires.0 keeps-refl inv.in_area inv.out_area) inv (omega arith) c.before.before.before.before.settle.ensures
+    let inv = c.loop-i.invariant in
+    sweep_more (start_keeps c.requires.0 keeps-refl inv.in_area inv.out_area) inv (omega arith) c.settle-more.ensures
 
-same_length : tie.Need-same-length invariant-loop decreases-loop
-same_length c = c.before.loop.invariant.in_area.size
+same_length : tie.Need-shape_of-live_in invariant-loop decreases-loop
+same_length c = c.loop-i.invariant.in_area.size
 
-same-length-2 : tie.Need-same-length-2 invariant-loop decreases-loop
-same-length-2 c = c.before.loop.invariant.out_area.size
+same-length-2 : tie.Need-shape_of-live_out invariant-loop decreases-loop
+same-length-2 c = c.loop-i.invariant.out_area.size
 
 returns : tie.Need-returns invariant-loop decreases-loop
-returns c = let inv = c.before.loop.invariant in (sweep_all inv (omega arith), inv.differ)
+returns c = let inv = c.loop-i.invariant in (sweep_all inv (omega arith), inv.differ)
 
-pub sweep-spec : {M : Type 1} → statement M
-sweep-spec =
+pub sweep_spec : {M : Type 1} → statement M
+sweep_spec =
     tie.close
     (tie.spec
     invariant-loop

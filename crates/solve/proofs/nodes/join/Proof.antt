@@ -14,7 +14,7 @@ same_length : tie.Need-shape_of-work-then-waits
 same_length c = search rules
 
 returns : tie.Need-returns-then-waits
-returns c = let s = c in record { waits = λ l h. waits-again h s.requires.3 (eqb-true _ _ (sym c.waits.ensures ∙ c.if-waits.true)); kept = rest-refl }
+returns c = record { waits = λ l h. waits-again h c.requires.3 (eqb-true _ _ (sym c.waits.ensures ∙ c.if-waits.true)); kept = rest-refl }
 
 enqueue-requires : tie.Need-enqueue-requires
 enqueue-requires c κs = search rules

@@ -15,10 +15,10 @@ state-requires : tie.Need-state-requires
 state-requires c κs = search rules
 
 mul-result : tie.Need-offset_bounds-work-state
-mul-result c = let s = c in omega (arith, row_fits s.args.n s.args.width s.requires.3, s.requires.2, c.state.ensures, node-below s.requires.0 s.requires.1 (le_of_lt s.requires.3))
+mul-result c = omega (arith, row_fits c.args.n c.args.width c.requires.3, c.requires.2, c.state.ensures, node-below c.requires.0 c.requires.1 (le_of_lt c.requires.3))
 
 shared-slice-read-result : tie.Need-bounds-work-state
-shared-slice-read-result c = let s = c in omega (arith, row_fits s.args.n s.args.width s.requires.3, s.requires.2, c.state.ensures, node-below s.requires.0 s.requires.1 (le_of_lt s.requires.3))
+shared-slice-read-result c = omega (arith, row_fits c.args.n c.args.width c.requires.3, c.requires.2, c.state.ensures, node-below c.requires.0 c.requires.1 (le_of_lt c.requires.3))
 
 returns : tie.Need-returns
 returns c = ap (λ (x : ℕ). eqb (get_or c.args.work.now x 0 % 2) 1) c.state.ensures

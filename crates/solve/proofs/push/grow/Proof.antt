@@ -20,42 +20,40 @@ mul-union : tie.Need-overflow_mul-width
 mul-union c = search rules
 
 union-requires : tie.Need-union-requires
-union-requires c κs = let s = c in let at = c.mask_row.ensures in (omega (arith, row_fits s.args.n s.args.width s.requires.3, s.requires.2), omega (arith, source_fits s.args.n s.args.width s.args.from s.requires.4, s.requires.2))
+union-requires c κs = let at = c.mask_row.ensures in (omega (arith, row_fits c.args.n c.args.width c.requires.3, c.requires.2), omega (arith, source_fits c.args.n c.args.width c.args.from c.requires.4, c.requires.2))
 
 state-requires : tie.Need-state-at-requires
 state-requires c κs = search rules
 
 mul-work : tie.Need-offset_bounds-work-at
-mul-work c = let s = c in omega (arith, c.state-at.ensures, row_fits s.args.n s.args.width s.requires.3, s.requires.2, node-below s.requires.0 s.requires.1 (le_of_lt s.requires.3))
+mul-work c = omega (arith, c.state-at.ensures, row_fits c.args.n c.args.width c.requires.3, c.requires.2, node-below c.requires.0 c.requires.1 (le_of_lt c.requires.3))
 
 slice-read-work : tie.Need-bounds-work-at
-slice-read-work c = let s = c in omega (arith, c.state-at.ensures, c.union.auto.0, row_fits s.args.n s.args.width s.requires.3, s.requires.2)
+slice-read-work c = omega (arith, c.state-at.ensures, c.union.auto.ws, row_fits c.args.n c.args.width c.requires.3, c.requires.2)
 
 mul-work-2 : tie.Need-offset_bounds-work-at-then-union
 mul-work-2 c = mul-work c.before
 
 slice-write-work : tie.Need-bounds-work-at-then-union
-slice-write-work c = slice-read-work c
+slice-write-work c = omega (arith, c.state-at.ensures, c.union.auto.ws, row_fits c.args.n c.args.width c.requires.3, c.requires.2)
 
 same_length : tie.Need-shape_of-work-then-union
 same_length c = search rules
 
 returns : tie.Need-returns-then-union
 returns c =
-    let s = c in
     let us : List ℕ = c.union.new.ws in
     let u = union_at c.mask_row.ensures c.if-union.true c.union.ensures in
-    subst (λ (x : ℕ). Grown s.args.work.now (set us x (get_or us x 0 % 2)) s.args.n s.args.width s.args.from s.args.d.0) (sym c.state-at.ensures)
-    (grown_more s.args.work.now s.args.n s.args.width s.args.from s.args.d.0 s.requires.2 s.requires.3 s.requires.4 (λ i. (c.slice_known-1.given i).fits) u)
+    subst (λ (x : ℕ). Grown c.args.work.now (set us x (get_or us x 0 % 2)) c.args.n c.args.width c.args.from c.args.d.0) (sym c.state-at.ensures)
+    (grown_more c.args.work.now c.args.n c.args.width c.args.from c.args.d.0 c.requires.2 c.requires.3 c.requires.4 (λ i. (c.slice_known-1.given i).fits) u)
 
 same-length-2 : tie.Need-shape_of-work-else-union
 same-length-2 c = search rules
 
 returns-2 : tie.Need-returns-else-union
 returns-2 c =
-    let s = c in
     let u = union_at c.mask_row.ensures c.if-union.false c.union.ensures in
-    grown-not s.args.work.now s.args.n s.args.width s.args.from s.args.d.0 s.requires.2 s.requires.3 s.requires.4 (λ i. (c.slice_known-1.given i).fits) u
+    grown-not c.args.work.now c.args.n c.args.width c.args.from c.args.d.0 c.requires.2 c.requires.3 c.requires.4 (λ i. (c.slice_known-1.given i).fits) u
 
 pub grow_spec : {M : Type 1} → statement M
 grow_spec =

@@ -15,25 +15,23 @@ mul-union : tie.Need-overflow_mul-width
 mul-union c = search rules
 
 union-requires : tie.Need-union-grew-requires
-union-requires c κs = let s = c in let at = c.mask_row.ensures in (omega (arith, row_fits s.args.n s.args.width s.requires.3, s.requires.2), omega (arith, source_fits s.args.n s.args.width s.args.from s.requires.4, s.requires.2))
+union-requires c κs = let at = c.mask_row.ensures in (omega (arith, row_fits c.args.n c.args.width c.requires.3, c.requires.2), omega (arith, source_fits c.args.n c.args.width c.args.from c.requires.4, c.requires.2))
 
 enqueue-requires : tie.Need-enqueue-requires
 enqueue-requires c κs =
-    let s = c in
     let u = union_at c.mask_row.ensures refl c.union-grew.ensures in
-    let long = c.union-grew.auto.0 in
-    let waits = waits_unioned s.args.work.now s.args.n s.args.width s.args.from s.args.d.0 s.requires.2 s.requires.3 s.requires.4 (λ i. (c.slice_known-1.given i).fits) u s.requires.5.1 in
-    (s.requires.0, s.requires.1, omega (arith, s.requires.2), s.requires.3, (s.requires.5.0, waits))
+    let long = c.union-grew.auto.ws in
+    let waits = waits_unioned c.args.work.now c.args.n c.args.width c.args.from c.args.d.0 c.requires.2 c.requires.3 c.requires.4 (λ i. (c.slice_known-1.given i).fits) u c.requires.5.1 in
+    (c.requires.0, c.requires.1, omega (arith, c.requires.2), c.requires.3, (c.requires.5.0, waits))
 
 same_length : tie.Need-shape_of-work
 same_length c = search rules
 
 returns : tie.Need-returns
 returns c =
-    let s = c in
     let u = union_at c.mask_row.ensures refl c.union-grew.ensures in
-    pushed s.requires.3
-    (grown_by s.args.work.now s.args.n s.args.width s.args.from s.args.d.0 s.requires.2 s.requires.3 s.requires.4 (λ i. (c.slice_known-1.given i).fits) c.union-grew.result u)
+    pushed c.requires.3
+    (grown_by c.args.work.now c.args.n c.args.width c.args.from c.args.d.0 c.requires.2 c.requires.3 c.requires.4 (λ i. (c.slice_known-1.given i).fits) c.union-grew.result u)
     c.enqueue.ensures
 
 pub push_spec : {M : Type 1} → statement M

@@ -16,10 +16,10 @@ state-requires : tie.Need-state-at-requires
 state-requires c κs = search rules
 
 mul-old : tie.Need-offset_bounds-work-at
-mul-old c = let s = c in omega (arith, row_fits s.args.n s.args.width s.requires.3, s.requires.2, c.state-at.ensures, node-below s.requires.0 s.requires.1 (le_of_lt s.requires.3))
+mul-old c = omega (arith, row_fits c.args.n c.args.width c.requires.3, c.requires.2, c.state-at.ensures, node-below c.requires.0 c.requires.1 (le_of_lt c.requires.3))
 
 slice-read-old : tie.Need-bounds-work-at
-slice-read-old c = let s = c in omega (arith, row_fits s.args.n s.args.width s.requires.3, s.requires.2, c.state-at.ensures, node-below s.requires.0 s.requires.1 (le_of_lt s.requires.3))
+slice-read-old c = omega (arith, row_fits c.args.n c.args.width c.requires.3, c.requires.2, c.state-at.ensures, node-below c.requires.0 c.requires.1 (le_of_lt c.requires.3))
 
 queue-requires : tie.Need-queue-requires
 queue-requires c κs = search rules
@@ -27,10 +27,10 @@ queue-requires c κs = search rules
 -- the free place
 
 place : (c : tie.After-wrap) → c.wrap.result < ring_words c.args.n
-place c = let s = c in rw c.wrap.ensures (slot_in s.requires.4.1 s.requires.3)
+place c = rw c.wrap.ensures (slot_in c.requires.4.1 c.requires.3)
 
 add-wrap : tie.Need-overflow_add-head
-add-wrap c = let s = c in omega (arith, few s.requires.4.1 s.requires.3, s.requires.4.1.front, s.requires.0)
+add-wrap c = omega (arith, few c.requires.4.1 c.requires.3, c.requires.4.1.front, c.requires.0)
 
 mul-wrap : tie.Need-overflow_mul-n
 mul-wrap c = search rules
@@ -45,7 +45,7 @@ mul-work : tie.Need-offset_bounds-work-queue
 mul-work c = omega (arith, place c, c.queue.ensures, queue-below c.requires.0)
 
 slice-write-work : tie.Need-bounds-work-queue
-slice-write-work c = let s = c in omega (arith, place c, c.queue.ensures, s.requires.2, row_from s.args.n s.args.width (2 * s.args.n))
+slice-write-work c = omega (arith, place c, c.queue.ensures, c.requires.2, row_from c.args.n c.args.width (2 * c.args.n))
 
 joined-requires : tie.Need-joined-requires
 joined-requires c κs = search rules
@@ -54,19 +54,19 @@ mul-work-2 : tie.Need-offset_bounds-work-at-2
 mul-work-2 c = mul-old c.before.before.before.before
 
 slice-write-work-2 : tie.Need-bounds-work-at-2
-slice-write-work-2 c = let s = c in let long = length-set s.args.work.now (c.queue.result + c.wrap.result) s.args.d in omega (arith, row_fits s.args.n s.args.width s.requires.3, s.requires.2, c.state-at.ensures)
+slice-write-work-2 c = let long = length-set c.args.work.now (c.queue.result + c.wrap.result) c.args.d in omega (arith, row_fits c.args.n c.args.width c.requires.3, c.requires.2, c.state-at.ensures)
 
 sub-t18 : tie.Need-overflow_sub-result
 sub-t18 c = search rules
 
 add-t16 : tie.Need-overflow_add-result
-add-t16 c = let s = c in omega (arith, few s.requires.4.1 s.requires.3, s.requires.0)
+add-t16 c = omega (arith, few c.requires.4.1 c.requires.3, c.requires.0)
 
 same_length : tie.Need-shape_of-work
 same_length c = search rules
 
 returns : tie.Need-returns
-returns c = let s = c in enqueued s.args.grew s.requires.4 s.requires.3 s.requires.2 c.state-at.ensures c.queue.ensures c.wrap.ensures c.joined.ensures
+returns c = enqueued c.args.grew c.requires.4 c.requires.3 c.requires.2 c.state-at.ensures c.queue.ensures c.wrap.ensures c.joined.ensures
 
 pub enqueue_spec : {M : Type 1} → statement M
 enqueue_spec =

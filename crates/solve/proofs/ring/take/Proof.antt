@@ -27,22 +27,21 @@ slice-read-d c = search rules
 -- the front is a number, by the name of the queue's place and by what was found there
 
 small : (c : tie.After-slice_known-2-1) → get_or c.args.work.now (queue_at c.args.n + c.args.queue.head) 0 < 2 * c.args.n
-small c = let s = c in front_below s.requires.4.0 s.requires.4.1 s.requires.3
+small c = front_below c.requires.4.0 c.requires.4.1 c.requires.3
 
 below : (c : tie.After-slice_known-2-1) → get_or c.args.work.now (c.queue.result + c.args.queue.head) 0 < 2 * c.args.n
 below c =
-    let s = c in
-    subst (λ z. get_or s.args.work.now (z + s.args.queue.head) 0 < 2 * s.args.n) (sym c.queue.ensures) (small c)
+    subst (λ z. get_or c.args.work.now (z + c.args.queue.head) 0 < 2 * c.args.n) (sym c.queue.ensures) (small c)
 
 state-requires : tie.Need-state-at-requires
-state-requires c κs = let s = c in (s.requires.0, s.requires.1, below c)
+state-requires c κs = (c.requires.0, c.requires.1, below c)
 
 mul-old : tie.Need-offset_bounds-work-at
-mul-old c = let s = c in omega (arith, c.state-at.ensures, node-below s.requires.0 s.requires.1 (le_of_lt (below c.before)))
+mul-old c = omega (arith, c.state-at.ensures, node-below c.requires.0 c.requires.1 (le_of_lt (below c.before)))
 
 -- its state lies in the area
 inside : (c : tie.After-state-at) → c.state-at.result < length c.args.work.now
-inside c = let s = c in omega (arith, c.state-at.ensures, row_fits s.args.n s.args.width (below c.before), s.requires.2)
+inside c = omega (arith, c.state-at.ensures, row_fits c.args.n c.args.width (below c.before), c.requires.2)
 
 slice-read-old : tie.Need-bounds-work-at
 slice-read-old c = inside c.before
@@ -60,7 +59,7 @@ same_length : tie.Need-shape_of-work
 same_length c = search rules
 
 returns : tie.Need-returns
-returns c = let s = c in taken s.requires.2 (small c.before.before) c.queue.ensures c.state-at.ensures
+returns c = taken c.requires.2 (small c.before.before) c.queue.ensures c.state-at.ensures
 
 pub take_spec : {M : Type 1} → statement M
 take_spec =

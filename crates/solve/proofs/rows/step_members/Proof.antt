@@ -32,15 +32,14 @@ same_length c = search rules
 
 returns : tie.Need-returns-then-width-eq1 invariant-loop decreases-loop
 returns c =
-    let s = c in
-    let a = s.args in
+    let a = c.args in
     let ws : List ℕ = a.work.now in
     let one : a.width ≡ 1 = c.if-width-eq1.true in
     let word = subst (λ (x : ℕ). WordStepped ws c.step_word.new.work 1 a.to a.from 0 (get_or ws x 0) a.effect) (sym (add-zero a.set)) c.step_word.ensures in
-    let apart = subst (λ (w : ℕ). Beside w a.to a.from) one s.requires.5 in
-    let aside = subst (λ (w : ℕ). Aside w a.set a.to) one s.requires.1 in
+    let apart = subst (λ (w : ℕ). Beside w a.to a.from) one c.requires.5 in
+    let aside = subst (λ (w : ℕ). Aside w a.set a.to) one c.requires.1 in
     subst (λ (w : ℕ). RowIs ws c.step_word.new.work w a.to (step_where (member ws a.set) a.effect (mask_at ws w a.from))) (sym one)
-    (stepping_all (stepping_more stepping_none (omega arith) aside (omega (arith, s.requires.3)) apart word) refl)
+    (stepping_all (stepping_more stepping_none (omega arith) aside (omega (arith, c.requires.3)) apart word) refl)
 
 loop-holds : tie.Need-loop-k-init invariant-loop decreases-loop
 loop-holds c = stepping_none
@@ -64,7 +63,7 @@ loop-less : tie.Need-loop-k-smaller invariant-loop decreases-loop
 loop-less c = search rules
 
 loop-again : tie.Need-loop-k-preserved invariant-loop decreases-loop
-loop-again c = let s = c in stepping_more c.loop-k.invariant (search rules) s.requires.1 s.requires.3 s.requires.5 c.step_word-in-loop-k.ensures
+loop-again c = stepping_more c.loop-k.invariant (search rules) c.requires.1 c.requires.3 c.requires.5 c.step_word-in-loop-k.ensures
 
 same-length-2 : tie.Need-shape_of-work invariant-loop decreases-loop
 same-length-2 c = c.loop-k.invariant.keeps.size

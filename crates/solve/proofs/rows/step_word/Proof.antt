@@ -103,15 +103,13 @@ same_length c = search rules
 
 returns : tie.Need-returns
 returns c =
-    let first = c in
-    let second = c in
     record {
-      none = first.choose.result;
-      auto = second.choose-2.result;
+      none = c.choose.result;
+      auto = c.choose-2.result;
       dimmed = c.choose-3.result;
       slice = refl;
-      masks = word-masks first.holders.ensures second.holders-2.ensures c.holders-3.ensures
-          first.choose.ensures second.choose-2.ensures c.choose-3.ensures;
+      masks = word-masks c.holders.ensures c.holders-2.ensures c.holders-3.ensures
+          c.choose.ensures c.choose-2.ensures c.choose-3.ensures;
     }
 
 pub step_word_spec : {M : Type 1} → statement M

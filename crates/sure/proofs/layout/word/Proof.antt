@@ -10,11 +10,11 @@ use Rattle.sure.proofs.layout.word.Tie as tie
 lists-requires : tie.Need-lists-requires
 lists-requires c κs = search rules
 
-add-result : tie.Need-overflow-add-result
-add-result c = omega (arith, row_below c.before.requires.0 (le_refl c.before.args.n))
+add-result : tie.Need-overflow_add-result
+add-result c = omega (arith, row_below c.requires.0 (le_refl c.args.n))
 
 returns : tie.Need-returns
 returns c = search rules
 
-pub word-spec : {M : Type 1} → statement M
-word-spec = tie.close (tie.spec lists-requires add-result returns)
+pub word_spec : {M : Type 1} → statement M
+word_spec = tie.close (tie.spec lists-requires add-result returns)

@@ -16,67 +16,67 @@ use Rattle.sure.proofs.Sets.{set_room, gathered_none, gathered-more, gathered-al
 use Rattle.sure.proofs.missed.listed_set.Statement.{statement}
 use Rattle.sure.proofs.missed.listed_set.Tie as tie
 
-abbrev invariant-loop : tie.invariant-loop
+abbrev invariant-loop : tie.invariant-loop-k
 invariant-loop file work n i p count missed₀ returns₀ k₀ missed returns k = Gathered work n (take k (successors (flow_of file) i.0)) (missed ∷ returns ∷ [])
 
-abbrev decreases-loop : tie.decreases-loop
+abbrev decreases-loop : tie.decreases-loop-k
 decreases-loop file work n i p count missed₀ returns₀ k₀ missed returns k = count - k
 
-offset-requires : tie.Need-offset-requires invariant-loop decreases-loop
-offset-requires c κs = (c.before.before.requires.0, c.before.before.requires.2)
+offset-requires : tie.Need-offset-p-requires invariant-loop decreases-loop
+offset-requires c κs = (c.requires.0, c.requires.2)
 
-successor-count-requires : tie.Need-successor-count-requires invariant-loop decreases-loop
-successor-count-requires c κs = c.offset.ensures.fit
+successor-count-requires : tie.Need-successor_count-count-requires invariant-loop decreases-loop
+successor-count-requires c κs = c.offset-p.ensures.fit
 
-loop-holds : tie.Need-loop-init invariant-loop decreases-loop
+loop-holds : tie.Need-loop-k-init invariant-loop decreases-loop
 loop-holds c = gathered_none
 
-successor-at-requires : tie.Need-successor-at-requires invariant-loop decreases-loop
-successor-at-requires c κs = (c.before.before.before.offset.ensures, omega (arith, c.before.before.before.offset.ensures.successors.count, c.before.before.successor-count.ensures))
+successor-at-requires : tie.Need-successor_at-requires invariant-loop decreases-loop
+successor-at-requires c κs = (c.offset-p.ensures, omega (arith, c.offset-p.ensures.successors.count, c.successor_count-count.ensures))
 
-target : (c : tie.After-successor-at invariant-loop decreases-loop) → c.successor-at.result.0 < c.before.before.before.before.before.before.before.args.n
+target : (c : tie.After-successor_at invariant-loop decreases-loop) → c.successor_at.result.0 < c.args.n
 target c =
-    let bound = target_in c.before.before.before.before.before.before.before.requires.0 c.before.before.before.before.before.before.before.args.i.0 c.before.before.loop.k (omega (arith, c.before.before.before.before.offset.ensures.successors.count, c.before.before.before.successor-count.ensures)) in
-    omega (arith, c.successor-at.ensures, bound)
+    let bound = target_in c.requires.0 c.args.i.0 c.loop-k.k (omega (arith, c.offset-p.ensures.successors.count, c.successor_count-count.ensures)) in
+    omega (arith, c.successor_at.ensures, bound)
 
-place : (c : tie.After-set invariant-loop decreases-loop) → (c.set.result + 2 ≤ length c.before.before.before.before.before.before.before.before.args.work.now) × (c.set.result + 2 ≤ 41 * max_statements)
-place c = set_room (ready-most c.before.before.before.before.before.before.before.before.requires.0) c.before.before.before.before.before.before.before.before.requires.1 (target c.before) c.set.ensures
+place : (c : tie.After-set-at invariant-loop decreases-loop) → (c.set-at.result + 2 ≤ length c.args.work.now) × (c.set-at.result + 2 ≤ 41 * max_statements)
+place c = set_room (ready-most c.requires.0) c.requires.1 (target c.before) c.set-at.ensures
 
-set-requires : tie.Need-set-requires invariant-loop decreases-loop
-set-requires c κs = (ready-most c.before.before.before.before.before.before.before.requires.0, target c)
+set-requires : tie.Need-set-at-requires invariant-loop decreases-loop
+set-requires c κs = (ready-most c.requires.0, target c)
 
-mul-missed : tie.Need-overflow-mul-missed invariant-loop decreases-loop
+mul-missed : tie.Need-offset_bounds-work-at invariant-loop decreases-loop
 mul-missed c = omega (arith, place c)
 
-shared-slice-read-missed : tie.Need-shared-slice-read-missed invariant-loop decreases-loop
+shared-slice-read-missed : tie.Need-bounds-work-at invariant-loop decreases-loop
 shared-slice-read-missed c = omega (arith, place c.before)
 
-add-returns : tie.Need-overflow-add-returns invariant-loop decreases-loop
+add-returns : tie.Need-overflow_add-returns invariant-loop decreases-loop
 add-returns c = omega (arith, place c.before)
 
-mul-returns : tie.Need-overflow-mul-returns invariant-loop decreases-loop
+mul-returns : tie.Need-offset_bounds-work-at-in-loop-k invariant-loop decreases-loop
 mul-returns c = omega (arith, place c.before)
 
-shared-slice-read-returns : tie.Need-shared-slice-read-returns invariant-loop decreases-loop
+shared-slice-read-returns : tie.Need-bounds-work-at-in-loop-k invariant-loop decreases-loop
 shared-slice-read-returns c = omega (arith, place c.before.before)
 
-add-k : tie.Need-overflow-add-k invariant-loop decreases-loop
+add-k : tie.Need-overflow_add-k invariant-loop decreases-loop
 add-k c = omega arith
 
-loop-less : tie.Need-loop-smaller invariant-loop decreases-loop
+loop-less : tie.Need-loop-k-smaller invariant-loop decreases-loop
 loop-less c = omega arith
 
-loop-again : tie.Need-loop-preserved invariant-loop decreases-loop
+loop-again : tie.Need-loop-k-preserved invariant-loop decreases-loop
 loop-again c =
-    gathered-more (successors (flow_of c.before.before.before.before.before.before.before.before.before.before.args.file.now) c.before.before.before.before.before.before.before.before.before.before.args.i.0) c.before.before.before.before.before.loop.k c.before.before.before.before.before.loop.invariant (omega (arith, c.before.before.before.before.before.before.before.offset.ensures.successors.count, c.before.before.before.before.before.before.successor-count.ensures))
-    (c.before.before.set.ensures ∙ ap (set_at c.before.before.before.before.before.before.before.before.before.before.args.n) c.before.before.before.successor-at.ensures)
+    gathered-more (successors (flow_of c.args.file.now) c.args.i.0) c.loop-k.k c.loop-k.invariant (omega (arith, c.offset-p.ensures.successors.count, c.successor_count-count.ensures))
+    (c.set-at.ensures ∙ ap (set_at c.args.n) c.successor_at.ensures)
 
 returns : tie.Need-returns invariant-loop decreases-loop
 returns c =
-    gathered-all (successors (flow_of c.before.before.before.before.before.before.args.file.now) c.before.before.before.before.before.before.args.i.0) c.before.loop.k c.before.loop.invariant (omega (arith, c.before.before.before.offset.ensures.successors.count, c.before.before.successor-count.ensures))
+    gathered-all (successors (flow_of c.args.file.now) c.args.i.0) c.loop-k.k c.loop-k.invariant (omega (arith, c.offset-p.ensures.successors.count, c.successor_count-count.ensures))
 
-pub listed-set-spec : {M : Type 1} → statement M
-listed-set-spec =
+pub listed_set_spec : {M : Type 1} → statement M
+listed_set_spec =
     tie.close
     (tie.spec
     invariant-loop

@@ -16,65 +16,65 @@ use borrow.Author.Rules.{rules}
 use Rattle.sure.proofs.missed.next_set.Statement.{statement}
 use Rattle.sure.proofs.missed.next_set.Tie as tie
 
-not-return : (c : tie.After-continuation) → is_return (kind (flow_of c.before.before.before.before.before.args.file.now) c.before.before.before.before.before.args.i.0) ≡ false
-not-return c = sym c.before.before.is-return.ensures ∙ c.before.if1.false
+not-return : (c : tie.After-continuation) → is_return (kind (flow_of c.args.file.now) c.args.i.0) ≡ false
+not-return c = sym c.is_return.ensures ∙ c.if-is_return.false
 
 -- the call has the continuation k
 
-continued : (c : tie.After-k) → continuation_of (kind (flow_of c.before.before.before.before.before.before.before.args.file.now) c.before.before.before.before.before.before.before.args.i.0) ≡ some c.k.given.0.0.0
-continued c = continues-to _ _ (sym c.before.before.continuation.ensures ∙ c.k.given.1)
+continued : (c : tie.In-To) → continuation_of (kind (flow_of c.args.file.now) c.args.i.0) ≡ some c.in-To.k.0
+continued c = continues-to _ _ (sym c.continuation.ensures ∙ c.in-To.is)
 
-target : (c : tie.After-k) → c.k.given.0.0.0 < c.before.before.before.before.before.before.before.args.n
-target c = ready-below c.before.before.before.before.before.before.before.requires.0 ((ready_formed c.before.before.before.before.before.before.before.requires.0).continuation c.before.before.before.before.before.before.before.args.i.0 _ (continued c))
+target : (c : tie.In-To) → c.in-To.k.0 < c.args.n
+target c = ready-below c.requires.0 ((ready_formed c.requires.0).continuation c.args.i.0 _ (continued c))
 
-place : (c : tie.After-set) → (c.set.result + 2 ≤ length c.before.before.before.before.before.before.before.before.before.args.work.now) × (c.set.result + 2 ≤ 41 * max_statements)
-place c = set_room (ready-most c.before.before.before.before.before.before.before.before.before.requires.0) c.before.before.before.before.before.before.before.before.before.requires.1 (target c.before.before) c.set.ensures
+place : (c : tie.After-set-at) → (c.set-at.result + 2 ≤ length c.args.work.now) × (c.set-at.result + 2 ≤ 41 * max_statements)
+place c = set_room (ready-most c.requires.0) c.requires.1 (target c.before) c.set-at.ensures
 
-is-return-requires : tie.Need-is-return-requires
+is-return-requires : tie.Need-is_return-requires
 is-return-requires c κs = search rules
 
-returns : tie.Need-returns
-returns c = next-return (flow_of c.before.before.before.before.args.file.now) c.before.before.before.before.args.i.0 (sym c.before.is-return.ensures ∙ c.if1.true)
+returns : tie.Need-returns-then-is_return
+returns c = next-return (flow_of c.args.file.now) c.args.i.0 (sym c.is_return.ensures ∙ c.if-is_return.true)
 
 continuation-requires : tie.Need-continuation-requires
 continuation-requires c κs = search rules
 
-enum-known-k : tie.Need-enum-known-k
+enum-known-k : tie.Need-enum_known-k
 enum-known-k c = search rules
 
-set-requires : tie.Need-set-requires
-set-requires c κs = (ready-most c.before.before.before.before.before.before.before.before.requires.0, target c.before)
+set-requires : tie.Need-set-at-requires
+set-requires c κs = (ready-most c.requires.0, target c)
 
-mul-t10 : tie.Need-overflow-mul-t10
+mul-t10 : tie.Need-offset_bounds-work-at
 mul-t10 c = omega (arith, place c)
 
-shared-slice-read-t12 : tie.Need-shared-slice-read-t12
+shared-slice-read-t12 : tie.Need-bounds-work-at
 shared-slice-read-t12 c = omega (arith, place c.before)
 
-add-t13 : tie.Need-overflow-add-t13
+add-t13 : tie.Need-overflow_add-result
 add-t13 c = omega (arith, place c.before)
 
-mul-t14 : tie.Need-overflow-mul-t14
+mul-t14 : tie.Need-offset_bounds-work-at-in-To
 mul-t14 c = omega (arith, place c.before)
 
-shared-slice-read-t16 : tie.Need-shared-slice-read-t16
+shared-slice-read-t16 : tie.Need-bounds-work-at-in-To
 shared-slice-read-t16 c = omega (arith, place c.before.before)
 
-enum_told : tie.Need-enum-told
+enum_told : tie.Need-enum_told-1
 enum_told c = search rules
 
-listed-set-requires : tie.Need-listed-set-requires
+listed-set-requires : tie.Need-listed_set-requires
 listed-set-requires c κs = search rules
 
-returns-2 : tie.Need-returns-2
-returns-2 c = next_walk (flow_of c.before.before.before.before.before.before.before.before.before.before.before.args.file.now) c.before.before.before.before.before.before.before.before.before.before.before.args.i.0 (not-return c.before.before.before.before.before.before) (continued c.before.before.before.before) (gathered-one c.before.before.set.ensures)
+returns-2 : tie.Need-returns-in-To
+returns-2 c = next_walk (flow_of c.args.file.now) c.args.i.0 (not-return c.before.before.before.before) (continued c.before.before.before) (gathered-one c.set-at.ensures)
 
-returns-3 : tie.Need-returns-3
+returns-3 : tie.Need-returns-in-None
 returns-3 c =
-    next_walk (flow_of c.before.before.before.before.before.before.before.before.args.file.now) c.before.before.before.before.before.before.before.before.args.i.0 (not-return c.before.before.before) (continues_nowhere _ (sym c.before.before.before.continuation.ensures ∙ c.before.enum_told.given.1)) c.listed-set.ensures
+    next_walk (flow_of c.args.file.now) c.args.i.0 (not-return c.before.before) (continues_nowhere _ (sym c.continuation.ensures ∙ c.in-None.is)) c.listed_set.ensures
 
-pub next-set-spec : {M : Type 1} → statement M
-next-set-spec =
+pub next_set_spec : {M : Type 1} → statement M
+next_set_spec =
     tie.close
     (tie.spec
     is-return-requires

@@ -12,14 +12,14 @@ use Rattle.sure.proofs.missed.visit.Tie as tie
 
 -- the statement is taken out, and its set is joined
 
-taken : (c : tie.After-remove) → OnlySets c.before.before.before.before.before.before.args.work.now c.remove.new.0 c.before.before.before.before.before.before.args.n
-taken c = only-removed c.before.before.before.before.before.before.requires.2 c.before.before.waiting.ensures c.before.mirrored.ensures c.remove.ensures
+taken : (c : tie.After-remove) → OnlySets c.args.work.now c.remove.new.ws c.args.n
+taken c = only-removed c.requires.2 c.waiting.ensures c.mirrored.ensures c.remove.ensures
 
-joined : (c : tie.After-union-pair) → OnlySets c.before.before.before.before.before.before.before.before.before.before.before.before.before.before.before.before.args.work.now c.union-pair.new.0 c.before.before.before.before.before.before.before.before.before.before.before.before.before.before.before.before.args.n
-joined c = only-trans (taken c.before.before.before.before.before.before.before.before.before.before) (only-pair c.before.before.before.before.before.before.before.before.before.before.before.before.before.before.before.before.requires.2 (only-room (taken c.before.before.before.before.before.before.before.before.before.before) c.before.before.before.before.before.before.before.before.before.before.before.before.before.before.before.before.requires.1) c.before.set.ensures c.union-pair.ensures)
+joined : (c : tie.After-union_pair) → OnlySets c.args.work.now c.union_pair.new.ws c.args.n
+joined c = only-trans (taken c.before.before.before.before.before.before.before.before) (only-pair c.requires.2 (only-room (taken c.before.before.before.before.before.before.before.before) c.requires.1) c.set.ensures c.union_pair.ensures)
 
 waiting-requires : tie.Need-waiting-requires
-waiting-requires c κs = ready-most c.before.before.before.requires.0
+waiting-requires c κs = ready-most c.requires.0
 
 mirrored-requires : tie.Need-mirrored-requires
 mirrored-requires c κs = search rules
@@ -27,39 +27,37 @@ mirrored-requires c κs = search rules
 remove-requires : tie.Need-remove-requires
 remove-requires c κs = search rules
 
-next-set-requires : tie.Need-next-set-requires
-next-set-requires c κs = (only-ready (taken c.before.before.before) c.before.before.before.before.before.before.before.before.before.requires.0, only-room (taken c.before.before.before) c.before.before.before.before.before.before.before.before.before.requires.1, c.before.before.before.before.before.before.before.before.before.requires.2)
+next-set-requires : tie.Need-next_set-next-requires
+next-set-requires c κs = (only-ready (taken c.before.before) c.requires.0, only-room (taken c.before.before) c.requires.1, c.requires.2)
 
-let-through-requires : tie.Need-let-through-requires
-let-through-requires c κs = (only-ready (taken c.before.before.before.before.before) c.before.before.before.before.before.before.before.before.before.before.before.requires.0, only-room (taken c.before.before.before.before.before) c.before.before.before.before.before.before.before.before.before.before.before.requires.1, c.before.before.before.before.before.before.before.before.before.before.before.requires.2, only-bodies (taken c.before.before.before.before.before) c.before.before.before.before.before.before.before.before.before.before.before.requires.3 c.before.before.before.before.before.before.before.before.before.before.before.args.i.0 c.before.before.before.before.before.before.before.before.before.before.before.requires.2)
+let-through-requires : tie.Need-let_through-requires
+let-through-requires c κs = (only-ready (taken c.before.before.before) c.requires.0, only-room (taken c.before.before.before) c.requires.1, c.requires.2, only-bodies (taken c.before.before.before) c.requires.3 c.args.i.0 c.requires.2)
 
 set-requires : tie.Need-set-requires
-set-requires c κs = (ready-most c.before.before.before.before.before.before.before.before.before.before.before.before.before.before.requires.0, c.before.before.before.before.before.before.before.before.before.before.before.before.before.before.requires.2)
+set-requires c κs = (ready-most c.requires.0, c.requires.2)
 
-union-pair-requires : tie.Need-union-pair-requires
+union-pair-requires : tie.Need-union_pair-requires
 union-pair-requires c κs = search rules
 
 wake-requires : tie.Need-wake-requires
-wake-requires c κs = (ready-most c.before.before.before.before.before.before.before.before.before.before.before.before.before.before.before.before.before.before.before.before.requires.0, only-room (joined c.before.before.before.before) c.before.before.before.before.before.before.before.before.before.before.before.before.before.before.before.before.before.before.before.before.requires.1, c.before.before.before.before.before.before.before.before.before.before.before.before.before.before.before.before.before.before.before.before.requires.2, only-firsts (joined c.before.before.before.before) c.before.before.before.before.before.before.before.before.before.before.before.before.before.before.before.before.before.before.before.before.requires.4)
+wake-requires c κs = (ready-most c.requires.0, only-room (joined c.before.before.before.before) c.requires.1, c.requires.2, only-firsts (joined c.before.before.before.before) c.requires.4)
 
-same_length : tie.Need-same-length
+same_length : tie.Need-shape_of-work-then-union_pair
 same_length c = search rules
 
-returns : tie.Need-returns
+returns : tie.Need-returns-then-union_pair
 returns c =
-    let start = c.before.before.before.before.before.before.before.before.before.before.before.before.before.before.before.before.before.before.before.before.before.before.before in
-    visited start.requires.0 start.requires.1 start.requires.2 (λ x. (c.before.before.before.before.before.before.before.before.before.before.before.before.before.before.before.before.before.before.before.before.before.slice-known.given x).fits) (λ x. (c.before.before.before.before.before.before.before.before.before.before.before.before.before.before.before.slice-known2.given x).fits) c.before.before.before.before.before.before.before.before.before.before.before.before.before.before.before.before.before.before.before.waiting.ensures c.before.before.before.before.before.before.before.before.before.before.before.before.before.before.before.before.before.before.mirrored.ensures c.before.before.before.before.before.before.before.before.set.ensures c.before.before.before.before.before.before.before.before.before.before.before.before.before.before.before.before.before.remove.ensures c.before.before.before.before.before.before.before.before.before.before.before.before.before.next-set.ensures c.before.before.before.before.before.before.before.before.before.before.before.let_through.ensures c.before.before.before.before.before.before.before.union-pair.ensures c.before.before.before.before.before.before.before.before.before.before.struct_known.given.0.fits c.before.before.before.before.before.before.before.before.before.before.struct_known.given.1.0.fits (inr (c.before.before.before.before.if1.true, c.before.before.wake.ensures))
+    visited c.requires.0 c.requires.1 c.requires.2 (λ x. (c.slice_known-1.given x).fits) (λ x. (c.slice_known-2-1.given x).fits) c.waiting.ensures c.mirrored.ensures c.set.ensures c.remove.ensures c.next_set-next.ensures c.let_through.ensures c.union_pair.ensures c.struct_known-1.given.0.fits c.struct_known-1.given.1.0.fits (inr (c.if-union_pair.true, c.wake.ensures))
 
-same-length-2 : tie.Need-same-length-2
+same-length-2 : tie.Need-shape_of-work-else-union_pair
 same-length-2 c = search rules
 
-returns-2 : tie.Need-returns-2
+returns-2 : tie.Need-returns-else-union_pair
 returns-2 c =
-    let start = c.before.before.before.before.before.before.before.before.before.before.before.before.before.before.before.before.before.before.before in
-    visited start.requires.0 start.requires.1 start.requires.2 (λ x. (c.before.before.before.before.before.before.before.before.before.before.before.before.before.before.before.before.before.slice-known.given x).fits) (λ x. (c.before.before.before.before.before.before.before.before.before.before.before.slice-known2.given x).fits) c.before.before.before.before.before.before.before.before.before.before.before.before.before.before.before.waiting.ensures c.before.before.before.before.before.before.before.before.before.before.before.before.before.before.mirrored.ensures c.before.before.before.before.set.ensures c.before.before.before.before.before.before.before.before.before.before.before.before.before.remove.ensures c.before.before.before.before.before.before.before.before.before.next-set.ensures c.before.before.before.before.before.before.before.let_through.ensures c.before.before.before.union-pair.ensures c.before.before.before.before.before.before.struct_known.given.0.fits c.before.before.before.before.before.before.struct_known.given.1.0.fits (inl (c.if1.false, refl))
+    visited c.requires.0 c.requires.1 c.requires.2 (λ x. (c.slice_known-1.given x).fits) (λ x. (c.slice_known-2-1.given x).fits) c.waiting.ensures c.mirrored.ensures c.set.ensures c.remove.ensures c.next_set-next.ensures c.let_through.ensures c.union_pair.ensures c.struct_known-1.given.0.fits c.struct_known-1.given.1.0.fits (inl (c.if-union_pair.false, refl))
 
-pub visit-spec : {M : Type 1} → statement M
-visit-spec =
+pub visit_spec : {M : Type 1} → statement M
+visit_spec =
     tie.close
     (tie.spec
     waiting-requires

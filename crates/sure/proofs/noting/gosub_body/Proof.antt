@@ -16,48 +16,44 @@ use Rattle.sure.proofs.noting.gosub_body.Statement.{statement}
 use Rattle.sure.proofs.noting.gosub_body.Tie as tie
 
 -- where it went past the test
-gosub : (c : tie.Else1) → is_gosub (kind (flow_of c.before.before.before.before.before.args.file.now) c.before.before.before.before.before.args.c.0) ≡ true
-gosub c = sym c.before.is-gosub.ensures ∙ not-false _ c.if1.false
+gosub : (c : tie.Else-not-is_gosub) → is_gosub (kind (flow_of c.args.file.now) c.args.c.0) ≡ true
+gosub c = sym c.is_gosub.ensures ∙ c.if-not-is_gosub.false
 
-offset-requires : tie.Need-offset-requires
+offset-requires : tie.Need-offset-p-requires
 offset-requires c κs = search rules
 
-is-gosub-requires : tie.Need-is-gosub-requires
+is-gosub-requires : tie.Need-is_gosub-requires
 is-gosub-requires c κs = search rules
 
-returns : tie.Need-returns
+returns : tie.Need-returns-then-not-is_gosub
 returns c =
-    let start = c.before.before.before.before.before in
-    sym (ap (λ l. line_entry_of (body_of l)) (no_gosub (flow_of start.args.file.now) start.args.c.0 (sym c.before.is-gosub.ensures ∙ not-true _ c.if1.true)))
+    sym (ap (λ l. line_entry_of (body_of l)) (no_gosub (flow_of c.args.file.now) c.args.c.0 (sym c.is_gosub.ensures ∙ c.if-not-is_gosub.true)))
 
 continuation-requires : tie.Need-continuation-requires
 continuation-requires c κs = search rules
 
-enum_told : tie.Need-enum-told
+enum_told : tie.Need-enum_told-1
 enum_told c = search rules
 
 entered-requires : tie.Need-entered-requires
 entered-requires c κs =
-    let start = c.before.before.before.before.before.before.before.before in
-    (start.requires.0, start.requires.1, omega (arith, gosub-lines (kind (flow_of start.args.file.now) start.args.c.0) (gosub c.before.before.before)))
+    (c.requires.0, c.requires.1, omega (arith, gosub-lines (kind (flow_of c.args.file.now) c.args.c.0) (gosub c.before.before)))
 
-enum-told-2 : tie.Need-enum-told-2
+enum-told-2 : tie.Need-enum_told-in-None
 enum-told-2 c = search rules
 
-returns-2 : tie.Need-returns-2
+returns-2 : tie.Need-returns-in-To
 returns-2 c =
-    let start = c.before.before.before.before.before.before.before.before.before in
-    let at = c.before.before.before.before.before.before.offset.ensures.continuation ∙ continues-to _ _ (sym c.before.before.before.continuation.ensures ∙ c.before.enum_told.given.1) in
-    c.entered.ensures ∙ sym (ap line_entry_of (gosub-enters (flow_of start.args.file.now) start.args.c.0 (gosub c.before.before.before.before) at))
+    let at = c.offset-p.ensures.continuation ∙ continues-to _ _ (sym c.continuation.ensures ∙ c.in-To.is) in
+    c.entered.ensures ∙ sym (ap line_entry_of (gosub-enters (flow_of c.args.file.now) c.args.c.0 (gosub c.before.before.before) at))
 
-returns-3 : tie.Need-returns-3
+returns-3 : tie.Need-returns-in-None
 returns-3 c =
-    let start = c.before.before.before.before.before.before.before.before in
-    let none = c.before.before.before.before.before.offset.ensures.continuation ∙ continues_nowhere _ (sym c.before.before.continuation.ensures ∙ c.enum-told2.given.1) in
-    sym (ap (λ l. line_entry_of (body_of l)) (no_continuation (flow_of start.args.file.now) start.args.c.0 none))
+    let none = c.offset-p.ensures.continuation ∙ continues_nowhere _ (sym c.continuation.ensures ∙ c.in-None.is) in
+    sym (ap (λ l. line_entry_of (body_of l)) (no_continuation (flow_of c.args.file.now) c.args.c.0 none))
 
-pub gosub-body-spec : {M : Type 1} → statement M
-gosub-body-spec =
+pub gosub_body_spec : {M : Type 1} → statement M
+gosub_body_spec =
     tie.close
     (tie.spec
     offset-requires

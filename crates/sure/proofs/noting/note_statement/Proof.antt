@@ -18,17 +18,17 @@ use Rattle.sure.proofs.noting.note_statement.Tie as tie
 
 -- where it went past the test, and where the call has the continuation k
 
-not-return : (c : tie.Else1) → is_return (kind (flow_of c.before.before.before.before.before.args.file.now) c.before.before.before.before.before.args.i.0) ≡ false
-not-return c = sym c.before.is-return.ensures ∙ c.if1.false
+not-return : (c : tie.Else-is_return) → is_return (kind (flow_of c.args.file.now) c.args.i.0) ≡ false
+not-return c = sym c.is_return.ensures ∙ c.if-is_return.false
 
-continued : (c : tie.After-k) → continuation_of (kind (flow_of c.before.before.before.before.before.before.before.before.before.args.file.now) c.before.before.before.before.before.before.before.before.before.args.i.0) ≡ some c.k.given.0.0.0
-continued c = continues-to _ _ (sym c.before.before.continuation.ensures ∙ c.k.given.1)
+continued : (c : tie.In-To) → continuation_of (kind (flow_of c.args.file.now) c.args.i.0) ≡ some c.in-To.k.0
+continued c = continues-to _ _ (sym c.continuation.ensures ∙ c.in-To.is)
 
-is-return-requires : tie.Need-is-return-requires
+is-return-requires : tie.Need-is_return-requires
 is-return-requires c κs = search rules
 
 waiting-requires : tie.Need-waiting-requires
-waiting-requires c κs = ready-most c.before.before.before.before.before.before.requires.0
+waiting-requires c κs = ready-most c.requires.0
 
 mirrored-requires : tie.Need-mirrored-requires
 mirrored-requires c κs = search rules
@@ -36,57 +36,53 @@ mirrored-requires c κs = search rules
 insert-requires : tie.Need-insert-requires
 insert-requires c κs = search rules
 
-same_length : tie.Need-same-length
+same_length : tie.Need-shape_of-work-then-is_return
 same_length c = search rules
 
-returns : tie.Need-returns
+returns : tie.Need-returns-then-is_return
 returns c =
-    let start = c.before.before.before.before.before.before.before.before.before.before.before in
-    let a = start.args in
-    let p = start.requires in
+    let a = c.args in
+    let p = c.requires in
     let ws = a.work.now in
-    subst (λ z. StatementNoted (flow_of a.file.now) ws z a.n a.i.0) (sym (c.before.before.insert.ensures.slice ∙ ap₂ (inserted ws) c.before.before.before.before.waiting.ensures c.before.before.before.mirrored.ensures))
-    (return-noted p.1 p.2 p.4 (sym c.before.before.before.before.before.before.before.is-return.ensures ∙ c.before.before.before.before.before.before.if1.true))
+    subst (λ z. StatementNoted (flow_of a.file.now) ws z a.n a.i.0) (sym (c.insert.ensures.slice ∙ ap₂ (inserted ws) c.waiting.ensures c.mirrored.ensures))
+    (return-noted p.1 p.2 p.4 (sym c.is_return.ensures ∙ c.if-is_return.true))
 
 continuation-requires : tie.Need-continuation-requires
 continuation-requires c κs = search rules
 
-enum-known-k : tie.Need-enum-known-k
+enum-known-k : tie.Need-enum_known-k
 enum-known-k c = search rules
 
-note-call-requires : tie.Need-note-call-requires
+note-call-requires : tie.Need-note_call-requires
 note-call-requires c κs =
-    let start = c.before.before.before.before.before.before.before.before.before.before.before in
-    let p = start.requires in
-    let i = start.args.i.0 in
-    (ready-most p.0, p.1, ready-below p.0 ((ready_formed p.0).continuation i _ (continued c.before.before)), p.2, omega (arith, p.3 i p.2, word_low p.0 i), p.4)
+    let p = c.requires in
+    let i = c.args.i.0 in
+    (ready-most p.0, p.1, ready-below p.0 ((ready_formed p.0).continuation i _ (continued c.before)), p.2, omega (arith, p.3 i p.2, word_low p.0 i), p.4)
 
-enum_told : tie.Need-enum-told
+enum_told : tie.Need-enum_told-1
 enum_told c = search rules
 
-note-successors-requires : tie.Need-note-successors-requires
+note-successors-requires : tie.Need-note_successors-requires
 note-successors-requires c κs = search rules
 
-same-length-2 : tie.Need-same-length-2
+same-length-2 : tie.Need-shape_of-work-in-To
 same-length-2 c = search rules
 
-returns-2 : tie.Need-returns-2
+returns-2 : tie.Need-returns-in-To
 returns-2 c =
-    let start = c.before.before.before.before.before.before.before.before.before.before.before.before.before.before in
-    let i = start.args.i.0 in
-    statement-noted (not-return c.before.before.before.before.before.before.before.before.before) (follows-call (flow_of start.args.file.now) i (not-return c.before.before.before.before.before.before.before.before.before) (continued c.before.before.before.before.before) (start.requires.3 i start.requires.2)) c.before.before.note-call.ensures
+    let i = c.args.i.0 in
+    statement-noted (not-return c.before.before.before.before.before.before) (follows-call (flow_of c.args.file.now) i (not-return c.before.before.before.before.before.before) (continued c.before.before.before.before) (c.requires.3 i c.requires.2)) c.note_call.ensures
 
-same-length-3 : tie.Need-same-length-3
+same-length-3 : tie.Need-shape_of-work-in-None
 same-length-3 c = search rules
 
-returns-3 : tie.Need-returns-3
+returns-3 : tie.Need-returns-in-None
 returns-3 c =
-    let start = c.before.before.before.before.before.before.before.before.before.before.before.before.before in
-    let none = continues_nowhere _ (sym c.before.before.before.before.before.before.continuation.ensures ∙ c.before.before.before.before.enum_told.given.1) in
-    statement-noted (not-return c.before.before.before.before.before.before.before.before) (follows-successors (flow_of start.args.file.now) start.args.i.0 (not-return c.before.before.before.before.before.before.before.before) none) c.before.before.note-successors.ensures
+    let none = continues_nowhere _ (sym c.continuation.ensures ∙ c.in-None.is) in
+    statement-noted (not-return c.before.before.before.before.before.before) (follows-successors (flow_of c.args.file.now) c.args.i.0 (not-return c.before.before.before.before.before.before) none) c.note_successors.ensures
 
-pub note-statement-spec : {M : Type 1} → statement M
-note-statement-spec =
+pub note_statement_spec : {M : Type 1} → statement M
+note_statement_spec =
     tie.close
     (tie.spec
     is-return-requires

@@ -12,53 +12,52 @@ use Rattle.sure.proofs.Statements.{NotedUpTo, zero-keeps, none-noted, noted_more
 use Rattle.sure.proofs.noting.note_statements.Statement.{statement}
 use Rattle.sure.proofs.noting.note_statements.Tie as tie
 
-abbrev invariant-loop : tie.invariant-loop
+abbrev invariant-loop : tie.invariant-loop-i
 invariant-loop file work₀ n i₀ work i = NotedUpTo (flow_of file) work₀ work n i
 
-abbrev decreases-loop : tie.decreases-loop
+abbrev decreases-loop : tie.decreases-loop-i
 decreases-loop file work₀ n i₀ work i = n - i
 
 -- what is zeroed
-zeroes : (c : tie.After-zero-row invariant-loop decreases-loop) → Keeps (matrix_at c.before.before.before.before.before.args.n) (words_end c.before.before.before.before.before.args.n) c.before.before.before.before.before.args.work.now c.zero_row.new.0
-zeroes c = zero-keeps c.before.before.before.before.before.args.work.now c.before.before.before.before.before.args.n c.before.lists.ensures c.zero_row.ensures
+zeroes : (c : tie.After-zero_row invariant-loop decreases-loop) → Keeps (matrix_at c.args.n) (words_end c.args.n) c.args.work.now c.zero_row.new.ws
+zeroes c = zero-keeps c.args.work.now c.args.n c.lists.ensures c.zero_row.ensures
 
 lists-requires : tie.Need-lists-requires invariant-loop decreases-loop
-lists-requires c κs = ready-most c.before.before.before.requires.0
+lists-requires c κs = ready-most c.requires.0
 
-mul-zero-row : tie.Need-overflow-mul-zero-row invariant-loop decreases-loop
-mul-zero-row c = omega (arith, ready-most c.before.before.before.before.requires.0)
+mul-zero-row : tie.Need-overflow_mul-n invariant-loop decreases-loop
+mul-zero-row c = omega (arith, ready-most c.requires.0)
 
-zero-row-requires : tie.Need-zero-row-requires invariant-loop decreases-loop
-zero-row-requires c κs = omega (arith, c.lists.ensures, c.before.before.before.before.requires.1)
+zero-row-requires : tie.Need-zero_row-requires invariant-loop decreases-loop
+zero-row-requires c κs = omega (arith, c.lists.ensures, c.requires.1)
 
-loop-holds : tie.Need-loop-init invariant-loop decreases-loop
-loop-holds c = none-noted c.before.before.before.before.before.before.before.args.work.now c.before.before.before.before.before.before.before.args.n c.before.before.before.lists.ensures c.before.before.zero_row.ensures c.before.before.before.before.before.before.before.requires.1
+loop-holds : tie.Need-loop-i-init invariant-loop decreases-loop
+loop-holds c = none-noted c.args.work.now c.args.n c.lists.ensures c.zero_row.ensures c.requires.1
 
-note-statement-requires : tie.Need-note-statement-requires invariant-loop decreases-loop
+note-statement-requires : tie.Need-note_statement-requires invariant-loop decreases-loop
 note-statement-requires c κs =
-    let start = c.before.before.before.before.before.before.before.before.before.before in
-    let p = start.requires in
-    let inv = c.before.before.loop.invariant in
+    let p = c.requires in
+    let inv = c.loop-i.invariant in
     let kept = keeps-trans (zeroes c.before.before.before.before.before) inv.kept in
-    (ready-keeps p.0 kept (omega arith), omega (arith, p.1, kept.size), omega arith, λ k l. kept.below (sure_at start.args.n + k) (omega arith) ∙ p.2 k l, inv.words)
+    (ready-keeps p.0 kept (omega arith), omega (arith, p.1, kept.size), omega arith, λ k l. kept.below (sure_at c.args.n + k) (omega arith) ∙ p.2 k l, inv.words)
 
-add-i : tie.Need-overflow-add-i invariant-loop decreases-loop
-add-i c = omega (arith, ready-most c.before.before.before.before.before.before.before.before.before.before.before.before.before.requires.0)
+add-i : tie.Need-overflow_add-i invariant-loop decreases-loop
+add-i c = omega (arith, ready-most c.requires.0)
 
-loop-less : tie.Need-loop-smaller invariant-loop decreases-loop
+loop-less : tie.Need-loop-i-smaller invariant-loop decreases-loop
 loop-less c = omega arith
 
-loop-again : tie.Need-loop-preserved invariant-loop decreases-loop
-loop-again c = noted_more c.before.before.before.before.before.loop.invariant (omega arith) c.before.before.note-statement.ensures
+loop-again : tie.Need-loop-i-preserved invariant-loop decreases-loop
+loop-again c = noted_more c.loop-i.invariant (omega arith) c.note_statement.ensures
 
-same_length : tie.Need-same-length invariant-loop decreases-loop
-same_length c = c.before.loop.invariant.kept.size ∙ (zeroes c.before.before.before.before).size
+same_length : tie.Need-shape_of-work invariant-loop decreases-loop
+same_length c = c.loop-i.invariant.kept.size ∙ (zeroes c.before.before.before.before).size
 
 returns : tie.Need-returns invariant-loop decreases-loop
-returns c = all_noted (zeroes c.before.before.before.before) c.before.loop.invariant (omega arith)
+returns c = all_noted (zeroes c.before.before.before.before) c.loop-i.invariant (omega arith)
 
-pub note-statements-spec : {M : Type 1} → statement M
-note-statements-spec =
+pub note_statements_spec : {M : Type 1} → statement M
+note_statements_spec =
     tie.close
     (tie.spec
     invariant-loop
