@@ -12,6 +12,7 @@ use Rattle.sure.specs.Clauses.SureArrays.{opened}
 use Rattle.sure.proofs.Becoming.{Opening, opening_none, opening_all, opening_same, opening_set, opened-stays}
 use Rattle.sure.proofs.open_bodies.Statement.{statement}
 use Rattle.sure.proofs.open_bodies.Tie as tie
+use Rattle.sure.proofs.open_bodies.Lts as lts
 
 abbrev invariant-loop : tie.invariant-loop-c
 invariant-loop work₀ n c₀ work c = (c ≤ n) × Opening work₀ work n c
@@ -76,10 +77,7 @@ loop-again c =
     let word = ap (λ z. get_or c.loop-c.work z 0) place ∙ inv.become.high k (le_refl _) small in
     let still = c.still_asked-still.ensures ∙ ap (opened c.loop-c.work n) word ∙ opened-stays inv.become (get_or c.args.work.now (sure_at n + k) 0) (c.requires.2 k small) in (
       omega arith,
-      ⊎_elim
-          (λ w. subst (λ z. Opening c.args.work.now z n (k + 1)) (sym (w.7 ∙ w.4.ensures.slice)) (opening_set inv small place w.2.ensures w.3.ensures c.requires.1 still))
-          (λ w. subst (λ z. Opening c.args.work.now z n (k + 1)) (sym w.1) (opening_same inv small (sym (ap (λ z. get_or c.loop-c.work z 0) place) ∙ sym w.0.left ∙ still)))
-          c.if-still-body.branch,
+      elim c.if-still-body.branch [ lts.then-still-body w ↦ subst (λ z. Opening c.args.work.now z n (k + 1)) (sym (w.work-is ∙ w.insert.ensures.slice)) (opening_set inv small place w.waiting.ensures w.mirrored.ensures c.requires.1 still) | lts.else-still-body w ↦ subst (λ z. Opening c.args.work.now z n (k + 1)) (sym w.work-is) (opening_same inv small (sym (ap (λ z. get_or c.loop-c.work z 0) place) ∙ sym w.if-still-body.false ∙ still)) ],
     )
 
 same_length : tie.Need-shape_of-work invariant-loop decreases-loop

@@ -17,6 +17,7 @@ use Rattle.statements.proofs.Told.{enters-at, enters-nothing}
 use Rattle.sure.proofs.Bodies.{body-low, BodiesUpTo, bodies-none, body-noted, body-missing, bodies-all, bodies-indexed}
 use Rattle.sure.proofs.noting.note_bodies.Statement.{statement}
 use Rattle.sure.proofs.noting.note_bodies.Tie as tie
+use Rattle.sure.proofs.noting.note_bodies.Lts as lts
 
 abbrev invariant-loop : tie.invariant-loop-c
 invariant-loop file h work₀ n found₀ c₀ work found c = BodiesUpTo (flow_of file) work₀ work n c found
@@ -69,11 +70,8 @@ loop-again c =
     let loop = c.loop-c in
     let n = a.h.statements in
     let bodies : List ℕ → Bool → Type 0 = λ z b. BodiesUpTo (flow_of a.file.now) a.work.now z n (loop.c + 1) b in
-    ⊎_elim
-    (λ w. subst₂ bodies (sym (w.4 ∙ ap (λ x. set loop.work (x + loop.c) (w.1.given.0.0.0 + 1)) w.3.ensures)) (sym w.5)
-    (body-noted loop.invariant (omega arith) (omega (arith, c.requires.0.ready.room, loop.invariant.kept.size)) (found-body (record { before = record { before = c.before; match = w.0 }; b = w.1 }))))
-    (λ w. subst₂ bodies (sym w.2) (sym w.3) (body-missing loop.invariant (omega arith) (enters-nothing _ (sym c.gosub_body.ensures ∙ w.1.given.1))))
-    c.match-gosub_body.branch
+    elim c.match-gosub_body.branch [ lts.in-At w ↦ subst₂ bodies (sym (w.work-is ∙ ap (λ x. set loop.work (x + loop.c) (w.in-At.b.0 + 1)) w.sure.ensures)) (sym w.found-is)
+    (body-noted loop.invariant (omega arith) (omega (arith, c.requires.0.ready.room, loop.invariant.kept.size)) (found-body (record { before = c.before; in-At = w.in-At }))) | lts.in_default w ↦ subst₂ bodies (sym w.work-is) (sym w.found-is) (body-missing loop.invariant (omega arith) (enters-nothing _ (sym c.gosub_body.ensures ∙ w.in_default.is))) ]
 
 same_length : tie.Need-shape_of-work invariant-loop decreases-loop
 same_length c = c.loop-c.invariant.kept.size

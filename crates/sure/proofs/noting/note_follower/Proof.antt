@@ -16,6 +16,7 @@ use Rattle.sure.specs.Clauses.Noting.{NotesFollower}
 use Rattle.sure.proofs.Followers.{InUse, mirror-low, first-noted, used_already, used-first, row-noted}
 use Rattle.sure.proofs.noting.note_follower.Statement.{statement}
 use Rattle.sure.proofs.noting.note_follower.Tie as tie
+use Rattle.sure.proofs.noting.note_follower.Lts as lts
 
 -- the row is in use where the two ways to it meet
 used : (c : tie.Joined-noted-lt-MORE) → InUse c.args.work.now c.if-noted-lt-MORE.work c.args.n c.args.j.0
@@ -23,13 +24,10 @@ used c =
     let a = c.args in
     let ws = a.work.now in
     let at = c.first-at.ensures in
-    ⊎_elim
-    (λ w. let low : get_or ws (first_at a.n a.j.0) 0 < more = subst (λ x. get_or ws x 0 < more) at w.0.taken in
-    let row : w.3.last.0 ≡ zeroed ws (row_at a.n a.j.0) (row_words a.n) = w.3.ensures ∙ ap₂ (zeroed ws) c.row-row.ensures w.2.ensures in
-    subst (λ z. InUse ws z a.n a.j.0) (sym (w.6 ∙ ap (λ x. set w.3.last.0 x (get_or ws x 0 + more)) at)) (used-first c.requires.1 c.requires.2 low row))
-    (λ w. let high : more ≤ get_or ws (first_at a.n a.j.0) 0 = subst (λ x. more ≤ get_or ws x 0) at (omega (arith, w.0.left)) in
-    subst (λ z. InUse ws z a.n a.j.0) (sym w.1) (used_already high))
-    c.if-noted-lt-MORE.branch
+    elim c.if-noted-lt-MORE.branch [ lts.then-noted-lt-MORE w ↦ let low : get_or ws (first_at a.n a.j.0) 0 < more = subst (λ x. get_or ws x 0 < more) at w.if-noted-lt-MORE.true in
+    let row : w.zero_row.new.ws ≡ zeroed ws (row_at a.n a.j.0) (row_words a.n) = w.zero_row.ensures ∙ ap₂ (zeroed ws) c.row-row.ensures w.row_words.ensures in
+    subst (λ z. InUse ws z a.n a.j.0) (sym (w.work-is ∙ ap (λ x. set w.zero_row.new.ws x (get_or ws x 0 + more)) at)) (used-first c.requires.1 c.requires.2 low row) | lts.else-noted-lt-MORE w ↦ let high : more ≤ get_or ws (first_at a.n a.j.0) 0 = subst (λ x. more ≤ get_or ws x 0) at (omega (arith, w.if-noted-lt-MORE.false)) in
+    subst (λ z. InUse ws z a.n a.j.0) (sym w.work-is) (used_already high) ]
 
 first-requires : tie.Need-first-at-requires
 first-requires c κs = search rules
