@@ -129,6 +129,7 @@ same_edges f v = edges_of_lem f v.base v.stmt (continuation_of (kind f v.stmt))
 
 in_each : {x : Edge} (xs : List Edge) → Alike xs → In x xs → In x (once xs)
 unfolding once Alike
+in_each {x = x} [] a m = elim m [ ]
 in_each {x} (y ∷ ys) a (Memᴰ.head e) = Memᴰ.head e
 in_each {x} (y ∷ ys) a (Memᴰ.tail m) = go (same_node x.to y.to) refl (in_each ys (λ u v p q. a u v (Memᴰ.tail p) (Memᴰ.tail q)) m)
   where

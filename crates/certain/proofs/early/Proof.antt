@@ -58,12 +58,11 @@ loop-less : tie.Need-loop-i-smaller invariant-loop decreases-loop
 loop-less c = omega arith
 
 loop-again : tie.Need-loop-i-preserved invariant-loop decreases-loop
-loop-again c =
-    (
-      omega arith,
-      early_more c.requires.0 c.requires.1 (λ x. (c.shared_slice_known-2-1.given x).fits) (omega arith) c.loop-i.invariant.1 c.set-at.ensures c.difference-before.ensures
-          (c.difference-names.ensures ∙ ap (λ z. without z c.difference-before.result) (c.read.ensures ∙ sym c.offset-p.ensures.read)),
-    )
+loop-again c = (
+  omega arith,
+  early_more c.requires.0 c.requires.1 (λ x. (c.shared_slice_known-2-1.given x).fits) (omega arith) c.loop-i.invariant.1 c.set-at.ensures c.difference-before.ensures
+      (c.difference-names.ensures ∙ ap (λ z. without z c.difference-before.result) (c.read.ensures ∙ sym c.offset-p.ensures.read)),
+)
 
 returns : tie.Need-returns invariant-loop decreases-loop
 returns c =

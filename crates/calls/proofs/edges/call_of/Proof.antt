@@ -9,27 +9,26 @@ use borrow.Author.Rules.{rules}
 use Rattle.calls.proofs.edges.call_of.Statement.{statement}
 use Rattle.calls.proofs.edges.call_of.Tie as tie
 
-continuation-of-requires : tie.Need-continuation-of-requires
+continuation-of-requires : tie.Need-continuation_of-requires
 continuation-of-requires c κs = search rules
 
-line-count-requires : tie.Need-line-count-requires
+line-count-requires : tie.Need-line_count-requires
 line-count-requires c κs = search rules
 
-successor-count-requires : tie.Need-successor-count-requires
+successor-count-requires : tie.Need-successor_count-requires
 successor-count-requires c κs = search rules
 
 row-requires : tie.Need-row-requires
-row-requires c κs = let s = c.before.before.before.before.before in (ready-most s.requires.0, s.requires.2)
+row-requires c κs = (ready-most c.requires.0, c.requires.2)
 
 returns : tie.Need-returns
 returns c =
-    let s = c.before.before.before.before.before.before in
-    let f = flow_of s.args.file.now in
-    call-row (ready-size s.requires.0) s.requires.1 s.requires.2 (row_room s.requires.0 s.requires.2) c.before.before.before.continuation-of.ensures (call_says f s.args.i.0 s.requires.4).2
-    (c.before.before.line-count.ensures ∙ sym s.requires.3.lines.count) (c.before.successor-count.ensures ∙ sym s.requires.3.successors.count) c.row.ensures
+    let f = flow_of c.args.file.now in
+    call-row (ready-size c.requires.0) c.requires.1 c.requires.2 (row_room c.requires.0 c.requires.2) c.continuation_of.ensures (call_says f c.args.i.0 c.requires.4).2
+    (c.line_count.ensures ∙ sym c.requires.3.lines.count) (c.successor_count.ensures ∙ sym c.requires.3.successors.count) c.row.ensures
 
-pub call-of-spec : {M : Type 1} → statement M
-call-of-spec =
+pub call_of_spec : {M : Type 1} → statement M
+call_of_spec =
     tie.close
     (tie.spec
     continuation-of-requires

@@ -11,18 +11,18 @@ use Rattle.calls.proofs.edges.continuation_of.Tie as tie
 continuation-requires : tie.Need-continuation-requires
 continuation-requires c κs = search rules
 
-enum-known-k : tie.Need-enum-known-k
+enum-known-k : tie.Need-enum_known-k
 enum-known-k c = search rules
 
-enum_told : tie.Need-enum-told
+enum_told : tie.Need-enum_told-1
 enum_told c = search rules
 
-returns : tie.Need-returns
-returns c = c.before.before.before.before.before.requires.0.continuation ∙ continues-to _ _ (sym c.before.before.before.continuation.ensures ∙ c.before.k.given.1)
+returns : tie.Need-returns-in-To
+returns c = c.requires.0.continuation ∙ continues-to _ _ (sym c.continuation.ensures ∙ c.in-To.is)
 
-returns-2 : tie.Need-returns-2
-returns-2 c = let s = c.before.before.before.before in let says = call_says (flow_of s.args.file.now) s.args.i.0 s.requires.1 in none-some (sym (s.requires.0.continuation ∙ continues_nowhere _ (sym c.before.before.continuation.ensures ∙ c.enum_told.given.1)) ∙ says.1)
+returns-2 : tie.Need-returns-in-None
+returns-2 c = let says = call_says (flow_of c.args.file.now) c.args.i.0 c.requires.1 in none-some (sym (c.requires.0.continuation ∙ continues_nowhere _ (sym c.continuation.ensures ∙ c.in-None.is)) ∙ says.1)
 
-pub continuation-of-spec : {M : Type 1} → statement M
-continuation-of-spec =
+pub continuation_of_spec : {M : Type 1} → statement M
+continuation_of_spec =
     tie.close (tie.spec continuation-requires enum-known-k enum_told returns returns-2)

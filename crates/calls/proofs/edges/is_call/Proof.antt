@@ -17,26 +17,26 @@ use Rattle.calls.proofs.edges.is_call.Tie as tie
 kind-requires : tie.Need-kind-requires
 kind-requires c κs = search rules
 
-returns : tie.Need-returns
-returns c = let s = c.before.before.before.before in sym (no_call (flow_of s.args.file.now) s.args.i.0 (s.requires.3.continuation ∙ continuation-none s.args.file.now s.args.place (λ e. omega (arith, c.before.kind.ensures, c.if1.true)) (λ e. omega (arith, c.before.kind.ensures, c.if1.true))))
+returns : tie.Need-returns-then-kind-lt-KIND_GOSUB
+returns c = sym (no_call (flow_of c.args.file.now) c.args.i.0 (c.requires.3.continuation ∙ continuation-none c.args.file.now c.args.place (λ e. omega (arith, c.kind.ensures, c.if-kind-lt-KIND_GOSUB.true)) (λ e. omega (arith, c.kind.ensures, c.if-kind-lt-KIND_GOSUB.true))))
 
 calls-requires : tie.Need-calls-requires
-calls-requires c κs = ready-most c.before.before.before.before.requires.0
+calls-requires c κs = ready-most c.requires.0
 
-add-result : tie.Need-overflow-add-result
+add-result : tie.Need-overflow_add-result
 add-result c = search rules
 
-mul-result : tie.Need-overflow-mul-result
+mul-result : tie.Need-offset_bounds-work-calls
 mul-result c = search rules
 
-shared-slice-read-result : tie.Need-shared-slice-read-result
+shared-slice-read-result : tie.Need-bounds-work-calls
 shared-slice-read-result c = search rules
 
-returns-2 : tie.Need-returns-2
-returns-2 c = let s = c.before.before.before.before.before.before.before in ap (λ (b : ℕ). eqb (get_or s.args.work.now (b + s.args.i.0) 0) transparent) c.before.before.calls.ensures ∙ call-state s.requires.1.calls s.requires.2
+returns-2 : tie.Need-returns
+returns-2 c = ap (λ (b : ℕ). eqb (get_or c.args.work.now (b + c.args.i.0) 0) transparent) c.calls.ensures ∙ call-state c.requires.1.calls c.requires.2
 
-pub is-call-spec : {M : Type 1} → statement M
-is-call-spec =
+pub is_call_spec : {M : Type 1} → statement M
+is_call_spec =
     tie.close
     (tie.spec
     kind-requires

@@ -9,18 +9,18 @@ use Rattle.words.specs.Clauses.Row.{has}
 use Rattle.calls.proofs.edges.left_out.Statement.{statement}
 use Rattle.calls.proofs.edges.left_out.Tie as tie
 
-returns : tie.Need-returns
+returns : tie.Need-returns-then-s-call
 returns c =
-    let a = c.before.before.before.before.args in
-    sym (ap (λ (t : Bool). t || eqb (has a.work.now a.call.row a.s.0) 1) (eq-eqb a.s.0 a.call.continuation.0 c.if1.true))
+    let a = c.args in
+    sym (ap (λ (t : Bool). t || eqb (has a.work.now a.call.row a.s.0) 1) (eq-eqb a.s.0 a.call.continuation.0 c.if-s-call.true))
 
 contains-requires : tie.Need-contains-requires
 contains-requires c κs = search rules
 
-returns-2 : tie.Need-returns-2
+returns-2 : tie.Need-returns
 returns-2 c =
-    let a = c.before.before.before.before.before.args in
-    c.contains.ensures ∙ sym (ap (λ (t : Bool). t || eqb (has a.work.now a.call.row a.s.0) 1) (ne_eqb a.s.0 a.call.continuation.0 c.before.if1.false))
+    let a = c.args in
+    c.contains.ensures ∙ sym (ap (λ (t : Bool). t || eqb (has a.work.now a.call.row a.s.0) 1) (ne_eqb a.s.0 a.call.continuation.0 c.if-s-call.false))
 
-pub left-out-spec : {M : Type 1} → statement M
-left-out-spec = tie.close (tie.spec returns contains-requires returns-2)
+pub left_out_spec : {M : Type 1} → statement M
+left_out_spec = tie.close (tie.spec returns contains-requires returns-2)

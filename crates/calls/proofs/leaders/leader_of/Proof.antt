@@ -13,67 +13,66 @@ use Rattle.calls.proofs.ReturnSet.{returns-room}
 use Rattle.calls.proofs.leaders.leader_of.Statement.{statement}
 use Rattle.calls.proofs.leaders.leader_of.Tie as tie
 
-abbrev invariant-loop : tie.invariant-loop
+abbrev invariant-loop : tie.invariant-loop-l
 invariant-loop file work n r l₀ l = l ≤ r.0
 
-abbrev decreases-loop : tie.decreases-loop
+abbrev decreases-loop : tie.decreases-loop-l
 decreases-loop file work n r l₀ l = r.0 - l
 
-returns-row-requires : tie.Need-returns-row-requires invariant-loop decreases-loop
-returns-row-requires c κs = ready-most c.before.before.requires.0
+returns-row-requires : tie.Need-returns_row-requires invariant-loop decreases-loop
+returns-row-requires c κs = ready-most c.requires.0
 
-next-requires : tie.Need-next-requires invariant-loop decreases-loop
+next-requires : tie.Need-next-l-requires invariant-loop decreases-loop
 unfolding row_words
-next-requires c κs = let s = c.before.before.before in omega (arith, c.returns-row.ensures, returns-room s.args.n s.requires.0, s.requires.1)
+next-requires c κs = omega (arith, c.returns_row.ensures, returns-room c.args.n c.requires.0, c.requires.1)
 
-loop-holds : tie.Need-loop-init invariant-loop decreases-loop
-loop-holds c = let s = c.before.before.before.before in let n = first s.args.work.now c.before.returns-row.result 0 s.args.r.0 (omega arith) in omega (arith, n.high, c.next.ensures)
+loop-holds : tie.Need-loop-l-init invariant-loop decreases-loop
+loop-holds c = let n = first c.args.work.now c.returns_row.result 0 c.args.r.0 (omega arith) in omega (arith, n.high, c.next-l.ensures)
 
 row-requires : tie.Need-row-requires invariant-loop decreases-loop
-row-requires c κs = let s = c.before.before.before.before.before.before.before in (ready-most s.requires.0, omega (arith, c.if1.true, s.requires.1))
+row-requires c κs = (ready-most c.requires.0, omega (arith, c.loop-l-test.true, c.requires.1))
 
-row-requires-2 : tie.Need-row-requires-2 invariant-loop decreases-loop
-row-requires-2 c κs = let s = c.before.before.before.before.before.before.before.before in (ready-most s.requires.0, s.requires.1)
+row-requires-2 : tie.Need-row-requires-in-loop-l invariant-loop decreases-loop
+row-requires-2 c κs = (ready-most c.requires.0, c.requires.1)
 
-row-words-requires : tie.Need-row-words-requires invariant-loop decreases-loop
-row-words-requires c κs = ready-most c.before.before.before.before.before.before.before.before.before.requires.0
+row-words-requires : tie.Need-row_words-requires invariant-loop decreases-loop
+row-words-requires c κs = ready-most c.requires.0
 
-same-words-requires : tie.Need-same-words-requires invariant-loop decreases-loop
+same-words-requires : tie.Need-same_words-requires invariant-loop decreases-loop
 same-words-requires c κs =
-    let s = c.before.before.before.before.before.before.before.before.before.before in
-    let low : c.before.before.before.before.before.loop.l < s.args.n = omega (arith, c.before.before.before.if1.true, s.requires.1) in
-    let room = ready-room s.requires.0 (omega (arith, s.requires.1)) in
+    let low : c.loop-l.l < c.args.n = omega (arith, c.loop-l-test.true, c.requires.1) in
+    let room = ready-room c.requires.0 (omega (arith, c.requires.1)) in
     let words = c.row_words.ensures in
-    (omega (arith, c.before.before.row.ensures, row_fits s.args.n low), omega (arith, c.before.row2.ensures, row_fits s.args.n s.requires.1))
+    (omega (arith, c.row.ensures, row_fits c.args.n low), omega (arith, c.row-in-loop-l.ensures, row_fits c.args.n c.requires.1))
 
-returns : tie.Need-returns invariant-loop decreases-loop
-returns c = let s = c.before.before.before.before.before.before.before.before.before.before.before.before in leads_same (omega (arith, c.before.before.before.before.before.if1.true, s.requires.1)) c.before.before.before.before.row.ensures c.before.before.before.row2.ensures c.before.before.row_words.ensures (sym c.before.same-words.ensures ∙ c.if2.true)
+returns : tie.Need-returns-then-same_words invariant-loop decreases-loop
+returns c = leads_same (omega (arith, c.loop-l-test.true, c.requires.1)) c.row.ensures c.row-in-loop-l.ensures c.row_words.ensures (sym c.same_words.ensures ∙ c.if-same_words.true)
 
-returns-row-requires-2 : tie.Need-returns-row-requires-2 invariant-loop decreases-loop
-returns-row-requires-2 c κs = ready-most c.before.before.before.before.before.before.before.before.before.before.before.before.requires.0
+returns-row-requires-2 : tie.Need-returns_row-requires-in-loop-l invariant-loop decreases-loop
+returns-row-requires-2 c κs = ready-most c.requires.0
 
-add-next : tie.Need-overflow-add-next invariant-loop decreases-loop
-add-next c = let s = c.before.before.before.before.before.before.before.before.before.before.before.before.before in omega (arith, c.before.before.before.before.before.before.if1.true, s.requires.1, ready-most s.requires.0)
+add-next : tie.Need-overflow_add-l invariant-loop decreases-loop
+add-next c = omega (arith, c.loop-l-test.true, c.requires.1, ready-most c.requires.0)
 
-next-requires-2 : tie.Need-next-requires-2 invariant-loop decreases-loop
+next-requires-2 : tie.Need-next-l-requires-in-loop-l invariant-loop decreases-loop
 unfolding row_words
-next-requires-2 c κs = let s = c.before.before.before.before.before.before.before.before.before.before.before.before.before in omega (arith, c.returns-row2.ensures, returns-room s.args.n s.requires.0, s.requires.1)
+next-requires-2 c κs = omega (arith, c.returns_row-in-loop-l.ensures, returns-room c.args.n c.requires.0, c.requires.1)
 
 -- the next RETURN is a later one
-later : (c : tie.After-next2 invariant-loop decreases-loop) → First c.before.before.before.before.before.before.before.before.before.before.before.before.before.before.args.work.now c.before.returns-row2.result (c.before.before.before.before.before.before.before.before.before.loop.l + 1) c.before.before.before.before.before.before.before.before.before.before.before.before.before.before.args.r.0 (next_member c.before.before.before.before.before.before.before.before.before.before.before.before.before.before.args.work.now c.before.returns-row2.result (c.before.before.before.before.before.before.before.before.before.loop.l + 1) c.before.before.before.before.before.before.before.before.before.before.before.before.before.before.args.r.0)
-later c = first c.before.before.before.before.before.before.before.before.before.before.before.before.before.before.args.work.now c.before.returns-row2.result (c.before.before.before.before.before.before.before.before.before.loop.l + 1) c.before.before.before.before.before.before.before.before.before.before.before.before.before.before.args.r.0 (omega (arith, c.before.before.before.before.before.before.before.if1.true))
+later : (c : tie.After-next-l-in-loop-l invariant-loop decreases-loop) → First c.args.work.now c.returns_row-in-loop-l.result (c.loop-l.l + 1) c.args.r.0 (next_member c.args.work.now c.returns_row-in-loop-l.result (c.loop-l.l + 1) c.args.r.0)
+later c = first c.args.work.now c.returns_row-in-loop-l.result (c.loop-l.l + 1) c.args.r.0 (omega (arith, c.loop-l-test.true))
 
-loop-less : tie.Need-loop-smaller invariant-loop decreases-loop
-loop-less c = omega (arith, (later c).low, c.next2.ensures, c.before.before.before.before.before.before.before.if1.true)
+loop-less : tie.Need-loop-l-smaller invariant-loop decreases-loop
+loop-less c = omega (arith, (later c).low, c.next-l-in-loop-l.ensures, c.loop-l-test.true)
 
-loop-again : tie.Need-loop-preserved invariant-loop decreases-loop
-loop-again c = omega (arith, (later c).high, c.next2.ensures)
+loop-again : tie.Need-loop-l-preserved invariant-loop decreases-loop
+loop-again c = omega (arith, (later c).high, c.next-l-in-loop-l.ensures)
 
-returns-2 : tie.Need-returns-2 invariant-loop decreases-loop
-returns-2 c = leads_self c.before.before.before.before.before.before.before.requires.1
+returns-2 : tie.Need-returns invariant-loop decreases-loop
+returns-2 c = leads_self c.requires.1
 
-pub leader-of-spec : {M : Type 1} → statement M
-leader-of-spec =
+pub leader_of_spec : {M : Type 1} → statement M
+leader_of_spec =
     tie.close
     (tie.spec
     invariant-loop

@@ -14,76 +14,74 @@ use Rattle.calls.proofs.ReturnSet.{returns-room}
 use Rattle.calls.proofs.leaders.note_leaders.Statement.{statement}
 use Rattle.calls.proofs.leaders.note_leaders.Tie as tie
 
-abbrev invariant-loop : tie.invariant-loop
+abbrev invariant-loop : tie.invariant-loop-r
 invariant-loop file work₀ n r₀ work r = Leading (flow_of file) work₀ work n r
 
-abbrev decreases-loop : tie.decreases-loop
+abbrev decreases-loop : tie.decreases-loop-r
 decreases-loop file work₀ n r₀ work r = n - r
 
-returns-row-requires : tie.Need-returns-row-requires invariant-loop decreases-loop
-returns-row-requires c κs = ready-most c.before.before.before.requires.0
+returns-row-requires : tie.Need-returns_row-requires invariant-loop decreases-loop
+returns-row-requires c κs = ready-most c.requires.0
 
-next-requires : tie.Need-next-requires invariant-loop decreases-loop
+next-requires : tie.Need-next-r-requires invariant-loop decreases-loop
 unfolding row_words
-next-requires c κs = let s = c.before.before.before.before in omega (arith, c.returns-row.ensures, returns-room s.args.n s.requires.0)
+next-requires c κs = omega (arith, c.returns_row.ensures, returns-room c.args.n c.requires.0)
 
-loop-holds : tie.Need-loop-init invariant-loop decreases-loop
-loop-holds c = let s = c.before.before.before.before.before in leading_start s.requires.1 c.before.returns-row.ensures c.next.ensures
+loop-holds : tie.Need-loop-r-init invariant-loop decreases-loop
+loop-holds c = leading_start c.requires.1 c.returns_row.ensures c.next-r.ensures
 
 -- what was noted so far is no place of a record, and no row
-ready : (c : tie.In-loop invariant-loop decreases-loop) → Ready c.before.before.before.before.before.before.before.args.file.now c.before.loop.work c.before.before.before.before.before.before.before.args.n
-ready c = ready-keeps c.before.before.before.before.before.before.before.requires.0 c.before.loop.invariant.keeps (omega arith)
+ready : (c : tie.In-loop-r invariant-loop decreases-loop) → Ready c.args.file.now c.loop-r.work c.args.n
+ready c = ready-keeps c.requires.0 c.loop-r.invariant.keeps (omega arith)
 
-leader-of-requires : tie.Need-leader-of-requires invariant-loop decreases-loop
-leader-of-requires c κs = (ready c.before, c.before.loop-test.true)
+leader-of-requires : tie.Need-leader_of-l-requires invariant-loop decreases-loop
+leader-of-requires c κs = (ready c, c.loop-r-test.true)
 
 bodies-requires : tie.Need-bodies-requires invariant-loop decreases-loop
-bodies-requires c κs = ready-most c.before.before.before.before.before.before.before.before.before.requires.0
+bodies-requires c κs = ready-most c.requires.0
 
-add-work : tie.Need-overflow-add-work invariant-loop decreases-loop
-add-work c = let s = c.before.before.before.before.before.before.before.before.before.before in omega (arith, c.bodies.ensures, c.before.before.before.loop-test.true, ready-most s.requires.0)
+add-work : tie.Need-overflow_add-work invariant-loop decreases-loop
+add-work c = omega (arith, c.bodies.ensures, c.loop-r-test.true, ready-most c.requires.0)
 
-mul-work : tie.Need-overflow-mul-work invariant-loop decreases-loop
-mul-work c = let s = c.before.before.before.before.before.before.before.before.before.before in omega (arith, c.bodies.ensures, c.before.before.before.loop-test.true, ready-most s.requires.0)
+mul-work : tie.Need-offset_bounds-work-bodies invariant-loop decreases-loop
+mul-work c = omega (arith, c.bodies.ensures, c.loop-r-test.true, ready-most c.requires.0)
 
-slice-write-work : tie.Need-slice-write-work invariant-loop decreases-loop
-slice-write-work c = let s = c.before.before.before.before.before.before.before.before.before.before in omega (arith, c.bodies.ensures, c.before.before.before.loop-test.true, row_from s.args.n s.args.n, ready-room (ready c.before.before.before) (omega (arith, c.before.before.before.loop-test.true)))
+slice-write-work : tie.Need-bounds-work-bodies invariant-loop decreases-loop
+slice-write-work c = omega (arith, c.bodies.ensures, c.loop-r-test.true, row_from c.args.n c.args.n, ready-room (ready c.before.before) (omega (arith, c.loop-r-test.true)))
 
-returns-row-requires-2 : tie.Need-returns-row-requires-2 invariant-loop decreases-loop
-returns-row-requires-2 c κs = ready-most c.before.before.before.before.before.before.before.before.before.before.before.requires.0
+returns-row-requires-2 : tie.Need-returns_row-requires-in-loop-r invariant-loop decreases-loop
+returns-row-requires-2 c κs = ready-most c.requires.0
 
-add-next : tie.Need-overflow-add-next invariant-loop decreases-loop
-add-next c = let s = c.before.before.before.before.before.before.before.before.before.before.before.before in omega (arith, c.before.before.before.before.before.loop-test.true, ready-most s.requires.0)
+add-next : tie.Need-overflow_add-r invariant-loop decreases-loop
+add-next c = omega (arith, c.loop-r-test.true, ready-most c.requires.0)
 
-next-requires-2 : tie.Need-next-requires-2 invariant-loop decreases-loop
+next-requires-2 : tie.Need-next-r-requires-in-loop-r invariant-loop decreases-loop
 unfolding row_words
-next-requires-2 c κs = let s = c.before.before.before.before.before.before.before.before.before.before.before.before in let long = length-set c.before.before.before.before.before.before.loop.work (c.before.before.bodies.result + c.before.before.before.before.before.before.loop.r) c.before.before.before.leader-of.result.0 in omega (arith, c.returns-row2.ensures, returns-room s.args.n (ready c.before.before.before.before.before))
+next-requires-2 c κs = let long = length-set c.loop-r.work (c.bodies.result + c.loop-r.r) c.leader_of-l.result.0 in omega (arith, c.returns_row-in-loop-r.ensures, returns-room c.args.n (ready c.before.before.before))
 
 -- the row of RETURNs stays
-since : (c : tie.After-next2 invariant-loop decreases-loop) → ReturnSet (flow_of c.before.before.before.before.before.before.before.before.before.before.before.before.before.args.file.now) (set c.before.before.before.before.before.before.before.loop.work (c.before.before.before.bodies.result + c.before.before.before.before.before.before.before.loop.r) c.before.before.before.before.leader-of.result.0) c.before.before.before.before.before.before.before.before.before.before.before.before.before.args.n
+since : (c : tie.After-next-r-in-loop-r invariant-loop decreases-loop) → ReturnSet (flow_of c.args.file.now) (set c.loop-r.work (c.bodies.result + c.loop-r.r) c.leader_of-l.result.0) c.args.n
 since c =
-    let s = c.before.before.before.before.before.before.before.before.before.before.before.before.before in
-    let n = s.args.n in
-    let at = c.before.before.before.bodies.ensures in
+    let n = c.args.n in
+    let at = c.bodies.ensures in
     let low = row_from n n in
-    returns_stay (keeps-trans c.before.before.before.before.before.before.before.loop.invariant.keeps (keeps-set c.before.before.before.before.before.before.before.loop.work (c.before.before.before.bodies.result + c.before.before.before.before.before.before.before.loop.r) c.before.before.before.before.leader-of.result.0 (omega arith) (omega (arith, c.before.before.before.before.before.before.loop-test.true)))) (omega arith) s.requires.1
+    returns_stay (keeps-trans c.loop-r.invariant.keeps (keeps-set c.loop-r.work (c.bodies.result + c.loop-r.r) c.leader_of-l.result.0 (omega arith) (omega (arith, c.loop-r-test.true)))) (omega arith) c.requires.1
 
-loop-less : tie.Need-loop-smaller invariant-loop decreases-loop
-loop-less c = let low = next_low (since c) c.before.returns-row2.ensures (omega (arith, c.before.before.before.before.before.before.loop-test.true)) c.next2.ensures in omega (arith, c.before.before.before.before.before.before.loop-test.true)
+loop-less : tie.Need-loop-r-smaller invariant-loop decreases-loop
+loop-less c = let low = next_low (since c) c.returns_row-in-loop-r.ensures (omega (arith, c.loop-r-test.true)) c.next-r-in-loop-r.ensures in omega (arith, c.loop-r-test.true)
 
-loop-again : tie.Need-loop-preserved invariant-loop decreases-loop
+loop-again : tie.Need-loop-r-preserved invariant-loop decreases-loop
 loop-again c =
-    let s = c.before.before.before.before.before.before.before.before.before.before.before.before.before in
-    leading_more (omega (arith, row_from s.args.n s.args.n, ready-room (ready c.before.before.before.before.before.before) (omega (arith, c.before.before.before.before.before.before.loop-test.true)))) c.before.before.before.before.before.before.before.loop.invariant c.before.before.before.before.before.before.loop-test.true c.before.before.before.bodies.ensures c.before.before.before.before.leader-of.ensures (since c) c.before.returns-row2.ensures c.next2.ensures
+    leading_more (omega (arith, row_from c.args.n c.args.n, ready-room (ready c.before.before.before.before) (omega (arith, c.loop-r-test.true)))) c.loop-r.invariant c.loop-r-test.true c.bodies.ensures c.leader_of-l.ensures (since c) c.returns_row-in-loop-r.ensures c.next-r-in-loop-r.ensures
 
-same_length : tie.Need-same-length invariant-loop decreases-loop
-same_length c = c.before.loop.invariant.keeps.size
+same_length : tie.Need-shape_of-work invariant-loop decreases-loop
+same_length c = c.loop-r.invariant.keeps.size
 
 returns : tie.Need-returns invariant-loop decreases-loop
-returns c = (leading_all c.before.loop.invariant (omega (arith, c.loop-test.false)), c.before.loop.invariant.keeps)
+returns c = (leading_all c.loop-r.invariant (omega (arith, c.loop-r-test.false)), c.loop-r.invariant.keeps)
 
-pub note-leaders-spec : {M : Type 1} → statement M
-note-leaders-spec =
+pub note_leaders_spec : {M : Type 1} → statement M
+note_leaders_spec =
     tie.close
     (tie.spec
     invariant-loop

@@ -18,46 +18,43 @@ use Rattle.calls.proofs.orders.list_line.Tie as tie
 entered-requires : tie.Need-entered-requires
 entered-requires c κs = search rules
 
-enum-known-b : tie.Need-enum-known-b
+enum-known-b : tie.Need-enum_known-b
 enum-known-b c = search rules
 
-list-statement-requires : tie.Need-list-statement-requires
+list-statement-requires : tie.Need-list_statement-requires
 list-statement-requires c κs =
-    let s = c.before.before.before.before.before.before.before.before in
-    let f = flow_of s.args.file.now in
-    let ready = s.requires.0.ready in
-    let b = c.before.before.b.given.0.0.0 in
-    let e = enters-at _ _ (sym c.before.before.before.before.entered.ensures ∙ c.before.before.b.given.1) in
-    (record { few = ready-most ready; room = ready.room }, ready-below ready ((ready_formed ready).first (get_or (call_lines (kind f s.args.c.0)) s.args.l 0) b e), s.requires.3)
+    let f = flow_of c.args.file.now in
+    let ready = c.requires.0.ready in
+    let b = c.in-At.b.0 in
+    let e = enters-at _ _ (sym c.entered.ensures ∙ c.in-At.is) in
+    (record { few = ready-most ready; room = ready.room }, ready-below ready ((ready_formed ready).first (get_or (call_lines (kind f c.args.c.0)) c.args.l 0) b e), c.requires.3)
 
-enum_told : tie.Need-enum-told
+enum_told : tie.Need-enum_told-1
 enum_told c = search rules
 
-same_length : tie.Need-same-length
+same_length : tie.Need-shape_of-work-in-At
 same_length c = search rules
 
-returns : tie.Need-returns
+returns : tie.Need-returns-in-At
 unfolding option_list
 returns c =
-    let s = c.before.before.before.before.before.before.before.before.before.before.before in
-    let line = enters (flow_of s.args.file.now) (get_or (call_lines (kind (flow_of s.args.file.now) s.args.c.0)) s.args.l 0) in
+    let line = enters (flow_of c.args.file.now) (get_or (call_lines (kind (flow_of c.args.file.now) c.args.c.0)) c.args.l 0) in
     λ ws₀ xs l.
-    subst (λ (o : Option ℕ). Listing ws₀ c.before.before.list-statement.new.0 s.args.h.statements s.args.at (firsts xs (option_list o)) c.before.before.list-statement.result) (sym (enters-at line _ (sym c.before.before.before.before.before.before.before.entered.ensures ∙ c.before.before.before.before.before.b.given.1)))
-    (c.before.before.list-statement.ensures ws₀ xs l)
+    subst (λ (o : Option ℕ). Listing ws₀ c.list_statement.new.work c.args.h.statements c.args.at (firsts xs (option_list o)) c.list_statement.result) (sym (enters-at line _ (sym c.entered.ensures ∙ c.in-At.is)))
+    (c.list_statement.ensures ws₀ xs l)
 
-same-length-2 : tie.Need-same-length-2
+same-length-2 : tie.Need-shape_of-work-in-Nothing
 same-length-2 c = search rules
 
-returns-2 : tie.Need-returns-2
+returns-2 : tie.Need-returns-in-Nothing
 unfolding option_list firsts
 returns-2 c =
-    let s = c.before.before.before.before.before.before in
-    let line = enters (flow_of s.args.file.now) (get_or (call_lines (kind (flow_of s.args.file.now) s.args.c.0)) s.args.l 0) in
+    let line = enters (flow_of c.args.file.now) (get_or (call_lines (kind (flow_of c.args.file.now) c.args.c.0)) c.args.l 0) in
     λ ws₀ xs l.
-    subst (λ (o : Option ℕ). Listing ws₀ s.args.work.now s.args.h.statements s.args.at (firsts xs (option_list o)) s.args.k) (sym (enters-nothing line (sym c.before.before.entered.ensures ∙ c.enum_told.given.1))) l
+    subst (λ (o : Option ℕ). Listing ws₀ c.args.work.now c.args.h.statements c.args.at (firsts xs (option_list o)) c.args.k) (sym (enters-nothing line (sym c.entered.ensures ∙ c.in-Nothing.is))) l
 
-pub list-line-spec : {M : Type 1} → statement M
-list-line-spec =
+pub list_line_spec : {M : Type 1} → statement M
+list_line_spec =
     tie.close
     (tie.spec
     entered-requires

@@ -24,81 +24,79 @@ module _ (s : tie.Start) where
   n = s.args.h.statements
 
   some-statements : 0 < n
-  some-statements = omega (arith, s.pre.1)
+  some-statements = omega (arith, s.requires.1)
 
   most : n ≤ max_statements
-  most = ready-most s.pre.0.ready
+  most = ready-most s.requires.0.ready
 
   area : Area s.args.work.now n
-  area = record { few = most; room = s.pre.0.ready.room }
+  area = record { few = most; room = s.requires.0.ready.room }
 
 -- the row is empty, and nothing else changed
-zeroed : (c : tie.After-zero-row) → let s = c.before.before.before.before.before in Empty c.zero_row.new.0 (n s) (entered_row_at (n s)) × Keeps (entered_row_at (n s)) (entered_row_at (n s) + row_words (n s)) s.args.work.now c.zero_row.new.0
-zeroed c = let s = c.before.before.before.before.before in subst (λ (x : ℕ). Empty c.zero_row.new.0 (n s) x × Keeps x (x + row_words (n s)) s.args.work.now c.zero_row.new.0) c.before.entered-row.ensures c.zero_row.ensures
+zeroed : (c : tie.After-zero_row) → Empty c.zero_row.new.work (n c.before.before.before.before.before) (entered_row_at (n c.before.before.before.before.before)) × Keeps (entered_row_at (n c.before.before.before.before.before)) (entered_row_at (n c.before.before.before.before.before) + row_words (n c.before.before.before.before.before)) c.args.work.now c.zero_row.new.work
+zeroed c = subst (λ (x : ℕ). Empty c.zero_row.new.work (n c.before.before.before.before.before) x × Keeps x (x + row_words (n c.before.before.before.before.before)) c.args.work.now c.zero_row.new.work) c.entered_row.ensures c.zero_row.ensures
 
 -- the list is short
-module _ (c : tie.After-list-lines) where
+module _ (c : tie.After-list_lines-k) where
   abbrev start : tie.Start
   start = c.before.before.before.before.before.before.before.before.before
 
-  short : list_end start.args.at c.list-lines.result ≤ queue_at (n start)
-  short = omega (arith, start.pre.4, c.list-lines.ensures.1)
+  short : list_end start.args.at c.list_lines-k.result ≤ queue_at (n start)
+  short = omega (arith, start.requires.4, c.list_lines-k.ensures.1)
 
-  below : c.list-lines.result + start.args.at ≤ 5 * (48 * 2048)
+  below : c.list_lines-k.result + start.args.at ≤ 5 * (48 * 2048)
   below = omega (arith, short, queue-below (most start), most start)
 
-entered-row-requires : tie.Need-entered-row-requires
+entered-row-requires : tie.Need-entered_row-requires
 entered-row-requires c κs = most c.before.before.before
 
-zero-row-requires : tie.Need-zero-row-requires
-zero-row-requires c κs = let s = c.before.before.before.before in (most s, omega (arith, c.entered-row.ensures, entered-room (area s) (some-statements s)))
+zero-row-requires : tie.Need-zero_row-requires
+zero-row-requires c κs = (most c.before.before.before.before, omega (arith, c.entered_row.ensures, entered-room (area c.before.before.before.before) (some-statements c.before.before.before.before)))
 
-list-lines-requires : tie.Need-list-lines-requires
+list-lines-requires : tie.Need-list_lines-k-requires
 list-lines-requires c κs =
-    let s = c.before.before.before.before.before.before.before.before in
     let z = zeroed c.before.before.before in
-    (indexed-keeps s.requires.0 z.1 (omega (arith, row_from (n s) (n s))), s.requires.1, s.requires.2, s.requires.3, s.requires.4, z.0)
+    (indexed-keeps c.requires.0 z.1 (omega (arith, row_from (n c.before.before.before.before.before.before.before.before) (n c.before.before.before.before.before.before.before.before))), c.requires.1, c.requires.2, c.requires.3, c.requires.4, z.0)
 
-mul-work : tie.Need-overflow-mul-work
+mul-work : tie.Need-overflow_mul-work
 mul-work c = omega (arith, below c.before.before)
 
-add-work : tie.Need-overflow-add-work
+add-work : tie.Need-overflow_add-work
 add-work c = omega (arith, below c.before.before)
 
 touched-requires : tie.Need-touched-requires
 touched-requires c κs = most c.before.before.before.before.before.before.before.before.before.before.before
 
-add-work-2 : tie.Need-overflow-add-work-2
+add-work-2 : tie.Need-overflow_add-work-2
 add-work-2 c = search rules
 
-mul-work-2 : tie.Need-overflow-mul-work-2
+mul-work-2 : tie.Need-offset_bounds-work-touched
 mul-work-2 c = search rules
 
-slice-write-work : tie.Need-slice-write-work
+slice-write-work : tie.Need-bounds-work-touched
 slice-write-work c = search rules
 
-add-result : tie.Need-overflow-add-result
+add-result : tie.Need-overflow_add-result
 add-result c = omega (arith, below c.before.before.before.before)
 
-add-result-2 : tie.Need-overflow-add-result-2
+add-result-2 : tie.Need-overflow_add-result-2
 add-result-2 c = search rules
 
-same_length : tie.Need-same-length
-same_length c = simp length-set (c.before.before.before.before.list-lines.ensures.0.kept.size ∙ (zeroed c.before.before.before.before.before.before.before.before).1.size)
+same_length : tie.Need-shape_of-work
+same_length c = simp length-set (c.list_lines-k.ensures.0.kept.size ∙ (zeroed c.before.before.before.before.before.before.before.before).1.size)
 
 returns : tie.Need-returns
 returns c =
-    let d = c.before.before.before.before in
-    let s = start d in
+    let s = start c.before.before.before.before in
     let f = flow_of s.args.file.now in
-    let us : List ℕ = d.list-lines.new.1.1.0 in
-    let k : ℕ = d.list-lines.result in
-    let fits : touched_at (n s) + s.args.c.0 < length us = omega (arith, s.pre.1, d.list-lines.ensures.0.kept.size, (zeroed c.before.before.before.before.before.before.before.before).1.size, ready-room s.pre.0.ready (some-statements s), row_from (n s) (n s)) in
-    subst (λ (x : ℕ). OrderNoted f s.args.work.now (set us (x + s.args.c.0) (s.args.at + 2 ^ 32 * k)) (n s) s.args.c.0 s.args.at (list_end s.args.at k)) (sym c.before.touched.ensures)
-    (listed f s.pre.1 s.pre.3 s.pre.5 (omega (arith, s.pre.2, s.pre.4)) fits (zeroed c.before.before.before.before.before.before.before.before).1 d.list-lines.ensures.0)
+    let us : List ℕ = c.list_lines-k.new.work in
+    let k : ℕ = c.list_lines-k.result in
+    let fits : touched_at (n s) + s.args.c.0 < length us = omega (arith, s.requires.1, c.list_lines-k.ensures.0.kept.size, (zeroed c.before.before.before.before.before.before.before.before).1.size, ready-room s.requires.0.ready (some-statements s), row_from (n s) (n s)) in
+    subst (λ (x : ℕ). OrderNoted f s.args.work.now (set us (x + s.args.c.0) (s.args.at + 2 ^ 32 * k)) (n s) s.args.c.0 s.args.at (list_end s.args.at k)) (sym c.touched.ensures)
+    (listed f s.requires.1 s.requires.3 s.requires.5 (omega (arith, s.requires.2, s.requires.4)) fits (zeroed c.before.before.before.before.before.before.before.before).1 c.list_lines-k.ensures.0)
 
-pub note-list-spec : {M : Type 1} → statement M
-note-list-spec =
+pub note_list_spec : {M : Type 1} → statement M
+note_list_spec =
     tie.close
     (tie.spec
     entered-row-requires

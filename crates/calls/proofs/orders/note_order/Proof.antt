@@ -24,97 +24,95 @@ use Rattle.calls.proofs.orders.note_order.Statement.{statement}
 use Rattle.calls.proofs.orders.note_order.Tie as tie
 
 calls-requires : tie.Need-calls-requires
-calls-requires c κs = ready-most c.before.before.requires.0.ready
+calls-requires c κs = ready-most c.requires.0.ready
 
-add-if1 : tie.Need-overflow-add-if1
+add-if1 : tie.Need-overflow_add-calls
 add-if1 c = search rules
 
-mul-if1 : tie.Need-overflow-mul-if1
+mul-if1 : tie.Need-offset_bounds-work-calls
 mul-if1 c = search rules
 
-slice-read-if1 : tie.Need-slice-read-if1
+slice-read-if1 : tie.Need-bounds-work-calls
 slice-read-if1 c = search rules
 
 -- what the call's state says
-transparent-is : (c : tie.After-slice-known2) → let a = c.before.before.before.before.before.args in eqb (get_or a.work.now (c.before.before.calls.result + a.c.0) 0) transparent ≡ transparent_call (flow_of a.file.now) a.c.0
-transparent-is c = let s = c.before.before.before.before.before in ap (λ (x : ℕ). eqb (get_or s.args.work.now (x + s.args.c.0) 0) transparent) c.before.before.calls.ensures ∙ call-state s.requires.1 s.requires.2
+transparent-is : (c : tie.After-slice_known-2-1) → let a = c.args in eqb (get_or a.work.now (c.calls.result + a.c.0) 0) transparent ≡ transparent_call (flow_of a.file.now) a.c.0
+transparent-is c = ap (λ (x : ℕ). eqb (get_or c.args.work.now (x + c.args.c.0) 0) transparent) c.calls.ensures ∙ call-state c.requires.1 c.requires.2
 
-returns : tie.Need-returns
+returns : tie.Need-returns-then-work-calls-ne-TRANSPARENT
 returns c =
-    let f = flow_of c.before.before.before.before.before.before.args.file.now in
-    let i = c.before.before.before.before.before.before.args.c.0 in
-    unasked f (ap (λ (t : Bool). t && ltb 1 (length (call_lines (kind f i)))) (sym (transparent-is c.before) ∙ ne_eqb _ transparent c.if1.true))
+    let f = flow_of c.args.file.now in
+    let i = c.args.c.0 in
+    unasked f (ap (λ (t : Bool). t && ltb 1 (length (call_lines (kind f i)))) (sym (transparent-is c.before) ∙ ne_eqb _ transparent c.if-work-calls-ne-TRANSPARENT.true))
 
-line-count-requires : tie.Need-line-count-requires
+line-count-requires : tie.Need-line_count-count-requires
 line-count-requires c κs = search rules
 
-same_length : tie.Need-same-length
+same_length : tie.Need-shape_of-work-then-count-lt2
 same_length c = search rules
 
-returns-2 : tie.Need-returns-2
+returns-2 : tie.Need-returns-then-count-lt2
 returns-2 c =
-    let f = flow_of c.before.before.before.before.before.before.before.before.before.args.file.now in
-    let i = c.before.before.before.before.before.before.before.before.before.args.c.0 in
-    unasked f (ap (λ (t : Bool). transparent_call f i && t) (le-ltb 1 (length (call_lines (kind f i))) (omega (arith, c.before.line-count.ensures, c.if2.true))) ∙ and-false (transparent_call f i))
+    let f = flow_of c.args.file.now in
+    let i = c.args.c.0 in
+    unasked f (ap (λ (t : Bool). transparent_call f i && t) (le-ltb 1 (length (call_lines (kind f i))) (omega (arith, c.line_count-count.ensures, c.if-count-lt2.true))) ∙ and-false (transparent_call f i))
 
 queue-requires : tie.Need-queue-requires
-queue-requires c κs = ready-most c.before.before.before.before.before.before.before.before.before.requires.0.ready
+queue-requires c κs = ready-most c.requires.0.ready
 
-add-if3 : tie.Need-overflow-add-if3
-add-if3 c = let s = c.before.before.before.before.before.before.before.before.before.before in omega (arith, c.before.before.line-count.ensures, lines-few s.requires.0.ready s.requires.2)
+add-if3 : tie.Need-overflow_add-count
+add-if3 c = omega (arith, c.line_count-count.ensures, lines-few c.requires.0.ready c.requires.2)
 
-add-if3-2 : tie.Need-overflow-add-if3-2
-add-if3-2 c = let s = c.before.before.before.before.before.before.before.before.before.before in omega (arith, c.before.before.line-count.ensures, lines-few s.requires.0.ready s.requires.2, s.requires.4, queue-below (ready-most s.requires.0.ready), ready-most s.requires.0.ready)
+add-if3-2 : tie.Need-overflow_add-at
+add-if3-2 c = omega (arith, c.line_count-count.ensures, lines-few c.requires.0.ready c.requires.2, c.requires.4, queue-below (ready-most c.requires.0.ready), ready-most c.requires.0.ready)
 
 touched-requires : tie.Need-touched-requires
-touched-requires c κs = ready-most c.before.before.before.before.before.before.before.before.before.before.before.requires.0.ready
+touched-requires c κs = ready-most c.requires.0.ready
 
-add-work : tie.Need-overflow-add-work
+add-work : tie.Need-overflow_add-work
 add-work c = search rules
 
-mul-work : tie.Need-overflow-mul-work
+mul-work : tie.Need-offset_bounds-work-touched
 mul-work c = search rules
 
-slice-write-work : tie.Need-slice-write-work
+slice-write-work : tie.Need-bounds-work-touched
 slice-write-work c = search rules
 
-same-length-2 : tie.Need-same-length-2
+same-length-2 : tie.Need-shape_of-work-then-queue-at
 same-length-2 c = search rules
 
-returns-3 : tie.Need-returns-3
+returns-3 : tie.Need-returns-then-queue-at
 returns-3 c =
-    let s = c.before.before.before.before.before.before.before.before.before.before.before.before.before in
-    let f = flow_of s.args.file.now in
-    let n = s.args.h.statements in
-    let ws = s.args.work.now in
-    let room : touched_at n + s.args.c.0 < length ws = omega (arith, s.requires.2, ready-room s.requires.0.ready (omega (arith, s.requires.2)), row_from n n) in
-    subst (λ (x : ℕ). OrderNoted f ws (set ws (x + s.args.c.0) 0) n s.args.c.0 s.args.at s.args.at) (sym c.before.touched.ensures)
-    (roomless f (omega (arith, c.before.before.before.queue.ensures, c.before.before.before.before.before.line-count.ensures, c.before.before.if3.true)) room)
+    let f = flow_of c.args.file.now in
+    let n = c.args.h.statements in
+    let ws = c.args.work.now in
+    let room : touched_at n + c.args.c.0 < length ws = omega (arith, c.requires.2, ready-room c.requires.0.ready (omega (arith, c.requires.2)), row_from n n) in
+    subst (λ (x : ℕ). OrderNoted f ws (set ws (x + c.args.c.0) 0) n c.args.c.0 c.args.at c.args.at) (sym c.touched.ensures)
+    (roomless f (omega (arith, c.queue.ensures, c.line_count-count.ensures, c.if-queue-at.true)) room)
 
-note-list-requires : tie.Need-note-list-requires
+note-list-requires : tie.Need-note_list-requires
 note-list-requires c κs =
-    let s = c.before.before.before.before.before.before.before.before.before.before.before.before in
-    let f = flow_of s.args.file.now in
-    let i = s.args.c.0 in
-    let count = c.before.before.before.before.line-count.ensures in
-    let is_transparent : transparent_call f i ≡ true = sym (transparent-is c.before.before.before.before.before.before.before) ∙ eq-eqb _ transparent c.before.before.before.before.before.before.if1.false in
-    let many : ltb 1 (length (call_lines (kind f i))) ≡ true = lt-ltb 1 (length (call_lines (kind f i))) (omega (arith, count, c.before.before.before.if2.false)) in (
-      s.requires.0,
-      s.requires.2,
+    let f = flow_of c.args.file.now in
+    let i = c.args.c.0 in
+    let count = c.line_count-count.ensures in
+    let is_transparent : transparent_call f i ≡ true = sym (transparent-is c.before.before.before.before.before.before) ∙ eq-eqb _ transparent c.if-work-calls-ne-TRANSPARENT.false in
+    let many : ltb 1 (length (call_lines (kind f i))) ≡ true = lt-ltb 1 (length (call_lines (kind f i))) (omega (arith, count, c.if-count-lt2.false)) in (
+      c.requires.0,
+      c.requires.2,
       count,
-      s.requires.3,
-      omega (arith, c.before.before.queue.ensures, c.before.if3.false),
+      c.requires.3,
+      omega (arith, c.queue.ensures, c.if-queue-at.false),
       and-true (transparent_call f i) (ltb 1 (length (call_lines (kind f i)))) is_transparent many,
     )
 
-same-length-3 : tie.Need-same-length-3
+same-length-3 : tie.Need-shape_of-work
 same-length-3 c = search rules
 
-returns-4 : tie.Need-returns-4
+returns-4 : tie.Need-returns
 returns-4 c = search rules
 
-pub note-order-spec : {M : Type 1} → statement M
-note-order-spec =
+pub note_order_spec : {M : Type 1} → statement M
+note_order_spec =
     tie.close
     (tie.spec
     calls-requires

@@ -15,58 +15,55 @@ use Rattle.calls.proofs.Gathered.{rows_stay, lines-gathered}
 use Rattle.calls.proofs.returns.gather_lines.Statement.{statement}
 use Rattle.calls.proofs.returns.gather_lines.Tie as tie
 
-entered-row-requires : tie.Need-entered-row-requires
-entered-row-requires c κs = ready-most c.before.before.requires.0.ready
+entered-row-requires : tie.Need-entered_row-row-requires
+entered-row-requires c κs = ready-most c.requires.0.ready
 
 -- the row of entered statements lies in the area
-inside : (c : tie.After-entered-row) → let a = c.before.before.before.args in c.entered-row.result + row_words a.h.statements ≤ length a.work.now
+inside : (c : tie.After-entered_row-row) → let a = c.args in c.entered_row-row.result + row_words a.h.statements ≤ length a.work.now
 inside c =
-    let start = c.before.before.before in
-    omega (arith, c.entered-row.ensures, row-words-le start.args.h.statements, ready-room start.requires.0.ready (omega arith))
+    omega (arith, c.entered_row-row.ensures, row-words-le c.args.h.statements, ready-room c.requires.0.ready (omega arith))
 
-zero-row-requires : tie.Need-zero-row-requires
-zero-row-requires c κs = (ready-most c.before.before.before.before.requires.0.ready, inside c.before)
+zero-row-requires : tie.Need-zero_row-requires
+zero-row-requires c κs = (ready-most c.requires.0.ready, inside c.before)
 
-add-lines-requires : tie.Need-add-lines-requires
+add-lines-requires : tie.Need-add_lines-requires
 add-lines-requires c κs =
-    let row = c.before.before.before.before.before in
-    let start = row.before.before.before in
+    let start = c in
     let p = start.requires in
     let n = start.args.h.statements in
-    let kept = c.before.before.before.zero_row.ensures.1 in
-    let low : calls_at n ≤ row.entered-row.result = omega (arith, row.entered-row.ensures, row_from n n) in (
+    let kept = c.zero_row.ensures.1 in
+    let low : calls_at n ≤ c.entered_row-row.result = omega (arith, c.entered_row-row.ensures, row_from n n) in (
       indexed-keeps p.0 kept (omega arith),
       p.1,
-      record { low = low; high = omega (arith, inside row, kept.size); apart = λ w. omega (arith, row.entered-row.ensures) },
-      λ w. rows_stay start.args.c.0 (ready_formed p.0.ready) (ready-size p.0.ready) kept (omega (arith, row.entered-row.ensures)) p.2,
+      record { low = low; high = omega (arith, inside c.before.before.before.before.before, kept.size); apart = λ w. omega (arith, c.entered_row-row.ensures) },
+      λ w. rows_stay start.args.c.0 (ready_formed p.0.ready) (ready-size p.0.ready) kept (omega (arith, c.entered_row-row.ensures)) p.2,
     )
 
 -- the walks are joined
-module _ (c : tie.After-add-lines) where
-  abbrev row : tie.After-entered-row
+module _ (c : tie.After-add_lines) where
+  abbrev row : tie.After-entered_row-row
   row = c.before.before.before.before.before.before
 
   abbrev start : tie.Start
   start = row.before.before.before
 
-  kept : let a = start.args in Keeps (entered_row_at a.h.statements) (solver_at a.h.statements) a.work.now c.add-lines.new.1.1.0
+  kept : let a = start.args in Keeps (entered_row_at a.h.statements) (solver_at a.h.statements) a.work.now c.add_lines.new.work
   kept =
       let n = start.args.h.statements in
-      keeps_widen (omega (arith, row.entered-row.ensures)) (omega (arith, row.entered-row.ensures, row-words-le n)) (keeps-trans c.before.before.before.before.zero_row.ensures.1 c.add-lines.ensures.kept)
+      keeps_widen (omega (arith, row.entered_row-row.ensures)) (omega (arith, row.entered_row-row.ensures, row-words-le n)) (keeps-trans c.zero_row.ensures.1 c.add_lines.ensures.kept)
 
-same_length : tie.Need-same-length
+same_length : tie.Need-shape_of-work
 same_length c = search rules
 
 returns : tie.Need-returns
 returns c =
-    let d = c.before.before in
-    let a = (start d).args in
-    let size = (kept d).size in
+    let a = (start c.before.before).args in
+    let size = (kept c.before.before).size in
     let f = flow_of a.file.now in record {
-      kept = kept d;
-      apart = record { room = omega (arith, inside (row d)); place = inl (omega (arith, (row d).entered-row.ensures)) };
-      holds = lines-gathered f (entered f a.c.0) d.before.before.before.before.zero_row.ensures.0 d.add-lines.ensures;
+      kept = kept c.before.before;
+      apart = record { room = omega (arith, inside (row c.before.before)); place = inl (omega (arith, (row c.before.before).entered_row-row.ensures)) };
+      holds = lines-gathered f (entered f a.c.0) c.zero_row.ensures.0 c.add_lines.ensures;
     }
 
-pub gather-lines-spec : {M : Type 1} → statement M
-gather-lines-spec = tie.close (tie.spec entered-row-requires zero-row-requires add-lines-requires same_length returns)
+pub gather_lines_spec : {M : Type 1} → statement M
+gather_lines_spec = tie.close (tie.spec entered-row-requires zero-row-requires add-lines-requires same_length returns)

@@ -10,26 +10,24 @@ use Rattle.calls.proofs.ReturnSet.{return-set-stays}
 use Rattle.calls.proofs.returns.note_bodies.Statement.{statement}
 use Rattle.calls.proofs.returns.note_bodies.Tie as tie
 
-gather-requires : tie.Need-gather-requires
+gather-requires : tie.Need-gather-row-requires
 gather-requires c κs = search rules
 
-note-shared-requires : tie.Need-note-shared-requires
+note-shared-requires : tie.Need-note_shared-requires
 note-shared-requires c κs =
-    let d = c.before.before.before in
-    let start = d.before.before.before.before in
+    let start = c in
     let r = start.requires.0.ready in
-    (record { few = ready-most r; room = omega (arith, r.room, d.gather.ensures.kept.size) }, d.gather.ensures.apart, start.requires.2)
+    (record { few = ready-most r; room = omega (arith, r.room, c.gather-row.ensures.kept.size) }, c.gather-row.ensures.apart, start.requires.2)
 
-same_length : tie.Need-same-length
+same_length : tie.Need-shape_of-work
 same_length c = search rules
 
 returns : tie.Need-returns
 returns c =
-    let d = c.before.before.before.before.before.before in
-    let start = d.before.before.before.before in
+    let start = c in
     let f = flow_of start.args.file.now in
-    let g = d.gather.ensures in
-    bodies-noted f start.args.k.0 (entered f start.args.c.0) g (return-set-stays g.kept (omega arith) start.requires.4) c.before.before.note-shared.ensures
+    let g = c.gather-row.ensures in
+    bodies-noted f start.args.k.0 (entered f start.args.c.0) g (return-set-stays g.kept (omega arith) start.requires.4) c.note_shared.ensures
 
-pub note-bodies-spec : {M : Type 1} → statement M
-note-bodies-spec = tie.close (tie.spec gather-requires note-shared-requires same_length returns)
+pub note_bodies_spec : {M : Type 1} → statement M
+note_bodies_spec = tie.close (tie.spec gather-requires note-shared-requires same_length returns)

@@ -14,64 +14,61 @@ use Rattle.calls.proofs.returns.note_call.Statement.{statement}
 use Rattle.calls.proofs.returns.note_call.Tie as tie
 
 calls-requires : tie.Need-calls-requires
-calls-requires c κs = ready-most c.before.before.requires.0.ready
+calls-requires c κs = ready-most c.requires.0.ready
 
-add-if1 : tie.Need-overflow-add-if1
+add-if1 : tie.Need-overflow_add-calls
 add-if1 c = search rules
 
-mul-if1 : tie.Need-overflow-mul-if1
+mul-if1 : tie.Need-offset_bounds-work-calls
 mul-if1 c = search rules
 
-slice-read-if1 : tie.Need-slice-read-if1
+slice-read-if1 : tie.Need-bounds-work-calls
 slice-read-if1 c = search rules
 
-returns : tie.Need-returns
+returns : tie.Need-returns-then-work-calls-ne-OPAQUE
 returns c =
-    let start = c.before.before.before.before.before.before in
-    let a = start.args in
-    call-transparent a.c.0 start.requires.2 (λ e. c.if1.true (ap (λ (b : ℕ). get_or a.work.now (b + a.c.0) 0) c.before.before.before.calls.ensures ∙ e))
+    let a = c.args in
+    call-transparent a.c.0 c.requires.2 (λ e. c.if-work-calls-ne-OPAQUE.true (ap (λ (b : ℕ). get_or a.work.now (b + a.c.0) 0) c.calls.ensures ∙ e))
 
 continuation-requires : tie.Need-continuation-requires
 continuation-requires c κs = search rules
 
-enum-known-k : tie.Need-enum-known-k
+enum-known-k : tie.Need-enum_known-k
 enum-known-k c = search rules
 
 -- the call goes on at k
-continued : (c : tie.After-k) → let a = c.before.before.before.before.before.before.before.before.before.before.args in continuation_of (kind (flow_of a.file.now) a.c.0) ≡ some c.k.given.0.0.0
-continued c = continues-to _ _ (sym c.before.before.continuation.ensures ∙ c.k.given.1)
+continued : (c : tie.In-To) → let a = c.args in continuation_of (kind (flow_of a.file.now) a.c.0) ≡ some c.in-To.k.0
+continued c = continues-to _ _ (sym c.continuation.ensures ∙ c.in-To.is)
 
-note-bodies-requires : tie.Need-note-bodies-requires
+note-bodies-requires : tie.Need-note_bodies-requires
 note-bodies-requires c κs =
-    let start = c.before.before.before.before.before.before.before.before.before.before.before.before in
-    let p = start.requires in
-    let k = c.before.before.k.given.0.0.0 in
-    let e = continued c.before.before in
-    (p.0, p.1, ready-below p.0.ready ((ready_formed p.0.ready).continuation start.args.c.0 k e), p.2.bodies k e, p.3)
+    let p = c.requires in
+    let k = c.in-To.k.0 in
+    let e = continued c.before in
+    (p.0, p.1, ready-below p.0.ready ((ready_formed p.0.ready).continuation c.args.c.0 k e), p.2.bodies k e, p.3)
 
-enum_told : tie.Need-enum-told
+enum_told : tie.Need-enum_told-1
 enum_told c = search rules
 
-same_length : tie.Need-same-length
+same_length : tie.Need-shape_of-work-in-To
 same_length c = search rules
 
-returns-2 : tie.Need-returns-2
+returns-2 : tie.Need-returns-in-To
 returns-2 c =
-    let start = c.before.before.before.before.before.before.before.before.before.before.before.before.before.before.before in
-    let a = start.args in
-    call-opaque a.c.0 c.before.before.before.before.before.k.given.0.0.0 start.requires.2
-    (sym (ap (λ (b : ℕ). get_or a.work.now (b + a.c.0) 0) c.before.before.before.before.before.before.before.before.before.before.before.before.calls.ensures) ∙ c.before.before.before.before.before.before.before.before.before.if1.false) (continued c.before.before.before.before.before) c.before.before.note-bodies.ensures
+    let a = c.args in
+    call-opaque a.c.0 c.in-To.k.0 c.requires.2
+    (sym (ap (λ (b : ℕ). get_or a.work.now (b + a.c.0) 0) c.calls.ensures) ∙ c.if-work-calls-ne-OPAQUE.false) (continued c.before.before.before.before) c.note_bodies.ensures
 
-same-length-2 : tie.Need-same-length-2
+same-length-2 : tie.Need-shape_of-work-in_default
 same-length-2 c = search rules
 
-returns-3 : tie.Need-returns-3
+returns-3 : tie.Need-returns-in_default
 returns-3 c =
-    let a = c.before.before.before.before.before.before.before.before.before.before.args in
-    call_none a.c.0 (continues_nowhere (continuation_of (kind (flow_of a.file.now) a.c.0)) (sym c.before.before.continuation.ensures ∙ c.enum_told.given.1))
+    let a = c.args in
+    call_none a.c.0 (continues_nowhere (continuation_of (kind (flow_of a.file.now) a.c.0)) (sym c.continuation.ensures ∙ c.in_default.is))
 
-pub note-call-spec : {M : Type 1} → statement M
-note-call-spec =
+pub note_call_spec : {M : Type 1} → statement M
+note_call_spec =
     tie.close
     (tie.spec
     calls-requires

@@ -24,25 +24,24 @@ use Rattle.calls.proofs.ReturnSet.{return-set-stays, summarized-stays}
 use Rattle.calls.proofs.returns.note_edges.Statement.{statement}
 use Rattle.calls.proofs.returns.note_edges.Tie as tie
 
-abbrev invariant-loop : tie.invariant-loop
+abbrev invariant-loop : tie.invariant-loop-c
 invariant-loop file h work₀ n c₀ work c = Calling (flow_of file) work₀ work n c
 
-abbrev decreases-loop : tie.decreases-loop
+abbrev decreases-loop : tie.decreases-loop-c
 decreases-loop file h work₀ n c₀ work c = n - c
 
-note-returns-requires : tie.Need-note-returns-requires invariant-loop decreases-loop
-note-returns-requires c κs = c.before.before.before.requires.0.ready
+note-returns-requires : tie.Need-note_returns-requires invariant-loop decreases-loop
+note-returns-requires c κs = c.requires.0.ready
 
-clear-rows-requires : tie.Need-clear-rows-requires invariant-loop decreases-loop
+clear-rows-requires : tie.Need-clear_rows-requires invariant-loop decreases-loop
 clear-rows-requires c κs =
-    let d = c.before.before.before in
-    let s = d.before.before.before.before in
+    let s = c in
     let n = s.args.h.statements in
-    ready-keeps s.requires.0.ready d.note-returns.ensures.1 (omega (arith, row_from n n))
+    ready-keeps s.requires.0.ready c.note_returns.ensures.1 (omega (arith, row_from n n))
 
 -- the RETURNs are noted, and their rows are empty
-module _ (c : tie.After-clear-rows invariant-loop decreases-loop) where
-  abbrev noted : tie.After-note-returns invariant-loop decreases-loop
+module _ (c : tie.After-clear_rows invariant-loop decreases-loop) where
+  abbrev noted : tie.After-note_returns invariant-loop decreases-loop
   noted = c.before.before.before.before
 
   abbrev start : tie.Start invariant-loop decreases-loop
@@ -52,97 +51,92 @@ module _ (c : tie.After-clear-rows invariant-loop decreases-loop) where
   n = start.args.h.statements
 
   abbrev cleared : List ℕ
-  cleared = c.clear-rows.new.1.0
+  cleared = c.clear_rows.new.work
 
   kept : Keeps (matrix_at n) (returns_row_at n + row_words n) start.args.work.now cleared
-  kept = keeps-trans (keeps_widen (omega (arith, row_from n n)) (omega arith) noted.note-returns.ensures.1) (keeps_widen (omega arith) (omega arith) c.clear-rows.ensures.kept)
+  kept = keeps-trans (keeps_widen (omega (arith, row_from n n)) (omega arith) noted.note_returns.ensures.1) (keeps_widen (omega arith) (omega arith) c.clear_rows.ensures.kept)
 
   indexed : Indexed start.args.file.now start.args.h cleared
-  indexed = indexed-keeps start.pre.0 kept (omega arith)
+  indexed = indexed-keeps start.requires.0 kept (omega arith)
 
   return-set : ReturnSet (flow_of start.args.file.now) cleared n
-  return-set = return-set-stays c.clear-rows.ensures.kept (omega arith) noted.note-returns.ensures.0
+  return-set = return-set-stays c.clear_rows.ensures.kept (omega arith) noted.note_returns.ensures.0
 
   summarized : Summarized (flow_of start.args.file.now) cleared n
   summarized =
-      let r = start.pre.0.ready in
+      let r = start.requires.0.ready in
       summarized-stays (ready_formed r) (ready-size r) kept (omega arith)
-      (λ e i l m other. c.clear-rows.ensures.others e i l m (λ a b is. clash _ is other) ∙ row_stays noted.note-returns.ensures.1 (omega arith) l m) start.pre.1
+      (λ e i l m other. c.clear_rows.ensures.others e i l m (λ a b is. clash _ is other) ∙ row_stays noted.note_returns.ensures.1 (omega arith) l m) start.requires.1
 
   free : (r : ℕ) → r < n → is_return (kind (flow_of start.args.file.now) r) ≡ true → EmptyRow cleared n r
   unfolding elem
-  free r l is j m = c.clear-rows.ensures.noted r j (omega arith) l m is
+  free r l is j m = c.clear_rows.ensures.noted r j (omega arith) l m is
 
-loop-holds : tie.Need-loop-init invariant-loop decreases-loop
+loop-holds : tie.Need-loop-c-init invariant-loop decreases-loop
 loop-holds c =
-    let d = c.before.before in
-    calling_start (flow_of (start d).args.file.now) (cleared d) (n d)
+    calling_start (flow_of (start c.before.before).args.file.now) (cleared c.before.before) (n c.before.before)
 
-note-call-requires : tie.Need-note-call-requires invariant-loop decreases-loop
+note-call-requires : tie.Need-note_call-requires invariant-loop decreases-loop
 note-call-requires c κs =
-    let d = c.before.before.before.before.before in
-    let r = (start d).requires.0.ready in
-    let joins = c.before.before.loop.invariant.joins in (
-      indexed-keeps (indexed d) joins.kept (omega arith),
-      c.before.loop-test.true,
-      summary_kept (ready_formed r) (ready-size r) (summarized d) joins c.before.loop-test.true,
-      return-set-stays joins.kept (omega arith) (return-set d),
+    let r = (start c.before.before.before.before.before).requires.0.ready in
+    let joins = c.loop-c.invariant.joins in (
+      indexed-keeps (indexed c.before.before.before.before.before) joins.kept (omega arith),
+      c.loop-c-test.true,
+      summary_kept (ready_formed r) (ready-size r) (summarized c.before.before.before.before.before) joins c.loop-c-test.true,
+      return-set-stays joins.kept (omega arith) (return-set c.before.before.before.before.before),
     )
 
-add-c : tie.Need-overflow-add-c invariant-loop decreases-loop
+add-c : tie.Need-overflow_add-c invariant-loop decreases-loop
 add-c c = omega arith
 
-loop-less : tie.Need-loop-smaller invariant-loop decreases-loop
+loop-less : tie.Need-loop-c-smaller invariant-loop decreases-loop
 loop-less c = omega arith
 
-loop-again : tie.Need-loop-preserved invariant-loop decreases-loop
-loop-again c = calling_on c.before.before.before.before.before.loop.invariant c.before.before.before.before.loop-test.true c.before.before.note-call.ensures
+loop-again : tie.Need-loop-c-preserved invariant-loop decreases-loop
+loop-again c = calling_on c.loop-c.invariant c.loop-c-test.true c.note_call.ensures
 
-note-rows-requires : tie.Need-note-rows-requires invariant-loop decreases-loop
-note-rows-requires c κs = let d = c.before.before.before.before.before in indexed-keeps (indexed d) c.before.before.loop.invariant.joins.kept (omega arith)
+note-rows-requires : tie.Need-note_rows-requires invariant-loop decreases-loop
+note-rows-requires c κs = indexed-keeps (indexed c.before.before.before.before.before) c.loop-c.invariant.joins.kept (omega arith)
 
 -- the rows of the calls are noted
-module _ (c : tie.After-note-rows invariant-loop decreases-loop) where
-  abbrev done : tie.After-clear-rows invariant-loop decreases-loop
+module _ (c : tie.After-note_rows invariant-loop decreases-loop) where
+  abbrev done : tie.After-clear_rows invariant-loop decreases-loop
   done = c.before.before.before.before.before.before
 
-  rows-kept : Keeps (matrix_at (n done)) (solver_at (n done)) (cleared done) c.note-rows.new.1.1.0
-  rows-kept = keeps-trans c.before.before.before.loop.invariant.joins.kept c.note-rows.ensures.kept
+  rows-kept : Keeps (matrix_at (n done)) (solver_at (n done)) (cleared done) c.note_rows.new.work
+  rows-kept = keeps-trans c.loop-c.invariant.joins.kept c.note_rows.ensures.kept
 
-note-leaders-requires : tie.Need-note-leaders-requires invariant-loop decreases-loop
+note-leaders-requires : tie.Need-note_leaders-requires invariant-loop decreases-loop
 note-leaders-requires c κs =
-    let d = c.before.before.before in
-    let k = rows-kept d in
-    (ready-keeps (indexed (done d)).ready k (omega arith), return-set-stays k (omega arith) (return-set (done d)))
+    let k = rows-kept c.before.before.before in
+    (ready-keeps (indexed (done c.before.before.before)).ready k (omega arith), return-set-stays k (omega arith) (return-set (done c.before.before.before)))
 
-note-orders-requires : tie.Need-note-orders-requires invariant-loop decreases-loop
+note-orders-requires : tie.Need-note_orders-requires invariant-loop decreases-loop
 note-orders-requires c κs =
-    let d = c.before.before.before.before.before.before.before in
-    let led = c.before.before.before.note-leaders.ensures.1 in
-    (indexed-keeps (indexed-keeps (indexed (done d)) (rows-kept d) (omega arith)) led (omega arith), summaries_kept (omega arith) led (summaries_kept (omega arith) (rows-kept d) (summarized (done d)).calls))
+    let led = c.note_leaders.ensures.1 in
+    (indexed-keeps (indexed-keeps (indexed (done c.before.before.before.before.before.before.before)) (rows-kept c.before.before.before.before.before.before.before) (omega arith)) led (omega arith), summaries_kept (omega arith) led (summaries_kept (omega arith) (rows-kept c.before.before.before.before.before.before.before) (summarized (done c.before.before.before.before.before.before.before)).calls))
 
-same_length : tie.Need-same-length invariant-loop decreases-loop
-same_length c = let d = c.before.before.before.before.before.before.before.before.before.before in c.before.before.note-orders.ensures.size ∙ c.before.before.before.before.before.before.note-leaders.ensures.1.size ∙ (rows-kept d).size ∙ (kept (done d)).size
+same_length : tie.Need-shape_of-work invariant-loop decreases-loop
+same_length c = c.note_orders.ensures.size ∙ c.note_leaders.ensures.1.size ∙ (rows-kept c.before.before.before.before.before.before.before.before.before.before).size ∙ (kept (done c.before.before.before.before.before.before.before.before.before.before)).size
 
 returns : tie.Need-returns invariant-loop decreases-loop
 returns c =
-    let e = c.before.before.before.before.before.before.before.before.before.before in
-    let turn = e.before.before.before in
-    let d = done e in
+    let turn = c in
+    let d = done c.before.before.before.before.before.before.before.before.before.before in
     let f = flow_of (start d).args.file.now in
     let n = n d in
-    let loop = turn.loop in
-    let led = c.before.before.before.before.before.before.note-leaders.ensures in
-    let orders = c.before.before.note-orders.ensures in
+    let loop = turn.loop-c in
+    let led = c.note_leaders.ensures in
+    let orders = c.note_orders.ensures in
     let all : loop.c ≡ n = omega arith in (
-      linked (ready-size (start d).pre.0.ready) (summarized d) (free d)
-          (subst (λ (m : ℕ). Joins f (cleared d) loop.work n (solver_at n) (λ r k. any (returns_to f r k) (up_to m))) all loop.invariant.joins) e.note-rows.ensures led.1 led.0 orders,
+      linked (ready-size (start d).requires.0.ready) (summarized d) (free d)
+          (subst (λ (m : ℕ). Joins f (cleared d) loop.work n (solver_at n) (λ r k. any (returns_to f r k) (up_to m))) all loop.invariant.joins) c.note_rows.ensures led.1 led.0 orders,
       keeps-trans (keeps_widen (omega arith) (omega arith) (kept d))
-          (keeps-trans (keeps_widen (omega arith) (omega arith) (rows-kept e)) (keeps-trans (keeps_widen (omega arith) (omega (arith, row_from n n)) led.1) (keeps_widen (omega arith) (omega arith) (orders_keep orders)))),
+          (keeps-trans (keeps_widen (omega arith) (omega arith) (rows-kept c.before.before.before.before.before.before.before.before.before.before)) (keeps-trans (keeps_widen (omega arith) (omega (arith, row_from n n)) led.1) (keeps_widen (omega arith) (omega arith) (orders_keep orders)))),
     )
 
-pub note-edges-spec : {M : Type 1} → statement M
-note-edges-spec =
+pub note_edges_spec : {M : Type 1} → statement M
+note_edges_spec =
     tie.close
     (tie.spec
     invariant-loop

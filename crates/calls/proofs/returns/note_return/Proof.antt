@@ -12,36 +12,34 @@ use Rattle.calls.proofs.ReturnSet.{returns-room}
 use Rattle.calls.proofs.returns.note_return.Statement.{statement}
 use Rattle.calls.proofs.returns.note_return.Tie as tie
 
-is-return-requires : tie.Need-is-return-requires
+is-return-requires : tie.Need-is_return-requires
 is-return-requires c κs = search rules
 
-returns-row-requires : tie.Need-returns-row-requires
-returns-row-requires c κs = ready-most c.before.before.before.before.before.before.requires.0
+returns-row-requires : tie.Need-returns_row-requires
+returns-row-requires c κs = ready-most c.requires.0
 
 insert-requires : tie.Need-insert-requires
 insert-requires c κs =
-    let start = c.before.before.before.before.before.before.before in
-    omega (arith, returns-room start.args.n start.requires.0, member-word start.requires.1, c.returns-row.ensures)
+    omega (arith, returns-room c.args.n c.requires.0, member-word c.requires.1, c.returns_row.ensures)
 
-same_length : tie.Need-same-length
+same_length : tie.Need-shape_of-work-then-is_return
 same_length c = search rules
 
-returns : tie.Need-returns
+returns : tie.Need-returns-then-is_return
 returns c =
-    let start = c.before.before.before.before.before.before.before.before.before.before in
-    let a = start.args in
-    let i = c.before.before.insert in
-    rw (sym c.before.before.before.before.before.before.is-return.ensures ∙ c.before.before.before.before.before.if1.true)
-    (adds_insert (subst (λ (b : ℕ). Inserted a.work.now i.new.0 b a.r.0 i.result) c.before.before.before.returns-row.ensures i.ensures) start.requires.1 (returns-room a.n start.requires.0))
+    let a = c.args in
+    let i = c.insert in
+    rw (sym c.is_return.ensures ∙ c.if-is_return.true)
+    (adds_insert (subst (λ (b : ℕ). Inserted a.work.now i.new.ws b a.r.0 i.result) c.returns_row.ensures i.ensures) c.requires.1 (returns-room a.n c.requires.0))
 
-same-length-2 : tie.Need-same-length-2
+same-length-2 : tie.Need-shape_of-work-else-is_return
 same-length-2 c = search rules
 
-returns-2 : tie.Need-returns-2
-returns-2 c = rw (sym c.before.is-return.ensures ∙ c.if1.false) adds_none
+returns-2 : tie.Need-returns-else-is_return
+returns-2 c = rw (sym c.is_return.ensures ∙ c.if-is_return.false) adds_none
 
-pub note-return-spec : {M : Type 1} → statement M
-note-return-spec =
+pub note_return_spec : {M : Type 1} → statement M
+note_return_spec =
     tie.close
     (tie.spec
     is-return-requires

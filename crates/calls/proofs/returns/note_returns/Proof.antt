@@ -16,68 +16,63 @@ use Rattle.calls.proofs.ReturnSet.{returns-room, returns_below, returns-more, re
 use Rattle.calls.proofs.returns.note_returns.Statement.{statement}
 use Rattle.calls.proofs.returns.note_returns.Tie as tie
 
-abbrev invariant-loop : tie.invariant-loop
+abbrev invariant-loop : tie.invariant-loop-r
 invariant-loop file work₀ n r₀ work r = (r ≤ n) × Adds (returns_row_at n) work₀ work n (returns_below (flow_of file) r)
 
-abbrev decreases-loop : tie.decreases-loop
+abbrev decreases-loop : tie.decreases-loop-r
 decreases-loop file work₀ n r₀ work r = n - r
 
-returns-row-requires : tie.Need-returns-row-requires invariant-loop decreases-loop
-returns-row-requires c κs = ready-most c.before.before.before.requires
+returns-row-requires : tie.Need-returns_row-requires invariant-loop decreases-loop
+returns-row-requires c κs = ready-most c.requires
 
-zero-row-requires : tie.Need-zero-row-requires invariant-loop decreases-loop
+zero-row-requires : tie.Need-zero_row-requires invariant-loop decreases-loop
 zero-row-requires c κs =
-    let start = c.before.before.before.before in
-    (ready-most start.requires, omega (arith, returns-room start.args.n start.requires, c.returns-row.ensures))
+    (ready-most c.requires, omega (arith, returns-room c.args.n c.requires, c.returns_row.ensures))
 
 -- the row was emptied, and no other word was written
-module _ (c : tie.After-zero-row invariant-loop decreases-loop) where
+module _ (c : tie.After-zero_row invariant-loop decreases-loop) where
   abbrev start : tie.Start invariant-loop decreases-loop
   start = c.before.before.before.before.before
 
-  emptied : let n = start.args.n in Empty c.zero_row.new.0 n (returns_row_at n) × Keeps (returns_row_at n) (returns_row_at n + row_words n) start.args.work.now c.zero_row.new.0
-  emptied = subst (λ (to : ℕ). Empty c.zero_row.new.0 start.args.n to × Keeps to (to + row_words start.args.n) start.args.work.now c.zero_row.new.0) c.before.returns-row.ensures c.zero_row.ensures
+  emptied : let n = start.args.n in Empty c.zero_row.new.work n (returns_row_at n) × Keeps (returns_row_at n) (returns_row_at n + row_words n) start.args.work.now c.zero_row.new.work
+  emptied = subst (λ (to : ℕ). Empty c.zero_row.new.work start.args.n to × Keeps to (to + row_words start.args.n) start.args.work.now c.zero_row.new.work) c.returns_row.ensures c.zero_row.ensures
 
-loop-holds : tie.Need-loop-init invariant-loop decreases-loop
+loop-holds : tie.Need-loop-r-init invariant-loop decreases-loop
 unfolding concat_map up_to
 loop-holds c = (omega arith, adds_none)
 
-note-return-requires : tie.Need-note-return-requires invariant-loop decreases-loop
+note-return-requires : tie.Need-note_return-requires invariant-loop decreases-loop
 note-return-requires c κs =
-    let d = c.before.before.before.before.before in
-    let n = (start d).args.n in
-    (ready-keeps (start d).requires (keeps-trans (emptied d).1 c.before.before.loop.invariant.1.kept) (omega (arith, row_from n n)), c.before.loop-test.true)
+    let n = (start c.before.before.before.before.before).args.n in
+    (ready-keeps (start c.before.before.before.before.before).requires (keeps-trans (emptied c.before.before.before.before.before).1 c.loop-r.invariant.1.kept) (omega (arith, row_from n n)), c.loop-r-test.true)
 
-add_r : tie.Need-overflow-add-r invariant-loop decreases-loop
+add_r : tie.Need-overflow_add-r invariant-loop decreases-loop
 add_r c = omega arith
 
-loop-less : tie.Need-loop-smaller invariant-loop decreases-loop
+loop-less : tie.Need-loop-r-smaller invariant-loop decreases-loop
 loop-less c = omega arith
 
-loop-again : tie.Need-loop-preserved invariant-loop decreases-loop
+loop-again : tie.Need-loop-r-preserved invariant-loop decreases-loop
 loop-again c =
-    let turn = c.before.before.before.before.before in
-    let d = turn.before.before.before in
-    (omega arith, returns-more (flow_of (start d).args.file.now) turn.loop.r turn.loop.invariant.1 c.before.before.note-return.ensures)
+    let d = c in
+    (omega arith, returns-more (flow_of (start d.before.before.before.before.before.before.before.before).args.file.now) c.loop-r.r c.loop-r.invariant.1 c.note_return.ensures)
 
-same_length : tie.Need-same-length invariant-loop decreases-loop
+same_length : tie.Need-shape_of-work invariant-loop decreases-loop
 same_length c =
-    let d = c.before.before.before.before in
-    c.before.loop.invariant.1.kept.size ∙ (emptied d).1.size
+    c.loop-r.invariant.1.kept.size ∙ (emptied c.before.before.before.before).1.size
 
 returns : tie.Need-returns invariant-loop decreases-loop
 returns c =
-    let d = c.before.before.before.before in
-    let a = (start d).args in
+    let a = (start c.before.before.before.before).args in
     let f = flow_of a.file.now in
-    let added = c.before.loop.invariant.1 in
-    let all : c.before.loop.r ≡ a.n = omega arith in (
-      returns-all f (emptied d).0 (subst (λ (m : ℕ). Adds (returns_row_at a.n) d.zero_row.new.0 c.before.loop.work a.n (returns_below f m)) all added),
-      keeps-trans (emptied d).1 added.kept,
+    let added = c.loop-r.invariant.1 in
+    let all : c.loop-r.r ≡ a.n = omega arith in (
+      returns-all f (emptied c.before.before.before.before).0 (subst (λ (m : ℕ). Adds (returns_row_at a.n) c.zero_row.new.work c.loop-r.work a.n (returns_below f m)) all added),
+      keeps-trans (emptied c.before.before.before.before).1 added.kept,
     )
 
-pub note-returns-spec : {M : Type 1} → statement M
-note-returns-spec =
+pub note_returns_spec : {M : Type 1} → statement M
+note_returns_spec =
     tie.close
     (tie.spec
     invariant-loop

@@ -21,101 +21,99 @@ use Rattle.calls.proofs.Gathered.{word_on, word_past, word_none}
 use Rattle.calls.proofs.returns.note_word.Statement.{statement}
 use Rattle.calls.proofs.returns.note_word.Tie as tie
 
-abbrev invariant-loop : tie.invariant-loop
+abbrev invariant-loop : tie.invariant-loop-rest
 invariant-loop work₀ n word j k rest₀ work rest =
     (length work ≡ length work₀) × (rest < 2 ^ 64) × ((vs : List ℕ) → Gains work vs n (queue_at n) (in_word rest j) k.0 → Gains work₀ vs n (queue_at n) (in_word word j) k.0)
 
-abbrev decreases-loop : tie.decreases-loop
+abbrev decreases-loop : tie.decreases-loop-rest
 decreases-loop work₀ n word j k rest₀ work rest = tally (bit rest) 64
 
-loop-holds : tie.Need-loop-init invariant-loop decreases-loop
-loop-holds c = (refl, c.before.ranges.word.fits, λ vs g. g)
+loop-holds : tie.Need-loop-rest-init invariant-loop decreases-loop
+loop-holds c = (refl, c.ranges.word.fits, λ vs g. g)
 
 -- a turn takes the lowest bit
-module _ (c : tie.In-loop invariant-loop decreases-loop) where
+module _ (c : tie.In-loop-rest invariant-loop decreases-loop) where
   abbrev start : tie.Start invariant-loop decreases-loop
   start = c.before.before.before
 
   abbrev rest : ℕ
-  rest = c.before.loop.rest
+  rest = c.loop-rest.rest
 
   some : 0 < rest
-  some = omega (arith, c.loop-test.true)
+  some = omega (arith, c.loop-rest-test.true)
 
   low : count_trailing_zeros 64 rest < 64
-  low = lowest-lt rest c.before.loop.invariant.1 some
+  low = lowest-lt rest c.loop-rest.invariant.1 some
 
   few : start.args.j < 32
-  few = omega (arith, start.pre.1, row-words-most start.pre.0.few)
+  few = omega (arith, start.requires.1, row-words-most start.requires.0.few)
 
-  room : queue_at start.args.n ≤ length c.before.loop.work
-  room = let p = start.pre in omega (arith, area-fits {n = start.args.n} (omega arith) p.0.few, p.0.room, c.before.loop.invariant.0)
+  room : queue_at start.args.n ≤ length c.loop-rest.work
+  room = let p = start.requires in omega (arith, area-fits {n = start.args.n} (omega arith) p.0.few, p.0.room, c.loop-rest.invariant.0)
 
-cast-lowest : tie.Need-overflow-cast-lowest invariant-loop decreases-loop
+cast-lowest : tie.Need-overflow_cast-lowest invariant-loop decreases-loop
 cast-lowest c = record { fits = lt_of_le_of_lt (trailing_le 64 _) (lit< tt) }
 
-mul-r : tie.Need-overflow-mul-r invariant-loop decreases-loop
+mul-r : tie.Need-overflow_mul-r invariant-loop decreases-loop
 mul-r c = omega (arith, few c)
 
-add_r : tie.Need-overflow-add-r invariant-loop decreases-loop
+add_r : tie.Need-overflow_add-r invariant-loop decreases-loop
 add_r c = omega (arith, few c, low c)
 
-same_length : tie.Need-same-length invariant-loop decreases-loop
-same_length c = c.before.before.loop.invariant.0
+same_length : tie.Need-shape_of-work-then-n-r invariant-loop decreases-loop
+same_length c = c.loop-rest.invariant.0
 
-returns : tie.Need-returns invariant-loop decreases-loop
-returns c = let turn = c.before in turn.before.loop.invariant.2 turn.before.loop.work (gains-none (word_past (rest turn) (start turn).args.j c.if1.true))
+returns : tie.Need-returns-then-n-r invariant-loop decreases-loop
+returns c = c.loop-rest.invariant.2 c.loop-rest.work (gains-none (word_past (rest c.before) (start c.before).args.j c.if-n-r.true))
 
 row-requires : tie.Need-row-requires invariant-loop decreases-loop
-row-requires c κs = ((start c.before.before).pre.0.few, c.before.if1.false)
+row-requires c κs = ((start c.before.before).requires.0.few, c.if-n-r.false)
 
 insert-requires : tie.Need-insert-requires invariant-loop decreases-loop
 insert-requires c κs =
-    let turn = c.before.before.before in
-    omega (arith, room turn, c.row.ensures, row_fits (start turn).args.n c.before.before.if1.false, member-word (start turn).requires.2)
+    omega (arith, room c.before.before.before, c.row.ensures, row_fits (start c.before.before.before).args.n c.if-n-r.false, member-word (start c.before.before.before).requires.2)
 
-shl-difference : tie.Need-overflow-shl-difference invariant-loop decreases-loop
-shl-difference c = let turn = c.before.before.before.before.before.before in omega (arith, low turn)
+shl-difference : tie.Need-overflow_shl-lowest invariant-loop decreases-loop
+shl-difference c = omega (arith, low c.before.before.before.before.before.before)
 
-difference-requires : tie.Need-difference-requires invariant-loop decreases-loop
+difference-requires : tie.Need-difference-rest-requires invariant-loop decreases-loop
 difference-requires c κs = search rules
 
 -- the turn is done
-module _ (c : tie.After-difference invariant-loop decreases-loop) where
-  abbrev turn : tie.In-loop invariant-loop decreases-loop
+module _ (c : tie.After-difference-rest invariant-loop decreases-loop) where
+  abbrev turn : tie.In-loop-rest invariant-loop decreases-loop
   turn = c.before.before.before.before.before.before.before
 
-  without-lowest : c.difference.result ≡ without (rest turn) (2 ^ count_trailing_zeros 64 (rest turn))
-  without-lowest = c.difference.ensures ∙ ap (without (rest turn)) (one_shl (count_trailing_zeros 64 (rest turn)) (low turn))
+  without-lowest : c.difference-rest.result ≡ without (rest turn) (2 ^ count_trailing_zeros 64 (rest turn))
+  without-lowest = c.difference-rest.ensures ∙ ap (without (rest turn)) (one_shl (count_trailing_zeros 64 (rest turn)) (low turn))
 
-loop-less : tie.Need-loop-smaller invariant-loop decreases-loop
+loop-less : tie.Need-loop-rest-smaller invariant-loop decreases-loop
 loop-less c =
     let t = turn c in
-    subst (λ (x : ℕ). tally (bit x) 64 < tally (bit (rest t)) 64) (sym (without-lowest c)) (lowest_less (rest t) t.before.loop.inv.1 (some t))
+    subst (λ (x : ℕ). tally (bit x) 64 < tally (bit (rest t)) 64) (sym (without-lowest c)) (lowest_less (rest t) t.loop-rest.invariant.1 (some t))
 
-loop-again : tie.Need-loop-preserved invariant-loop decreases-loop
+loop-again : tie.Need-loop-rest-preserved invariant-loop decreases-loop
 loop-again c =
     let t = turn c in
     let a = (start t).args in
-    let inv = t.before.loop.inv in
-    let i = c.before.before.before.insert in
-    let row = c.before.before.before.before in
-    let new : Inserted t.before.loop.work i.new.0 _ a.k.0 i.result = subst (λ (b : ℕ). Inserted t.before.loop.work i.new.0 b a.k.0 i.result) row.row.ensures i.ensures in (
-      i.auto.0 ∙ inv.0,
-      c.difference.type-inv,
+    let inv = t.loop-rest.invariant in
+    let i = c.insert in
+    let new : Inserted t.loop-rest.work i.new.ws _ a.k.0 i.result = subst (λ (b : ℕ). Inserted t.loop-rest.work i.new.ws b a.k.0 i.result) c.row.ensures i.ensures in (
+      i.auto.ws ∙ inv.0,
+      c.difference-rest.type_inv,
       λ vs g. inv.2 vs
-          (word_on (rest t) a.j inv.1 (some t) new row.before.before.if1.false (start t).pre.2 (room t)
-          (subst (λ (x : ℕ). Gains i.new.0 vs a.n (queue_at a.n) (in_word x a.j) a.k.0) (without-lowest c) g)),
+          (word_on (rest t) a.j inv.1 (some t) new c.if-n-r.false (start t).requires.2 (room t)
+          (subst (λ (x : ℕ). Gains i.new.ws vs a.n (queue_at a.n) (in_word x a.j) a.k.0) (without-lowest c) g)),
     )
 
-same-length-2 : tie.Need-same-length-2 invariant-loop decreases-loop
-same-length-2 c = c.before.loop.invariant.0
+same-length-2 : tie.Need-shape_of-work invariant-loop decreases-loop
+same-length-2 c = c.loop-rest.invariant.0
 
-returns-2 : tie.Need-returns-2 invariant-loop decreases-loop
-returns-2 c = let l = c.before.loop in l.invariant.2 l.work (gains-none (λ s h. word_none c.before.before.before.args.j c.loop-test.false s))
+returns-2 : tie.Need-returns invariant-loop decreases-loop
+returns-2 c = let l = c.loop-rest in l.invariant.2 l.work (gains-none (λ s h. word_none c.args.j c.loop-rest-test.false s))
 
-pub note-word-spec : {M : Type 1} → statement M
-note-word-spec =
+pub note_word_spec : {M : Type 1} → statement M
+note_word_spec =
     tie.close
     (tie.spec
     invariant-loop

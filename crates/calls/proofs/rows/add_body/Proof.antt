@@ -16,52 +16,50 @@ use Rattle.calls.proofs.Gathered.{row_walked, adds_alone}
 use Rattle.calls.proofs.rows.add_body.Statement.{statement}
 use Rattle.calls.proofs.rows.add_body.Tie as tie
 
-is-return-requires : tie.Need-is-return-requires
+is-return-requires : tie.Need-is_return-requires
 is-return-requires c κs = search rules
 
 row-requires : tie.Need-row-requires
-row-requires c κs = let p = c.before.before.before.before.before.before.requires in (ready-most p.0, p.1)
+row-requires c κs = let p = c.requires in (ready-most p.0, p.1)
 
-row-words-requires : tie.Need-row-words-requires
-row-words-requires c κs = ready-most c.before.before.before.before.before.before.before.requires.0
+row-words-requires : tie.Need-row_words-requires
+row-words-requires c κs = ready-most c.requires.0
 
 union-requires : tie.Need-union-requires
 union-requires c κs =
-    let p = c.before.before.before.before.before.before.before.before.requires in
-    (omega (arith, p.2.high, c.row_words.ensures), omega (arith, c.row_words.ensures, c.before.row.ensures, row_fits _ p.1, ready-room p.0 (omega arith)))
+    let p = c.requires in
+    (omega (arith, p.2.high, c.row_words.ensures), omega (arith, c.row_words.ensures, c.row.ensures, row_fits _ p.1, ready-room p.0 (omega arith)))
 
 insert-requires : tie.Need-insert-requires
-insert-requires c κs = let p = c.before.before.before.before.before.before.requires in omega (arith, p.2.high, member-word p.1)
+insert-requires c κs = let p = c.requires in omega (arith, p.2.high, member-word p.1)
 
-same_length : tie.Need-same-length
+same_length : tie.Need-shape_of-work-then-whole-is_return
 same_length c = search rules
 
-returns : tie.Need-returns
+returns : tie.Need-returns-then-whole-is_return
 returns c =
-    let start = c.before.before.before.before.before.before.before.before.before.before.before in
-    let a = start.args in
+    let a = c.args in
     let f = flow_of a.file.now in
-    let p = start.requires in
-    let ret = c.before.before.before.before.before.before.before.is-return in
-    let is = and_both a.whole (not ret.result) c.before.before.before.before.before.before.if1.true in
-    subst (λ (whole : Bool). Adds a.to a.work.now c.before.before.union.new.0 a.n (body_of f whole a.e.0)) (sym is.0)
-    (adds_union (walked f a.e.0) c.before.before.union.ensures c.before.before.before.before.row.ensures c.before.before.before.row_words.ensures p.1 (p.2.apart is.0) p.2.high
+    let p = c.requires in
+    let ret = c.is_return in
+    let is = and_both a.whole (not ret.result) c.if-whole-is_return.true in
+    subst (λ (whole : Bool). Adds a.to a.work.now c.union.new.ws a.n (body_of f whole a.e.0)) (sym is.0)
+    (adds_union (walked f a.e.0) c.union.ensures c.row.ensures c.row_words.ensures p.1 (p.2.apart is.0) p.2.high
     (row_walked (ready_formed p.0) (ready-size p.0) p.1 (p.3 is.0 (sym ret.ensures ∙ not-true ret.result is.1))))
 
-same-length-2 : tie.Need-same-length-2
+same-length-2 : tie.Need-shape_of-work-else-whole-is_return
 same-length-2 c = search rules
 
-returns-2 : tie.Need-returns-2
+returns-2 : tie.Need-returns-else-whole-is_return
 returns-2 c =
-    let start = c.before.before.before.before.before.before.before.before.before in
-    let a = start.args in
+    let a = c.args in
     let f = flow_of a.file.now in
-    let p = start.requires in
-    let ret = c.before.before.before.before.before.is-return in
-    adds_alone a.whole ret.result c.before.before.before.before.if1.false (ready_formed p.0) (let z = ready-size p.0 in omega arith) ret.ensures (adds_insert c.before.before.insert.ensures p.1 p.2.high)
+    let p = c.requires in
+    let ret = c.is_return in
+    adds_alone a.whole ret.result c.if-whole-is_return.false (ready_formed p.0) (let z = ready-size p.0 in omega arith) ret.ensures (adds_insert c.insert.ensures p.1 p.2.high)
 
-pub add-body-spec : {M : Type 1} → statement M
-add-body-spec =
+pub add_body_spec : {M : Type 1} → statement M
+add_body_spec =
     tie.close
     (tie.spec
     is-return-requires

@@ -20,50 +20,48 @@ use Rattle.calls.proofs.rows.add_line.Tie as tie
 entered-requires : tie.Need-entered-requires
 entered-requires c κs = search rules
 
-enum-known-b : tie.Need-enum-known-b
+enum-known-b : tie.Need-enum_known-b
 enum-known-b c = search rules
 
-add-body-requires : tie.Need-add-body-requires
+add-body-requires : tie.Need-add_body-requires
 add-body-requires c κs =
-    let start = c.before.before.before.before.before.before.before.before in
-    let a = start.args in
-    let p = start.requires in
+    let a = c.args in
+    let p = c.requires in
     let f = flow_of a.file.now in
     let ready = p.0.ready in
-    let b = c.before.before.b.given.0.0.0 in
-    let e = enters-at _ _ (sym c.before.before.before.before.entered.ensures ∙ c.before.before.b.given.1) in (
+    let b = c.in-At.b.0 in
+    let e = enters-at _ _ (sym c.entered.ensures ∙ c.in-At.is) in (
       ready,
       ready-below ready ((ready_formed ready).first (get_or (call_lines (kind f a.c.0)) a.l 0) b e),
       p.3,
       λ w. p.4 w b (entered-line f a.c.0 a.l b p.2 e),
     )
 
-enum_told : tie.Need-enum-told
+enum_told : tie.Need-enum_told-1
 enum_told c = search rules
 
-same_length : tie.Need-same-length
+same_length : tie.Need-shape_of-work-in-At
 same_length c = search rules
 
-returns : tie.Need-returns
+returns : tie.Need-returns-in-At
 returns c =
-    let a = c.before.before.before.before.before.before.before.before.before.before.before.args in
+    let a = c.args in
     let f = flow_of a.file.now in
-    let turn = c.before.before.before.before.before in
-    adds_entered (bodies_of f a.whole) (enters f (get_or (call_lines (kind f a.c.0)) a.l 0)) (sym turn.before.before.entered.ensures ∙ turn.b.given.1)
-    (subst (λ (xs : List ℕ). Adds a.to a.work.now c.before.before.add_body.new.1.0 a.h.statements xs) (sym (bodies-one f a.whole turn.b.given.0.0.0)) c.before.before.add_body.ensures)
+    adds_entered (bodies_of f a.whole) (enters f (get_or (call_lines (kind f a.c.0)) a.l 0)) (sym c.entered.ensures ∙ c.in-At.is)
+    (subst (λ (xs : List ℕ). Adds a.to a.work.now c.add_body.new.work a.h.statements xs) (sym (bodies-one f a.whole c.in-At.b.0)) c.add_body.ensures)
 
-same-length-2 : tie.Need-same-length-2
+same-length-2 : tie.Need-shape_of-work-in_default
 same-length-2 c = search rules
 
-returns-2 : tie.Need-returns-2
+returns-2 : tie.Need-returns-in_default
 unfolding concat_map
 returns-2 c =
-    let a = c.before.before.before.before.before.before.args in
+    let a = c.args in
     let f = flow_of a.file.now in
-    adds_nothing (bodies_of f a.whole) (enters f (get_or (call_lines (kind f a.c.0)) a.l 0)) (sym c.before.before.entered.ensures ∙ c.enum_told.given.1) refl
+    adds_nothing (bodies_of f a.whole) (enters f (get_or (call_lines (kind f a.c.0)) a.l 0)) (sym c.entered.ensures ∙ c.in_default.is) refl
 
-pub add-line-spec : {M : Type 1} → statement M
-add-line-spec =
+pub add_line_spec : {M : Type 1} → statement M
+add_line_spec =
     tie.close
     (tie.spec
     entered-requires

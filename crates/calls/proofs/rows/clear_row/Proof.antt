@@ -15,39 +15,38 @@ use Rattle.calls.proofs.CallRows.{notes_skip, notes_row}
 use Rattle.calls.proofs.rows.clear_row.Statement.{statement}
 use Rattle.calls.proofs.rows.clear_row.Tie as tie
 
-is-return-requires : tie.Need-is-return-requires
+is-return-requires : tie.Need-is_return-requires
 is-return-requires c κs = search rules
 
 row-requires : tie.Need-row-requires
-row-requires c κs = let p = c.before.before.before.before.before.before.requires in (ready-most p.0, p.1)
+row-requires c κs = let p = c.requires in (ready-most p.0, p.1)
 
-zero-row-requires : tie.Need-zero-row-requires
+zero-row-requires : tie.Need-zero_row-requires
 zero-row-requires c κs =
-    let p = c.before.before.before.before.before.before.before.requires in
+    let p = c.requires in
     (ready-most p.0, omega (arith, c.row.ensures, row_fits _ p.1, ready-room p.0 (omega arith)))
 
-same_length : tie.Need-same-length
+same_length : tie.Need-shape_of-work-then-is_return
 same_length c = search rules
 
-returns : tie.Need-returns
+returns : tie.Need-returns-then-is_return
 unfolding elem
 returns c =
-    let start = c.before.before.before.before.before.before.before.before.before.before in
-    let a = start.args in
-    let zeroed = c.before.before.zero_row in
-    let e = c.before.before.before.row.ensures in
-    let is = sym c.before.before.before.before.before.before.is-return.ensures ∙ c.before.before.before.before.before.if1.true in
-    notes_row start.requires.1 is (subst (λ (x : ℕ). Keeps x (x + row_words a.n) a.work.now zeroed.new.0) e zeroed.ensures.1)
-    (subst (λ (x : ℕ). Empty zeroed.new.0 a.n x) e zeroed.ensures.0)
+    let a = c.args in
+    let zeroed = c.zero_row in
+    let e = c.row.ensures in
+    let is = sym c.is_return.ensures ∙ c.if-is_return.true in
+    notes_row c.requires.1 is (subst (λ (x : ℕ). Keeps x (x + row_words a.n) a.work.now zeroed.new.work) e zeroed.ensures.1)
+    (subst (λ (x : ℕ). Empty zeroed.new.work a.n x) e zeroed.ensures.0)
 
-same-length-2 : tie.Need-same-length-2
+same-length-2 : tie.Need-shape_of-work-else-is_return
 same-length-2 c = search rules
 
-returns-2 : tie.Need-returns-2
-returns-2 c = notes_skip (λ is. clash _ is (sym c.before.is-return.ensures ∙ c.if1.false))
+returns-2 : tie.Need-returns-else-is_return
+returns-2 c = notes_skip (λ is. clash _ is (sym c.is_return.ensures ∙ c.if-is_return.false))
 
-pub clear-row-spec : {M : Type 1} → statement M
-clear-row-spec =
+pub clear_row_spec : {M : Type 1} → statement M
+clear_row_spec =
     tie.close
     (tie.spec
     is-return-requires

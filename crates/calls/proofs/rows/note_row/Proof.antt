@@ -23,66 +23,63 @@ use Rattle.calls.proofs.rows.note_row.Statement.{statement}
 use Rattle.calls.proofs.rows.note_row.Tie as tie
 
 calls-requires : tie.Need-calls-requires
-calls-requires c κs = ready-most c.before.before.requires.0.ready
+calls-requires c κs = ready-most c.requires.0.ready
 
-add-if1 : tie.Need-overflow-add-if1
+add-if1 : tie.Need-overflow_add-calls
 add-if1 c = search rules
 
-mul-if1 : tie.Need-overflow-mul-if1
+mul-if1 : tie.Need-offset_bounds-work-calls
 mul-if1 c = search rules
 
-slice-read-if1 : tie.Need-slice-read-if1
+slice-read-if1 : tie.Need-bounds-work-calls
 slice-read-if1 c = search rules
 
-returns : tie.Need-returns
+returns : tie.Need-returns-then-work-calls-ne-TRANSPARENT
 returns c =
-    let a = c.before.before.before.before.before.before.args in
-    notes_skip (λ e. c.if1.true (ap (λ (b : ℕ). get_or a.work.now (b + a.i.0) 0) c.before.before.before.calls.ensures ∙ e))
+    let a = c.args in
+    notes_skip (λ e. c.if-work-calls-ne-TRANSPARENT.true (ap (λ (b : ℕ). get_or a.work.now (b + a.i.0) 0) c.calls.ensures ∙ e))
 
-row-requires : tie.Need-row-requires
-row-requires c κs = let p = c.before.before.before.before.before.before.requires in (ready-most p.0.ready, p.1)
+row-requires : tie.Need-row-row-requires
+row-requires c κs = let p = c.requires in (ready-most p.0.ready, p.1)
 
 -- the row lies in the matrix
-inside : (c : tie.After-row) → let a = c.before.before.before.before.before.before.before.args in c.row.result + row_words a.h.statements ≤ length a.work.now
+inside : (c : tie.After-row-row) → let a = c.args in c.row-row.result + row_words a.h.statements ≤ length a.work.now
 inside c =
-    let p = c.before.before.before.before.before.before.before.requires in
-    omega (arith, c.row.ensures, row_fits _ p.1, ready-room p.0.ready (omega arith))
+    let p = c.requires in
+    omega (arith, c.row-row.ensures, row_fits _ p.1, ready-room p.0.ready (omega arith))
 
-zero-row-requires : tie.Need-zero-row-requires
-zero-row-requires c κs = (ready-most c.before.before.before.before.before.before.before.before.requires.0.ready, inside c.before)
+zero-row-requires : tie.Need-zero_row-requires
+zero-row-requires c κs = (ready-most c.requires.0.ready, inside c.before)
 
-add-lines-requires : tie.Need-add-lines-requires
+add-lines-requires : tie.Need-add_lines-requires
 add-lines-requires c κs =
-    let row = c.before.before.before.before.before in
-    let start = row.before.before.before.before.before.before.before in
+    let start = c in
     let n = start.args.h.statements in
-    let kept = c.before.before.before.zero_row.ensures.1 in
-    let low : calls_at n ≤ row.row.result = omega (arith, row.row.ensures, row_from n start.args.i.0) in
-    (indexed-keeps start.requires.0 kept (omega arith), start.requires.1, record { low = low; high = omega (arith, inside row, kept.size); apart = λ w. clash false w refl }, λ w. clash false w refl)
+    let kept = c.zero_row.ensures.1 in
+    let low : calls_at n ≤ c.row-row.result = omega (arith, c.row-row.ensures, row_from n start.args.i.0) in
+    (indexed-keeps start.requires.0 kept (omega arith), start.requires.1, record { low = low; high = omega (arith, inside c.before.before.before.before.before, kept.size); apart = λ w. clash false w refl }, λ w. clash false w refl)
 
-same_length : tie.Need-same-length
+same_length : tie.Need-shape_of-work
 same_length c = search rules
 
-returns-2 : tie.Need-returns-2
+returns-2 : tie.Need-returns
 returns-2 c =
-    let row = c.before.before.before.before.before.before.before.before in
-    let calls = row.before.before.before.before in
-    let start = calls.before.before.before in
-    let a = start.args in
+    let calls = c in
+    let a = calls.args in
     let f = flow_of a.file.now in
     let ws = a.work.now in
     let n = a.h.statements in
     let i = a.i.0 in
-    let us = c.before.before.before.before.before.before.zero_row.new.0 in
-    let vs = c.before.before.add-lines.new.1.1.0 in
-    let e = row.row.ensures in
-    let zeroed = c.before.before.before.before.before.before.zero_row.ensures in
-    let state = sym (ap (λ (b : ℕ). get_or ws (b + i) 0) calls.calls.ensures) ∙ row.before.if1.false in
-    let adds : Adds (row_at n i) us vs n (entered f i) = subst₂ (λ (x : ℕ) (xs : List ℕ). Adds x us vs n xs) e (bodies-alone f (entered f i)) c.before.before.add-lines.ensures in
-    notes_row start.requires.1 state (keeps-trans (subst (λ (x : ℕ). Keeps x (x + row_words n) ws us) e zeroed.1) adds.kept) (adds_all (subst (λ (x : ℕ). Empty us n x) e zeroed.0) adds)
+    let us = c.zero_row.new.work in
+    let vs = c.add_lines.new.work in
+    let e = c.row-row.ensures in
+    let zeroed = c.zero_row.ensures in
+    let state = sym (ap (λ (b : ℕ). get_or ws (b + i) 0) calls.calls.ensures) ∙ c.if-work-calls-ne-TRANSPARENT.false in
+    let adds : Adds (row_at n i) us vs n (entered f i) = subst₂ (λ (x : ℕ) (xs : List ℕ). Adds x us vs n xs) e (bodies-alone f (entered f i)) c.add_lines.ensures in
+    notes_row calls.requires.1 state (keeps-trans (subst (λ (x : ℕ). Keeps x (x + row_words n) ws us) e zeroed.1) adds.kept) (adds_all (subst (λ (x : ℕ). Empty us n x) e zeroed.0) adds)
 
-pub note-row-spec : {M : Type 1} → statement M
-note-row-spec =
+pub note_row_spec : {M : Type 1} → statement M
+note_row_spec =
     tie.close
     (tie.spec
     calls-requires

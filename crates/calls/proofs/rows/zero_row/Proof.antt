@@ -15,25 +15,24 @@ use Rattle.statements.proofs.Keeps.{keeps-zeroed}
 use Rattle.calls.proofs.rows.zero_row.Statement.{statement}
 use Rattle.calls.proofs.rows.zero_row.Tie as tie
 
-row-words-requires : tie.Need-row-words-requires
+row-words-requires : tie.Need-row_words-requires
 row-words-requires c κs = search rules
 
-zero-row-requires : tie.Need-zero-row-requires
+zero-row-requires : tie.Need-zero_row-requires
 zero-row-requires c κs = search rules
 
-same_length : tie.Need-same-length
+same_length : tie.Need-shape_of-work
 same_length c = search rules
 
 returns : tie.Need-returns
 returns c =
-    let start = c.before.before.before.before.before.before in
-    let ws = start.args.work.now in
-    let n = start.args.n in
-    let to = start.args.to in
-    let slice : c.before.before.zero_row.new.0 ≡ zeroed ws to (row_words n) = c.before.before.zero_row.ensures ∙ ap (zeroed ws to) c.before.before.before.row_words.ensures in (
-      λ j l. ap (λ (vs : List ℕ). has vs to j) slice ∙ zeroed-has ws to (row_words n) start.requires.1 j (omega (arith, row-holds n)),
+    let ws = c.args.work.now in
+    let n = c.args.n in
+    let to = c.args.to in
+    let slice : c.zero_row.new.ws ≡ zeroed ws to (row_words n) = c.zero_row.ensures ∙ ap (zeroed ws to) c.row_words.ensures in (
+      λ j l. ap (λ (vs : List ℕ). has vs to j) slice ∙ zeroed-has ws to (row_words n) c.requires.1 j (omega (arith, row-holds n)),
       subst (λ (vs : List ℕ). Keeps to (to + row_words n) ws vs) (sym slice) (keeps-zeroed ws to (row_words n) (omega arith) (omega arith)),
     )
 
-pub zero-row-spec : {M : Type 1} → statement M
-zero-row-spec = tie.close (tie.spec row-words-requires zero-row-requires same_length returns)
+pub zero_row_spec : {M : Type 1} → statement M
+zero_row_spec = tie.close (tie.spec row-words-requires zero-row-requires same_length returns)

@@ -12,59 +12,58 @@ use Rattle.calls.specs.Clauses.Held.{transparent}
 use Rattle.calls.proofs.summary.join_body.Statement.{statement}
 use Rattle.calls.proofs.summary.join_body.Tie as tie
 
-statement-count-requires : tie.Need-statement-count-requires
+statement-count-requires : tie.Need-statement_count-n-requires
 statement-count-requires c κs = search rules
 
 bodies-requires : tie.Need-bodies-requires
 bodies-requires c κs = search rules
 
-add-opaque-body : tie.Need-overflow-add-opaque-body
+add-opaque-body : tie.Need-overflow_add-opaque_body
 add-opaque-body c = search rules
 
-mul-opaque-body : tie.Need-overflow-mul-opaque-body
+mul-opaque-body : tie.Need-offset_bounds-work-bodies
 mul-opaque-body c = search rules
 
-slice-read-opaque-body : tie.Need-slice-read-opaque-body
+slice-read-opaque-body : tie.Need-bounds-work-bodies
 slice-read-opaque-body c = search rules
 
 touched-requires : tie.Need-touched-requires
 touched-requires c κs = search rules
 
-add-inner : tie.Need-overflow-add-inner
+add-inner : tie.Need-overflow_add-inner
 add-inner c = search rules
 
-mul-inner : tie.Need-overflow-mul-inner
+mul-inner : tie.Need-offset_bounds-work-touched
 mul-inner c = search rules
 
-slice-read-inner : tie.Need-slice-read-inner
+slice-read-inner : tie.Need-bounds-work-touched
 slice-read-inner c = search rules
 
-call-touched-requires : tie.Need-call-touched-requires
+call-touched-requires : tie.Need-call_touched-requires
 call-touched-requires c κs = search rules
 
-add-union-word : tie.Need-overflow-add-union-word
+add-union-word : tie.Need-overflow_add-call_touched
 add-union-word c = search rules
 
-union-word-requires : tie.Need-union-word-requires
+union-word-requires : tie.Need-union_word-requires
 union-word-requires c κs = search rules
 
-same_length : tie.Need-same-length
+same_length : tie.Need-shape_of-work
 same_length c = search rules
 
 returns : tie.Need-returns
 returns c =
-    let read = c.before.before.before.before.before.before.before.before.before.before.before.before in
-    let a = read.before.before.before.args in
+    let a = c.args in
     let ws = a.work.now in
-    let e = read.statement-count.ensures.0 in
+    let e = c.statement_count-n.ensures.0 in
     record {
-      slice = c.before.before.union-word.ensures.slice
-          ∙ ap₂ (λ (x y : ℕ). joined ws (x + a.c.0) (get_or ws (y + a.b.0) 0)) (c.before.before.before.before.call-touched.ensures ∙ ap call_touched_at e) (c.before.before.before.before.before.before.before.before.touched.ensures ∙ ap touched_at e);
-      state = ap (λ (x : ℕ). not (eqb (get_or ws (x + a.b.0) 0) transparent)) (c.before.before.before.before.before.before.before.before.before.before.before.bodies.ensures ∙ ap bodies_at e);
+      slice = c.union_word.ensures.slice
+          ∙ ap₂ (λ (x y : ℕ). joined ws (x + a.c.0) (get_or ws (y + a.b.0) 0)) (c.call_touched.ensures ∙ ap call_touched_at e) (c.touched.ensures ∙ ap touched_at e);
+      state = ap (λ (x : ℕ). not (eqb (get_or ws (x + a.b.0) 0) transparent)) (c.bodies.ensures ∙ ap bodies_at e);
     }
 
-pub join-body-spec : {M : Type 1} → statement M
-join-body-spec =
+pub join_body_spec : {M : Type 1} → statement M
+join_body_spec =
     tie.close
     (tie.spec
     statement-count-requires

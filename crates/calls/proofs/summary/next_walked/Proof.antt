@@ -10,7 +10,7 @@ use Rattle.calls.proofs.Checked.{row_room, ready-again}
 use Rattle.calls.proofs.summary.next_walked.Statement.{statement}
 use Rattle.calls.proofs.summary.next_walked.Tie as tie
 
-statement-count-requires : tie.Need-statement-count-requires
+statement-count-requires : tie.Need-statement_count-n-requires
 statement-count-requires c κs = search rules
 
 row-requires : tie.Need-row-requires
@@ -18,16 +18,15 @@ row-requires c κs = search rules
 
 next-requires : tie.Need-next-requires
 next-requires c κs =
-    let start = c.before.before.before.before in
-    let e = c.before.statement-count.ensures.0 in
-    omega (arith, c.row.ensures, row_room (ready-again e start.requires.0) {i = start.args.e.0} (rw e start.requires.1))
+    let e = c.statement_count-n.ensures.0 in
+    omega (arith, c.row.ensures, row_room (ready-again e c.requires.0) {i = c.args.e.0} (rw e c.requires.1))
 
 returns : tie.Need-returns
 returns c =
-    let a = c.before.before.before.before.before.args in
+    let a = c.args in
     c.next.ensures
-    ∙ ap (λ (x : ℕ). next_member a.work.now x a.from c.before.before.statement-count.result) c.before.row.ensures
-    ∙ ap (λ (n : ℕ). next_member a.work.now (row_at n a.e.0) a.from n) c.before.before.statement-count.ensures.0
+    ∙ ap (λ (x : ℕ). next_member a.work.now x a.from c.statement_count-n.result) c.row.ensures
+    ∙ ap (λ (n : ℕ). next_member a.work.now (row_at n a.e.0) a.from n) c.statement_count-n.ensures.0
 
-pub next-walked-spec : {M : Type 1} → statement M
-next-walked-spec = tie.close (tie.spec statement-count-requires row-requires next-requires returns)
+pub next_walked_spec : {M : Type 1} → statement M
+next_walked_spec = tie.close (tie.spec statement-count-requires row-requires next-requires returns)

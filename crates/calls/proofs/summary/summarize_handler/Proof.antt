@@ -12,39 +12,38 @@ use borrow.Author.Rules.{rules}
 use Rattle.calls.proofs.summary.summarize_handler.Statement.{statement}
 use Rattle.calls.proofs.summary.summarize_handler.Tie as tie
 
-enum-known-handler : tie.Need-enum-known-handler
+enum-known-handler : tie.Need-enum_known-handler
 enum-known-handler c = search rules
 
 -- the flow's handler
-told : (c : tie.After-handler) → (flow_of c.before.before.before.before.args.file.now).handler ≡ some c.handler.given.0.0.0
-told c = handler-at c.before.before.before.before.requires.0 c.handler.given.0.0 c.handler.given.1
+told : (c : tie.In-At) → (flow_of c.args.file.now).handler ≡ some c.in-At.e.0
+told c = handler-at c.requires.0 c.in-At.e c.in-At.is
 
-sub-effect-requires : tie.Need-sub-effect-requires
+sub-effect-requires : tie.Need-sub_effect-requires
 sub-effect-requires c κs =
-    let s = c.before.before.before.before.before.before in
-    let f = flow_of s.args.file.now in
-    let n : ℕ = s.args.h.statements in
-    let e : ℕ = c.before.before.handler.given.0.0.0 in
-    let r = s.requires.0.ready in (
-      located s.requires.0,
-      rw (← r.count) (handler-low (ready_formed r) (ready-size r) e (told c.before.before)),
-      rw (← r.count) (fresh-summing s.requires.1 f),
-      rw (← r.count) (leads_any s.requires.1 f (onward-refl s.args.work.now n n) e),
+    let f = flow_of c.args.file.now in
+    let n : ℕ = c.args.h.statements in
+    let e : ℕ = c.in-At.e.0 in
+    let r = c.requires.0.ready in (
+      located c.requires.0,
+      rw (← r.count) (handler-low (ready_formed r) (ready-size r) e (told c.before)),
+      rw (← r.count) (fresh-summing c.requires.1 f),
+      rw (← r.count) (leads_any c.requires.1 f (onward-refl c.args.work.now n n) e),
     )
 
-enum_told : tie.Need-enum-told
+enum_told : tie.Need-enum_told-1
 enum_told c = search rules
 
-same_length : tie.Need-same-length
+same_length : tie.Need-shape_of-work
 same_length c = search rules
 
-returns : tie.Need-returns
-returns c = handler-body (told c.before.before.before.before.before) (rw (← c.before.before.before.before.before.before.before.before.before.requires.0.ready.count) at c.before.before.sub_effect.ensures)
+returns : tie.Need-returns-in-At
+returns c = handler-body (told c.before.before.before.before) (rw (← c.requires.0.ready.count) at c.sub_effect.ensures)
 
-returns-2 : tie.Need-returns-2
-returns-2 c = no_handler c.before.before.before.before.requires.1 (handler-none c.before.before.before.before.requires.0 c.enum_told.given.1)
+returns-2 : tie.Need-returns-in_default
+returns-2 c = no_handler c.requires.1 (handler-none c.requires.0 c.in_default.is)
 
-pub summarize-handler-spec : {M : Type 1} → statement M
-summarize-handler-spec =
+pub summarize_handler_spec : {M : Type 1} → statement M
+summarize_handler_spec =
     tie.close
     (tie.spec enum-known-handler sub-effect-requires enum_told same_length returns returns-2)

@@ -70,8 +70,11 @@ loop-again c =
     let loop = c.loop-c in
     let n = a.h.statements in
     let bodies : List ℕ → Bool → Type 0 = λ z b. BodiesUpTo (flow_of a.file.now) a.work.now z n (loop.c + 1) b in
-    elim c.match-gosub_body.branch [ lts.in-At w ↦ subst₂ bodies (sym (w.work-is ∙ ap (λ x. set loop.work (x + loop.c) (w.in-At.b.0 + 1)) w.sure.ensures)) (sym w.found-is)
-    (body-noted loop.invariant (omega arith) (omega (arith, c.requires.0.ready.room, loop.invariant.kept.size)) (found-body (record { before = c.before; in-At = w.in-At }))) | lts.in_default w ↦ subst₂ bodies (sym w.work-is) (sym w.found-is) (body-missing loop.invariant (omega arith) (enters-nothing _ (sym c.gosub_body.ensures ∙ w.in_default.is))) ]
+    elim c.match-gosub_body.branch [
+      | lts.in-At w ↦ subst₂ bodies (sym (w.work-is ∙ ap (λ x. set loop.work (x + loop.c) (w.in-At.b.0 + 1)) w.sure.ensures)) (sym w.found-is)
+          (body-noted loop.invariant (omega arith) (omega (arith, c.requires.0.ready.room, loop.invariant.kept.size)) (found-body (record { before = c.before; in-At = w.in-At })))
+      | lts.in_default w ↦ subst₂ bodies (sym w.work-is) (sym w.found-is) (body-missing loop.invariant (omega arith) (enters-nothing _ (sym c.gosub_body.ensures ∙ w.in_default.is)))
+    ]
 
 same_length : tie.Need-shape_of-work invariant-loop decreases-loop
 same_length c = c.loop-c.invariant.kept.size

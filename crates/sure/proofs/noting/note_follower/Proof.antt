@@ -24,10 +24,13 @@ used c =
     let a = c.args in
     let ws = a.work.now in
     let at = c.first-at.ensures in
-    elim c.if-noted-lt-MORE.branch [ lts.then-noted-lt-MORE w ↦ let low : get_or ws (first_at a.n a.j.0) 0 < more = subst (λ x. get_or ws x 0 < more) at w.if-noted-lt-MORE.true in
-    let row : w.zero_row.new.ws ≡ zeroed ws (row_at a.n a.j.0) (row_words a.n) = w.zero_row.ensures ∙ ap₂ (zeroed ws) c.row-row.ensures w.row_words.ensures in
-    subst (λ z. InUse ws z a.n a.j.0) (sym (w.work-is ∙ ap (λ x. set w.zero_row.new.ws x (get_or ws x 0 + more)) at)) (used-first c.requires.1 c.requires.2 low row) | lts.else-noted-lt-MORE w ↦ let high : more ≤ get_or ws (first_at a.n a.j.0) 0 = subst (λ x. more ≤ get_or ws x 0) at (omega (arith, w.if-noted-lt-MORE.false)) in
-    subst (λ z. InUse ws z a.n a.j.0) (sym w.work-is) (used_already high) ]
+    elim c.if-noted-lt-MORE.branch [
+      | lts.then-noted-lt-MORE w ↦ let low : get_or ws (first_at a.n a.j.0) 0 < more = subst (λ x. get_or ws x 0 < more) at w.if-noted-lt-MORE.true in
+          let row : w.zero_row.new.ws ≡ zeroed ws (row_at a.n a.j.0) (row_words a.n) = w.zero_row.ensures ∙ ap₂ (zeroed ws) c.row-row.ensures w.row_words.ensures in
+          subst (λ z. InUse ws z a.n a.j.0) (sym (w.work-is ∙ ap (λ x. set w.zero_row.new.ws x (get_or ws x 0 + more)) at)) (used-first c.requires.1 c.requires.2 low row)
+      | lts.else-noted-lt-MORE w ↦ let high : more ≤ get_or ws (first_at a.n a.j.0) 0 = subst (λ x. more ≤ get_or ws x 0) at (omega (arith, w.if-noted-lt-MORE.false)) in
+          subst (λ z. InUse ws z a.n a.j.0) (sym w.work-is) (used_already high)
+    ]
 
 first-requires : tie.Need-first-at-requires
 first-requires c κs = search rules
