@@ -42,6 +42,7 @@ module _ {S : Type 0} (step : S → ℕ → S) (Taken : ℕ → S → Type 0) (t
   stays_all s x (y ∷ l) t = stays_all (step s y) x l (stays s x y t)
 
   taken : (s : S) {x : ℕ} (l : List ℕ) → In x l → Taken x (foldl step s l)
+  taken s {x = x} [] m = elim m [ ]
   taken s {x} (y ∷ l) m = member-cases m (λ e. stays_all (step s y) x l (subst (λ (z : ℕ). Taken x (step s z)) e (takes s x))) (taken (step s y) l)
 
   joined : (s : S) (l : List ℕ) (x : ℕ) → foldl step s (join l x) ≡ step (foldl step s l) x

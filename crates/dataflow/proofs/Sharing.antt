@@ -126,6 +126,7 @@ left-In (suc c) (some y ∷ xs) m = Memᴰ.tail (left-In c xs m)
 carried-holds : (f : Flow) (ws : List ℕ) (w : ℕ) (from : Bool → ℕ) (t a : ℕ) {x : Edge} (xs : List Edge) → In x xs → number f x.to ≡ t
     → bit_or (carried f ws w from xs t a) (mask_at ws w (from x.continues) a) ≡ carried f ws w from xs t a
 unfolding carried
+carried-holds f ws w from t a {x = x} [] m q = elim m [ ]
 carried-holds f ws w from t a {x} (y ∷ ys) (Memᴰ.head e) q =
     let row : ℕ = mask_at ws w (from x.continues) a in
     let rest : ℕ = carried f ws w from ys t a in

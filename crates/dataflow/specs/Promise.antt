@@ -42,7 +42,7 @@ pub record Unsolved (f : Flow) (masks : List ℕ) (visits : ℕ) : Type 0 where
   pub mask_bytes : (i a : ℕ) → i < size f → a < f.arrays → get_or masks (i * f.arrays + a) 0 ≡ any_state
 
 -- what an accepted call has written
-pub record Answered (f : Flow) (masks masks' live_in live_in' live_out live_out' work work' : List ℕ) (visits : ℕ) : Type 0 where
+pub record Answered (f : Flow) (masks masks' ins ins' outs outs' work work' : List ℕ) (visits : ℕ) : Type 0 where
   -- term 1: the queue rule, unless the handler's body is opaque; within the bound
   pub solved : (OpaqueHandler f → ⊥) → Solved f masks' visits
   pub unsolved : OpaqueHandler f → Unsolved f masks' visits
@@ -50,16 +50,16 @@ pub record Answered (f : Flow) (masks masks' live_in live_in' live_out live_out'
   -- all other bytes
   pub masks_size : length masks' ≡ length masks
   pub masks_kept : (x : ℕ) → size f * f.arrays ≤ x → get_or masks' x 0 ≡ get_or masks x 0
-  pub live_in : Written (size f) (live_in_word f) live_in live_in'
-  pub live_out : Written (size f) (live_out_word f) live_out live_out'
+  pub live_in : Written (size f) (live_in_word f) ins ins'
+  pub live_out : Written (size f) (live_out_word f) outs outs'
   pub work_zero : work' ≡ replicate (length work) 0
   -- term 2: the walks, unless the handler's body is opaque; 0 to 7
   pub walked : (OpaqueHandler f → ⊥) → Walked f masks'
   pub below : (i a : ℕ) → i < size f → a < f.arrays → get_or masks' (i * f.arrays + a) 0 < 8
-  pub live_in_sound : (i x : ℕ) → i < size f → x < f.names → member (get_or live_in' i 0) x ≡ true → LiveIn f x i
-  pub live_in_complete : (i x : ℕ) → i < size f → x < f.names → LiveIn f x i → member (get_or live_in' i 0) x ≡ true
-  pub live_out_sound : (i x : ℕ) → i < size f → x < f.names → member (get_or live_out' i 0) x ≡ true → LiveOut f x i
-  pub live_out_complete : (i x : ℕ) → i < size f → x < f.names → LiveOut f x i → member (get_or live_out' i 0) x ≡ true
+  pub live_in_sound : (i x : ℕ) → i < size f → x < f.names → member (get_or ins' i 0) x ≡ true → LiveIn f x i
+  pub live_in_complete : (i x : ℕ) → i < size f → x < f.names → LiveIn f x i → member (get_or ins' i 0) x ≡ true
+  pub live_out_sound : (i x : ℕ) → i < size f → x < f.names → member (get_or outs' i 0) x ≡ true → LiveOut f x i
+  pub live_out_complete : (i x : ℕ) → i < size f → x < f.names → LiveOut f x i → member (get_or outs' i 0) x ≡ true
   -- term 3, about the bytes just written: for every list of moves from the entry, key presses included
   pub runs : Listed f → (x : Config) → Run f x → (a : ℕ) → a < f.arrays → holds (get_or masks' (x.stmt * f.arrays + a) 0) (x.states a) ≡ true
 

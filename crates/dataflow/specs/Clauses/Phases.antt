@@ -46,10 +46,10 @@ pub record MasksFound (f : Flow) (masks masks' : List ℕ) (visits : ℕ) : Type
   pub masks_size : length masks' ≡ length masks
   pub masks_kept : (x : ℕ) → size f * f.arrays ≤ x → get_or masks' x 0 ≡ get_or masks x 0
 
-pub record Findings (f : Flow) (masks masks' live_in live_in' live_out live_out' : List ℕ) (visits : ℕ) : Type 0 where
+pub record Findings (f : Flow) (masks masks' ins ins' outs outs' : List ℕ) (visits : ℕ) : Type 0 where
   pub found : MasksFound f masks masks' visits
-  pub live_in : Written (size f) (live_in_word f) live_in live_in'
-  pub live_out : Written (size f) (live_out_word f) live_out live_out'
+  pub live_in : Written (size f) (live_in_word f) ins ins'
+  pub live_out : Written (size f) (live_out_word f) outs outs'
 
 -- the calls have their summaries, and the solver's words are still zero
 pub record SummariesMade (s : List ℕ) (h : Header) (ws : List ℕ) : Type 0 where

@@ -25,10 +25,10 @@ use borrow.Author.Rules.{rules}
 use Rattle.dataflow.proofs.arrays.array_states.Statement.{statement}
 use Rattle.dataflow.proofs.arrays.array_states.Tie as tie
 
-abbrev invariant-loop : tie.invariant-loop
+abbrev invariant-loop : tie.invariant-loop-queue
 invariant-loop file h work₀ n width queue₀ visits₀ work queue visits = Running (flow_of file) n width work₀ work queue visits
 
-abbrev decreases-loop : tie.decreases-loop
+abbrev decreases-loop : tie.decreases-loop-queue
 decreases-loop file h work₀ n width queue₀ visits₀ work queue visits = visit_bound (doubled (flow_of file)) - visits
 
 -- what the header says
@@ -43,14 +43,13 @@ few : (c : tie.Start invariant-loop decreases-loop) → (flow_of c.args.file.now
 few c = omega (arith, count c)
 
 -- the width is that of the flow
-narrow : (c : tie.After-set-words invariant-loop decreases-loop) → c.set_words.result ≤ max_width
-narrow c = let most = limit c.before.before.before in omega (arith, c.set_words.ensures)
+narrow : (c : tie.After-set_words-width invariant-loop decreases-loop) → c.set_words-width.result ≤ max_width
+narrow c = let most = limit c.before.before.before in omega (arith, c.set_words-width.ensures)
 
 -- the number where the flow is entered
-entry : (c : tie.After-node invariant-loop decreases-loop) → c.node.result.0 ≡ (flow_of c.before.before.before.before.args.file.now).entry
+entry : (c : tie.After-node-entry invariant-loop decreases-loop) → c.node-entry.result.0 ≡ (flow_of c.args.file.now).entry
 entry c =
-    let s = c.before.before.before.before in
-    c.node.ensures ∙ zero-add s.args.h.entry.0 ∙ ap (λ h. h.entry.0) s.requires.0.header ∙ sym (entry_is s.args.file.now)
+    c.node-entry.ensures ∙ zero-add c.args.h.entry.0 ∙ ap (λ h. h.entry.0) c.requires.0.header ∙ sym (entry_is c.args.file.now)
 
 -- the header's entry is a statement
 within : (c : tie.Start invariant-loop decreases-loop) → c.args.h.entry.0 < c.args.h.statements
@@ -59,128 +58,113 @@ within c =
     let h = (well_formed c.requires.0.ready.fit).entry (subst (λ (k : ℕ). 0 < k) (sym size) c.requires.3) in
     omega (arith, ap (λ h. h.entry.0) c.requires.0.header ∙ sym (entry_is c.args.file.now))
 
-below : (c : tie.After-node invariant-loop decreases-loop) → c.node.result.0 < c.before.before.before.before.args.h.statements
+below : (c : tie.After-node-entry invariant-loop decreases-loop) → c.node-entry.result.0 < c.args.h.statements
 below c =
-    let s = c.before.before.before.before in
-    omega (arith, within s, c.node.ensures ∙ zero-add s.args.h.entry.0)
+    omega (arith, within c.before.before.before.before.before, c.node-entry.ensures ∙ zero-add c.args.h.entry.0)
 
-set-words-requires : tie.Need-set-words-requires invariant-loop decreases-loop
+set-words-requires : tie.Need-set_words-width-requires invariant-loop decreases-loop
 set-words-requires c κs = limit c.before.before
 
-node-requires : tie.Need-node-requires invariant-loop decreases-loop
+node-requires : tie.Need-node-entry-requires invariant-loop decreases-loop
 node-requires c κs =
-    let s = c.before.before.before in
-    (ready-most s.requires.0.ready, within s)
+    (ready-most c.requires.0.ready, within c.before.before.before.before)
 
 -- the solver's words are zero, as wide as they are found to be
-unused : (c : tie.After-set-words invariant-loop decreases-loop) → Unused c.before.before.before.args.work.now c.before.before.before.args.h.statements c.set_words.result
-unused c = let s = c.before.before.before in subst (Unused s.args.work.now s.args.h.statements) (sym c.set_words.ensures) s.requires.4
+unused : (c : tie.After-set_words-width invariant-loop decreases-loop) → Unused c.args.work.now c.args.h.statements c.set_words-width.result
+unused c = subst (Unused c.args.work.now c.args.h.statements) (sym c.set_words-width.ensures) c.requires.4
 
 -- and so is the handler's set
-keyed : (c : tie.After-set-words invariant-loop decreases-loop) → KeySet (flow_of c.before.before.before.args.file.now) c.before.before.before.args.work.now c.before.before.before.args.h.statements c.set_words.result
-keyed c = let s = c.before.before.before in subst (KeySet (flow_of s.args.file.now) s.args.work.now s.args.h.statements) (sym c.set_words.ensures) s.requires.2
+keyed : (c : tie.After-set_words-width invariant-loop decreases-loop) → KeySet (flow_of c.args.file.now) c.args.work.now c.args.h.statements c.set_words-width.result
+keyed c = subst (KeySet (flow_of c.args.file.now) c.args.work.now c.args.h.statements) (sym c.set_words-width.ensures) c.requires.2
 
-mask-row-requires : tie.Need-mask-row-requires invariant-loop decreases-loop
+mask-row-requires : tie.Need-mask_row-requires invariant-loop decreases-loop
 mask-row-requires c κs =
-    let s = c.before.before.before.before.before in
-    (ready-most s.requires.0.ready, narrow c.before.before, omega (arith, below c.before))
+    (ready-most c.requires.0.ready, narrow c.before.before.before, omega (arith, below c.before))
 
 begin-requires : tie.Need-begin-requires invariant-loop decreases-loop
 begin-requires c κs =
-    let s = c.before.before.before.before.before.before in
-    let n : ℕ = s.args.h.statements in
-    let w : ℕ = c.before.before.before.set_words.result in
-    let d : ℕ = c.before.before.node.result.0 in
-    let at : c.mask-row.result ≡ mask_row_at n w d = c.mask-row.ensures in
-    let low : back_row n w ≤ c.mask-row.result = let least = row_from n w d in omega arith in
-    let high : c.mask-row.result + 3 * w ≤ nodes_end n w = let fits = row_fits n w {d = d} (omega (arith, below c.before.before)) in omega arith in
-    (c.before.before.before.set_words.ensures, s.requires.0, keyed c.before.before.before, s.requires.3, low, high, unused c.before.before.before)
+    let n : ℕ = c.args.h.statements in
+    let w : ℕ = c.set_words-width.result in
+    let d : ℕ = c.node-entry.result.0 in
+    let at : c.mask_row.result ≡ mask_row_at n w d = c.mask_row.ensures in
+    let low : back_row n w ≤ c.mask_row.result = let least = row_from n w d in omega arith in
+    let high : c.mask_row.result + 3 * w ≤ nodes_end n w = let fits = row_fits n w {d = d} (omega (arith, below c.before.before)) in omega arith in
+    (c.set_words-width.ensures, c.requires.0, keyed c.before.before.before.before, c.requires.3, low, high, unused c.before.before.before.before)
 
 -- the masks of the number where the flow is entered are those at the entry
-entered : (c : tie.After-begin invariant-loop decreases-loop) → let s = c.before.before.before.before.before.before.before in let m = c.before.before.before in
-    Begun (flow_of s.args.file.now) s.args.work.now c.begin.new.1.1.0 s.args.h.statements m.before.set_words.result (mask_row_at s.args.h.statements m.before.set_words.result m.node.result.0)
+entered : (c : tie.After-begin invariant-loop decreases-loop) → Begun (flow_of c.args.file.now) c.args.work.now c.begin.new.work c.args.h.statements c.set_words-width.result (mask_row_at c.args.h.statements c.set_words-width.result c.node-entry.result.0)
 entered c =
-    let s = c.before.before.before.before.before.before.before in
-    subst (λ (row : ℕ). Begun (flow_of s.args.file.now) s.args.work.now c.begin.new.1.1.0 s.args.h.statements c.before.before.before.before.set_words.result row) c.before.mask-row.ensures c.begin.ensures
+    subst (λ (row : ℕ). Begun (flow_of c.args.file.now) c.args.work.now c.begin.new.work c.args.h.statements c.set_words-width.result row) c.mask_row.ensures c.begin.ensures
 
-enqueue-requires : tie.Need-enqueue-requires invariant-loop decreases-loop
+enqueue-requires : tie.Need-enqueue-queue-requires invariant-loop decreases-loop
 enqueue-requires c κs =
-    let s = c.before.before.before.before.before.before.before.before.before.before in
-    let m = c.before.before.before.before.before.before in
-    let n : ℕ = s.args.h.statements in
-    let room = solver_room s.requires.0.ready s.requires.3 (narrow c.before.before.before.before.before.before.before) in
-    let end = nodes-within n c.before.before.before.before.before.before.before.set_words.result in
-    let size = c.before.before.before.begin.ensures.size in (
-      ready-most s.requires.0.ready,
-      narrow c.before.before.before.before.before.before.before,
+    let n : ℕ = c.args.h.statements in
+    let room = solver_room c.requires.0.ready c.requires.3 (narrow c.before.before.before.before.before.before.before.before) in
+    let end = nodes-within n c.set_words-width.result in
+    let size = c.begin.ensures.size in (
+      ready-most c.requires.0.ready,
+      narrow c.before.before.before.before.before.before.before.before,
       omega arith,
-      omega (arith, below m),
-      ([], first-waits (flow_of s.args.file.now) n c.before.before.before.before.before.before.before.set_words.result _ _ m.node.result.0 (ready-size s.requires.0.ready) s.requires.3 (unused c.before.before.before.before.before.before.before) (entry m) (below m) (entered c.before.before.before)),
+      omega (arith, below c.before.before.before.before.before.before),
+      ([], first-waits (flow_of c.args.file.now) n c.set_words-width.result _ _ c.node-entry.result.0 (ready-size c.requires.0.ready) c.requires.3 (unused c.before.before.before.before.before.before.before.before) (entry c.before.before.before.before.before.before) (below c.before.before.before.before.before.before) (entered c.before.before.before)),
     )
 
 -- the area where the visits begin
 
-beside : (c : tie.After-enqueue invariant-loop decreases-loop) → let a = c.before.before.before.before.before.before.before.before.before.before.before.args in Keeps (queue_at a.h.statements) (area_end a.h.statements c.before.before.before.before.before.before.before.before.set_words.result) a.work.now c.enqueue.new.0
+beside : (c : tie.After-enqueue-queue invariant-loop decreases-loop) → let a = c.args in Keeps (queue_at a.h.statements) (area_end a.h.statements c.set_words-width.result) a.work.now c.enqueue-queue.new.work
 beside c =
-    let s = c.before.before.before.before.before.before.before.before.before.before.before in
-    let m = c.before.before.before.before.before.before.before in
-    starts-keeps (flow_of s.args.file.now) s.args.h.statements c.before.before.before.before.before.before.before.before.set_words.result _ _ m.node.result.0 (ready-size s.requires.0.ready) s.requires.3 (unused c.before.before.before.before.before.before.before.before) (entry m) (below m) (entered c.before.before.before.before) _ _ c.enqueue.ensures
+    starts-keeps (flow_of c.args.file.now) c.args.h.statements c.set_words-width.result _ _ c.node-entry.result.0 (ready-size c.requires.0.ready) c.requires.3 (unused c.before.before.before.before.before.before.before.before.before) (entry c.before.before.before.before.before.before.before) (below c.before.before.before.before.before.before.before) (entered c.before.before.before.before) _ _ c.enqueue-queue.ensures
 
-begins : (c : tie.After-enqueue invariant-loop decreases-loop) → let a = c.before.before.before.before.before.before.before.before.before.before.before.args in Running (flow_of a.file.now) a.h.statements c.before.before.before.before.before.before.before.before.set_words.result c.enqueue.new.0 c.enqueue.new.0 c.enqueue.result 0
+begins : (c : tie.After-enqueue-queue invariant-loop decreases-loop) → let a = c.args in Running (flow_of a.file.now) a.h.statements c.set_words-width.result c.enqueue-queue.new.work c.enqueue-queue.new.work c.enqueue-queue.result 0
 begins c =
-    let s = c.before.before.before.before.before.before.before.before.before.before.before in
-    let m = c.before.before.before.before.before.before.before in
-    starts (flow_of s.args.file.now) s.args.h.statements c.before.before.before.before.before.before.before.before.set_words.result _ _ m.node.result.0 (ready-size s.requires.0.ready) s.requires.3 (unused c.before.before.before.before.before.before.before.before) (entry m) (below m) (entered c.before.before.before.before) _ _ c.enqueue.ensures
-    (linked-stays (beside c) s.requires.1)
+    starts (flow_of c.args.file.now) c.args.h.statements c.set_words-width.result _ _ c.node-entry.result.0 (ready-size c.requires.0.ready) c.requires.3 (unused c.before.before.before.before.before.before.before.before.before) (entry c.before.before.before.before.before.before.before) (below c.before.before.before.before.before.before.before) (entered c.before.before.before.before) _ _ c.enqueue-queue.ensures
+    (linked-stays (beside c) c.requires.1)
 
-loop-holds : tie.Need-loop-init invariant-loop decreases-loop
+loop-holds : tie.Need-loop-queue-init invariant-loop decreases-loop
 loop-holds c = begins c.before.before
 
-visit-requires : tie.Need-visit-requires invariant-loop decreases-loop
+visit-requires : tie.Need-visit-queue-requires invariant-loop decreases-loop
 visit-requires c κs =
-    let s = c.before.before.before.before.before.before.before.before.before.before.before.before.before.before.before.before.before in
-    let x = c.before.before.before.loop.invariant in
+    let x = c.loop-queue.invariant in
     let keeps = keeps-trans (beside c.before.before.before.before.before.before) x.keeps in
-    (c.before.before.before.before.before.before.before.before.before.before.before.before.before.before.set_words.ensures, indexed_stays keeps s.requires.0, linked-stays keeps s.requires.1, key-stays keeps (keyed c.before.before.before.before.before.before.before.before.before.before.before.before.before.before), s.requires.3, c.before.if1.true, x.underway)
+    (c.set_words-width.ensures, indexed_stays keeps c.requires.0, linked-stays keeps c.requires.1, key-stays keeps (keyed c.before.before.before.before.before.before.before.before.before.before.before.before.before.before.before), c.requires.3, c.loop-queue-test.true, x.underway)
 
 -- every array of the flow has its place in a set of that width
-wide : (c : tie.After-set-words invariant-loop decreases-loop) → (flow_of c.before.before.before.args.file.now).arrays ≤ 64 * c.set_words.result
-wide c = let all = few c.before.before.before in omega (arith, c.set_words.ensures)
+wide : (c : tie.After-set_words-width invariant-loop decreases-loop) → (flow_of c.args.file.now).arrays ≤ 64 * c.set_words-width.result
+wide c = let all = few c.before.before.before in omega (arith, c.set_words-width.ensures)
 
-bound : (c : tie.Then1 invariant-loop decreases-loop) → c.before.before.loop.visits < visit_bound (doubled (flow_of c.before.before.before.before.before.before.before.before.before.before.before.before.before.before.before.before.args.file.now))
+bound : (c : tie.In-loop-queue invariant-loop decreases-loop) → c.loop-queue.visits < visit_bound (doubled (flow_of c.args.file.now))
 bound c =
-    let s = c.before.before.before.before.before.before.before.before.before.before.before.before.before.before.before.before in
-    let h = running_bound (well_formed s.requires.0.ready.fit) (ready-size s.requires.0.ready) s.requires.3 (wide c.before.before.before.before.before.before.before.before.before.before.before.before.before) c.before.before.loop.visits c.before.before.loop.invariant in
-    let some = c.if1.true in
+    let h = running_bound (well_formed c.requires.0.ready.fit) (ready-size c.requires.0.ready) c.requires.3 (wide c.before.before.before.before.before.before.before.before.before.before.before.before.before.before) c.loop-queue.visits c.loop-queue.invariant in
+    let some = c.loop-queue-test.true in
     omega (arith, h, some)
 
-add-visits : tie.Need-overflow-add-visits invariant-loop decreases-loop
+add-visits : tie.Need-overflow_add-visits invariant-loop decreases-loop
 add-visits c =
     let h = bound c.before.before.before.before in
-    let k = visits-few c.before.before.before.before.before.before.before.before.before.before.before.before.before.before.before.before.before.before.before.before.requires.0.ready in
+    let k = visits-few c.requires.0.ready in
     omega (arith, h, k)
 
-loop-less : tie.Need-loop-smaller invariant-loop decreases-loop
+loop-less : tie.Need-loop-queue-smaller invariant-loop decreases-loop
 loop-less c = let h = bound c.before.before.before.before in omega (arith, h)
 
-loop-again : tie.Need-loop-preserved invariant-loop decreases-loop
+loop-again : tie.Need-loop-queue-preserved invariant-loop decreases-loop
 loop-again c =
-    let x = c.before.before.before.before.before.before.loop.invariant in
-    running_on c.before.before.before.before.before.before.loop.visits x (c.before.before.visit.ensures.0 x.underway) c.before.before.visit.ensures.1
+    let x = c.loop-queue.invariant in
+    running_on c.loop-queue.visits x (c.visit-queue.ensures.0 x.underway) c.visit-queue.ensures.1
 
-same_length : tie.Need-same-length invariant-loop decreases-loop
-same_length c = c.before.before.loop.invariant.keeps.size ∙ (beside c.before.before.before.before.before).size
+same_length : tie.Need-shape_of-work invariant-loop decreases-loop
+same_length c = c.loop-queue.invariant.keeps.size ∙ (beside c.before.before.before.before.before).size
 
 returns : tie.Need-returns invariant-loop decreases-loop
 returns c =
-    let s = c.before.before.before.before.before.before.before.before.before.before.before.before.before.before.before.before in
-    let none = c.if1.false in
-    let x = running_ends (well_formed s.requires.0.ready.fit) (ready-size s.requires.0.ready) s.requires.3 (wide c.before.before.before.before.before.before.before.before.before.before.before.before.before) c.before.before.loop.visits c.before.before.loop.invariant (omega (arith, none)) in
-    subst (λ (w : ℕ). RuleResult (flow_of s.args.file.now) s.args.work.now c.before.before.loop.work s.args.h.statements w c.before.before.loop.visits) c.before.before.before.before.before.before.before.before.before.before.before.before.before.set_words.ensures
+    let none = c.loop-queue-test.false in
+    let x = running_ends (well_formed c.requires.0.ready.fit) (ready-size c.requires.0.ready) c.requires.3 (wide c.before.before.before.before.before.before.before.before.before.before.before.before.before.before) c.loop-queue.visits c.loop-queue.invariant (omega (arith, none)) in
+    subst (λ (w : ℕ). RuleResult (flow_of c.args.file.now) c.args.work.now c.loop-queue.work c.args.h.statements w c.loop-queue.visits) c.set_words-width.ensures
     (record { left = x.left; over = x.over; masks = x.masks; keeps = keeps-trans (beside c.before.before.before.before.before) x.keeps })
 
-pub array-states-spec : {M : Type 1} → statement M
-array-states-spec =
+pub array_states_spec : {M : Type 1} → statement M
+array_states_spec =
     tie.close
     (tie.spec
     invariant-loop

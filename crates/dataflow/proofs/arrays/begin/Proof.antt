@@ -37,62 +37,58 @@ limit : (c : tie.Start) → c.args.h.arrays ≤ max_arrays
 limit c = let most = (limited c.requires.1.ready.fit).arrays in omega (arith, ap (λ h. h.arrays) c.requires.1.header)
 
 -- the row, by the places that were found
-entered : (c : tie.After-reset-row) → let a = c.before.before.before.before.before.before.args in
-    RowSteps a.work.now c.reset-row.new.0 a.width (set_row a.h.statements) a.row (out_row a.h.statements a.width) (λ b. ltb b a.h.arrays) Reset
-entered c = steps-at c.before.before.set-row.ensures refl c.before.out-row.ensures c.reset-row.ensures
+entered : (c : tie.After-reset_row) → let a = c.args in
+    RowSteps a.work.now c.reset_row.new.work a.width (set_row a.h.statements) a.row (out_row a.h.statements a.width) (λ b. ltb b a.h.arrays) Reset
+entered c = steps-at c.set_row.ensures refl c.out_row.ensures c.reset_row.ensures
 
-set-row-requires : tie.Need-set-row-requires
-set-row-requires c κs = ready-most c.before.before.before.requires.1.ready
+set-row-requires : tie.Need-set_row-requires
+set-row-requires c κs = ready-most c.requires.1.ready
 
-out-row-requires : tie.Need-out-row-requires
-out-row-requires c κs = (ready-most c.before.before.before.before.requires.1.ready, narrow c.before.before.before.before)
+out-row-requires : tie.Need-out_row-requires
+out-row-requires c κs = (ready-most c.requires.1.ready, narrow c.before.before.before.before)
 
-reset-row-requires : tie.Need-reset-row-requires
+reset-row-requires : tie.Need-reset_row-requires
 reset-row-requires c κs =
-    let s = c.before.before.before.before.before in
-    (limit s, narrow s, entry-apart s.args.work.now s.args.h.statements s.args.width s.args.row (solver_room s.requires.1.ready s.requires.3 (narrow s)) s.requires.4 s.requires.5 c.before.set-row.ensures c.out-row.ensures)
+    (limit c.before.before.before.before.before, narrow c.before.before.before.before.before, entry-apart c.args.work.now c.args.h.statements c.args.width c.args.row (solver_room c.requires.1.ready c.requires.3 (narrow c.before.before.before.before.before)) c.requires.4 c.requires.5 c.set_row.ensures c.out_row.ensures)
 
-enum_told : tie.Need-enum-told
+enum_told : tie.Need-enum_told-1
 enum_told c = search rules
 
-enum-told-2 : tie.Need-enum-told-2
+enum-told-2 : tie.Need-enum_told-in-At
 enum-told-2 c = search rules
 
-step-key-requires : tie.Need-step-key-requires
+step-key-requires : tie.Need-step_key-requires
 step-key-requires c κs =
-    let s = c.before.before.before.before.before.before.before.before.before.before.before in
-    let n : ℕ = s.args.h.statements in
-    let w : ℕ = s.args.width in
+    let n : ℕ = c.args.h.statements in
+    let w : ℕ = c.args.width in
     let end = nodes-within n w in
-    let high = s.requires.5 in
-    (ready-most s.requires.1.ready, narrow s, omega (arith, key-room s.requires.1.ready s.requires.3 (narrow s), c.before.before.before.before.before.reset-row.ensures.size), omega arith, omega arith, inr refl)
+    let high = c.requires.5 in
+    (ready-most c.requires.1.ready, narrow c.before.before.before.before.before.before.before.before.before.before, omega (arith, key-room c.requires.1.ready c.requires.3 (narrow c.before.before.before.before.before.before.before.before.before.before), c.reset_row.ensures.size), omega arith, omega arith, inr refl)
 
-same_length : tie.Need-same-length
+same_length : tie.Need-shape_of-work-in-None
 same_length c = search rules
 
-returns : tie.Need-returns
+returns : tie.Need-returns-in-None
 returns c =
-    let s = c.before.before.before.before.before.before.before.before.before.before in
-    begun_unkeyed (flow_of s.args.file.now) s.args.h.statements s.args.width s.args.row s.args.work.now c.before.before.before.before.reset-row.new.0 (count s) s.requires.4 s.requires.5 s.requires.6 (entered c.before.before.before.before)
-    (handler-none s.requires.1 c.enum_told.given.1)
+    begun_unkeyed (flow_of c.args.file.now) c.args.h.statements c.args.width c.args.row c.args.work.now c.reset_row.new.work (count c.before.before.before.before.before.before.before.before.before) c.requires.4 c.requires.5 c.requires.6 (entered c.before.before.before)
+    (handler-none c.requires.1 c.in-None.is)
 
-same-length-2 : tie.Need-same-length-2
+same-length-2 : tie.Need-shape_of-work-in-At
 same-length-2 c = search rules
 
-returns-2 : tie.Need-returns-2
+returns-2 : tie.Need-returns-in-At
 returns-2 c =
-    let s = c.before.before.before.before.before.before.before.before.before.before.before.before.before.before in
-    let n : ℕ = s.args.h.statements in
-    let w : ℕ = s.args.width in
-    let us : List ℕ = c.before.before.before.before.before.before.before.before.reset-row.new.0 in
-    let f = flow_of s.args.file.now in
-    let handled = handler-at s.requires.1 c.before.before.before.before.enum-told2.given.0.0 c.before.before.before.before.enum-told2.given.1 in
-    begun_keyed f n w s.args.row s.args.work.now us (count s) s.requires.4 s.requires.5 s.requires.6 (entered c.before.before.before.before.before.before.before.before)
-    c.before.before.step-key.ensures
-    (key_says (key-stays (reset-keeps f n w s.args.row s.args.work.now us (count s) s.requires.4 s.requires.5 s.requires.6 (entered c.before.before.before.before.before.before.before.before)) s.requires.2) handled)
+    let n : ℕ = c.args.h.statements in
+    let w : ℕ = c.args.width in
+    let us : List ℕ = c.reset_row.new.work in
+    let f = flow_of c.args.file.now in
+    let handled = handler-at c.requires.1 c.in-At.field-0 c.in-At.is in
+    begun_keyed f n w c.args.row c.args.work.now us (count c.before.before.before.before.before.before.before.before.before.before.before.before.before) c.requires.4 c.requires.5 c.requires.6 (entered c.before.before.before.before.before.before.before)
+    c.step_key.ensures
+    (key_says (key-stays (reset-keeps f n w c.args.row c.args.work.now us (count c.before.before.before.before.before.before.before.before.before.before.before.before.before) c.requires.4 c.requires.5 c.requires.6 (entered c.before.before.before.before.before.before.before)) c.requires.2) handled)
 
-pub begin-spec : {M : Type 1} → statement M
-begin-spec =
+pub begin_spec : {M : Type 1} → statement M
+begin_spec =
     tie.close
     (tie.spec
     set-row-requires

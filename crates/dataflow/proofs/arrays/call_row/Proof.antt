@@ -7,17 +7,17 @@ use borrow.Author.Rules.{rules}
 use Rattle.dataflow.proofs.arrays.call_row.Statement.{statement}
 use Rattle.dataflow.proofs.arrays.call_row.Tie as tie
 
-back-row-requires : tie.Need-back-row-requires
+back-row-requires : tie.Need-back_row-requires
 back-row-requires c κs = search rules
 
-returns : tie.Need-returns
-returns c = let a = c.before.before.before.before.args in c.back-row.ensures ∙ sym (ap (edge_row a.n a.width) (eq-eqb a.t.0 a.back.0 c.before.if1.true))
+returns : tie.Need-returns-then-t-back
+returns c = let a = c.args in c.back_row.ensures ∙ sym (ap (edge_row a.n a.width) (eq-eqb a.t.0 a.back.0 c.if-t-back.true))
 
-out-row-requires : tie.Need-out-row-requires
+out-row-requires : tie.Need-out_row-requires
 out-row-requires c κs = search rules
 
-returns-2 : tie.Need-returns-2
-returns-2 c = let a = c.before.before.before.before.args in c.out-row.ensures ∙ sym (ap (edge_row a.n a.width) (ne_eqb a.t.0 a.back.0 c.before.if1.false))
+returns-2 : tie.Need-returns
+returns-2 c = let a = c.args in c.out_row.ensures ∙ sym (ap (edge_row a.n a.width) (ne_eqb a.t.0 a.back.0 c.if-t-back.false))
 
-pub call-row-spec : {M : Type 1} → statement M
-call-row-spec = tie.close (tie.spec back-row-requires returns out-row-requires returns-2)
+pub call_row_spec : {M : Type 1} → statement M
+call_row_spec = tie.close (tie.spec back-row-requires returns out-row-requires returns-2)

@@ -26,51 +26,49 @@ use Rattle.dataflow.proofs.arrays.grow_key.Tie as tie
 narrow : (c : tie.Start) → c.args.width ≤ max_width
 narrow c = let most = (limited c.requires.1.ready.fit).arrays in omega (arith, c.requires.0, ap (λ h. h.arrays) c.requires.1.header)
 
-enum-known-handler : tie.Need-enum-known-handler
+enum-known-handler : tie.Need-enum_known-handler
 enum-known-handler c = search rules
 
 -- the flow's handler, which is a statement
 
-told : (c : tie.After-handler) → (flow_of c.before.before.before.before.args.file.now).handler ≡ some c.handler.given.0.0.0
-told c = handler-at c.before.before.before.before.requires.1 c.handler.given.0.0 c.handler.given.1
+told : (c : tie.In-At) → (flow_of c.args.file.now).handler ≡ some c.in-At.e.0
+told c = handler-at c.requires.1 c.in-At.e c.in-At.is
 
-low : (c : tie.After-handler) → c.handler.given.0.0.0 < c.before.before.before.before.args.h.statements
-low c = let r = c.before.before.before.before.requires.1.ready in handler-low (ready_formed r) (ready-size r) _ (told c)
+low : (c : tie.In-At) → c.in-At.e.0 < c.args.h.statements
+low c = let r = c.requires.1.ready in handler-low (ready_formed r) (ready-size r) _ (told c)
 
-mask-row-requires : tie.Need-mask-row-requires
-mask-row-requires c κs = (ready-most c.before.before.before.before.before.before.requires.1.ready, narrow c.before.before.before.before.before.before, c.before.before.before.before.before.before.requires.2)
+mask-row-requires : tie.Need-mask_row-requires
+mask-row-requires c κs = (ready-most c.requires.1.ready, narrow c.before.before.before.before, c.requires.2)
 
 node-requires : tie.Need-node-requires
-node-requires c κs = (ready-most c.before.before.before.before.before.before.before.requires.1.ready, low c.before.before.before)
+node-requires c κs = (ready-most c.requires.1.ready, low c.before.before)
 
 grow-requires : tie.Need-grow-requires
 grow-requires c κs =
-    let s = c.before.before.before.before.before.before.before.before in
-    let below = low c.before.before.before.before in
-    (ready-most s.requires.1.ready, narrow s, nodes-room s.requires.1.ready (omega arith) (narrow s), omega (arith, c.node.ensures), inr (s.args.d.0, s.requires.2, c.before.mask-row.ensures))
+    let below = low c.before.before.before in
+    (ready-most c.requires.1.ready, narrow c.before.before.before.before.before.before, nodes-room c.requires.1.ready (omega arith) (narrow c.before.before.before.before.before.before), omega (arith, c.node.ensures), inr (c.args.d.0, c.requires.2, c.mask_row.ensures))
 
-enum_told : tie.Need-enum-told
+enum_told : tie.Need-enum_told-1
 enum_told c = search rules
 
-same_length : tie.Need-same-length
+same_length : tie.Need-shape_of-work
 same_length c = search rules
 
-returns : tie.Need-returns
+returns : tie.Need-returns-in-At
 returns c =
-    let s = c.before.before.before.before.before.before.before.before.before.before.before in
-    let a = s.args in
+    let a = c.args in
     let f = flow_of a.file.now in
-    let e : ℕ = c.before.before.before.before.before.before.before.handler.given.0.0.0 in
-    let target : c.before.before.before.node.result.0 ≡ number f (at N e) = c.before.before.before.node.ensures ∙ ap (λ (m : ℕ). number_in m (at N e)) (sym (ready-size s.requires.1.ready)) in
-    KeyGrown.keyed (told c.before.before.before.before.before.before.before)
-    (subst (λ (t : ℕ). Grown a.work.now c.before.before.grow.new.0 a.h.statements a.width (mask_row_at a.h.statements a.width a.d.0) t) target
-    (subst (λ (from : ℕ). Grown a.work.now c.before.before.grow.new.0 a.h.statements a.width from c.before.before.before.node.result.0) c.before.before.before.before.mask-row.ensures c.before.before.grow.ensures))
+    let e : ℕ = c.in-At.e.0 in
+    let target : c.node.result.0 ≡ number f (at N e) = c.node.ensures ∙ ap (λ (m : ℕ). number_in m (at N e)) (sym (ready-size c.requires.1.ready)) in
+    KeyGrown.keyed (told c.before.before.before.before.before.before)
+    (subst (λ (t : ℕ). Grown a.work.now c.grow.new.work a.h.statements a.width (mask_row_at a.h.statements a.width a.d.0) t) target
+    (subst (λ (from : ℕ). Grown a.work.now c.grow.new.work a.h.statements a.width from c.node.result.0) c.mask_row.ensures c.grow.ensures))
 
-returns-2 : tie.Need-returns-2
-returns-2 c = KeyGrown.unkeyed (handler-none c.before.before.before.before.requires.1 c.enum_told.given.1) refl
+returns-2 : tie.Need-returns-in_default
+returns-2 c = KeyGrown.unkeyed (handler-none c.requires.1 c.in_default.is) refl
 
-pub grow-key-spec : {M : Type 1} → statement M
-grow-key-spec =
+pub grow_key_spec : {M : Type 1} → statement M
+grow_key_spec =
     tie.close
     (tie.spec
     enum-known-handler

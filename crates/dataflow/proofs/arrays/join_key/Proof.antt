@@ -24,47 +24,45 @@ use Rattle.dataflow.proofs.arrays.join_key.Tie as tie
 narrow : (c : tie.Start) → c.args.width ≤ max_width
 narrow c = let most = (limited c.requires.1.ready.fit).arrays in omega (arith, c.requires.0, ap (λ h. h.arrays) c.requires.1.header)
 
-enum_told : tie.Need-enum-told
+enum_told : tie.Need-enum_told-1
 enum_told c = search rules
 
-enum-known-handler : tie.Need-enum-known-handler
+enum-known-handler : tie.Need-enum_known-handler
 enum-known-handler c = search rules
 
 -- the flow's handler, which is a statement
 
-told : (c : tie.After-handler) → (flow_of c.before.before.before.before.args.file.now).handler ≡ some c.handler.given.0.0.0
-told c = handler-at c.before.before.before.before.requires.1 c.handler.given.0.0 c.handler.given.1
+told : (c : tie.In-At) → (flow_of c.args.file.now).handler ≡ some c.in-At.e.0
+told c = handler-at c.requires.1 c.in-At.e c.in-At.is
 
-low : (c : tie.After-handler) → c.handler.given.0.0.0 < c.before.before.before.before.args.h.statements
-low c = let r = c.before.before.before.before.requires.1.ready in handler-low (ready_formed r) (ready-size r) _ (told c)
+low : (c : tie.In-At) → c.in-At.e.0 < c.args.h.statements
+low c = let r = c.requires.1.ready in handler-low (ready_formed r) (ready-size r) _ (told c)
 
 node-requires : tie.Need-node-requires
-node-requires c κs = (ready-most c.before.before.before.before.before.before.requires.1.ready, low c.before.before)
+node-requires c κs = (ready-most c.requires.1.ready, low c.before)
 
 enqueue-requires : tie.Need-enqueue-requires
 enqueue-requires c κs =
-    let s = c.before.before.before.before.before.before.before in
-    let below = low c.before.before.before in
-    (ready-most s.requires.1.ready, narrow s, nodes-room s.requires.1.ready (omega arith) (narrow s), omega (arith, c.node.ensures), s.requires.2)
+    let below = low c.before.before in
+    (ready-most c.requires.1.ready, narrow c.before.before.before.before.before, nodes-room c.requires.1.ready (omega arith) (narrow c.before.before.before.before.before), omega (arith, c.node.ensures), c.requires.2)
 
-returns : tie.Need-returns
-returns c = KeyJoined.unkeyed (handler-none c.before.before.before.before.requires.1 c.enum_told.given.1) refl refl
+returns : tie.Need-returns-in-None
+returns c = KeyJoined.unkeyed (handler-none c.requires.1 c.in-None.is) refl refl
 
-same_length : tie.Need-same-length
+same_length : tie.Need-shape_of-work
 same_length c = search rules
 
-returns-2 : tie.Need-returns-2
+returns-2 : tie.Need-returns-in-At
 returns-2 c =
-    let s = c.before.before.before.before.before.before.before.before.before.before in
-    let a = s.args in
+    let a = c.args in
     let f = flow_of a.file.now in
-    let e : ℕ = c.before.before.before.before.before.before.handler.given.0.0.0 in
-    let target : c.before.before.before.node.result.0 ≡ number f (at N e) = c.before.before.before.node.ensures ∙ ap (λ (m : ℕ). number_in m (at N e)) (sym (ready-size s.requires.1.ready)) in
-    KeyJoined.keyed (told c.before.before.before.before.before.before)
-    (subst (λ (t : ℕ). Enqueued a.work.now c.before.before.enqueue.new.0 a.h.statements a.width a.queue t c.before.before.enqueue.result) target c.before.before.enqueue.ensures)
+    let e : ℕ = c.in-At.e.0 in
+    let target : c.node.result.0 ≡ number f (at N e) = c.node.ensures ∙ ap (λ (m : ℕ). number_in m (at N e)) (sym (ready-size c.requires.1.ready)) in
+    KeyJoined.keyed (told c.before.before.before.before.before)
+    (subst (λ (t : ℕ). Enqueued a.work.now c.enqueue.new.work a.h.statements a.width a.queue t c.enqueue.result) target c.enqueue.ensures)
 
-pub join-key-spec : {M : Type 1} → statement M
-join-key-spec =
+pub join_key_spec : {M : Type 1} → statement M
+join_key_spec =
     tie.close
     (tie.spec
     enum_told

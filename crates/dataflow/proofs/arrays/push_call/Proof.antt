@@ -24,51 +24,48 @@ use borrow.Author.Rules.{rules}
 use Rattle.dataflow.proofs.arrays.push_call.Statement.{statement}
 use Rattle.dataflow.proofs.arrays.push_call.Tie as tie
 
-back-row-requires : tie.Need-back-row-requires
-back-row-requires c κs = let s = c.before.before in (ready-most s.requires.1.ready, s.requires.0)
+back-row-requires : tie.Need-back_row-back-requires
+back-row-requires c κs = (ready-most c.requires.1.ready, c.requires.0)
 
-push-lines-requires : tie.Need-push-lines-requires
+push-lines-requires : tie.Need-push_lines-entered-requires
 push-lines-requires c κs = search rules
 
 node-requires : tie.Need-node-requires
-node-requires c κs = let s = c.before.before.before.before.before.before.before.before in (ready-most s.requires.1.ready, back_below s.requires.1.ready s.requires.4)
+node-requires c κs = (ready-most c.requires.1.ready, back_below c.requires.1.ready c.requires.4)
 
-push-requires : tie.Need-push-requires
+push-requires : tie.Need-push-queue-requires
 push-requires c κs =
-    let s = c.before.before.before.before.before.before.before.before.before in
-    let n = s.args.h.statements in
-    let ready = s.requires.1.ready in
-    let sent = c.before.before.before.before.push-lines.ensures in
+    let n = c.args.h.statements in
+    let ready = c.requires.1.ready in
+    let sent = c.push_lines-entered.ensures in
     let size = sent.keeps.size in
-    let room = nodes-room ready (omega (arith, s.requires.3)) s.requires.0 in (
+    let room = nodes-room ready (omega (arith, c.requires.3)) c.requires.0 in (
       ready-most ready,
-      s.requires.0,
+      c.requires.0,
       omega arith,
-      omega (arith, copy-below n s.args.base (back_below s.requires.1.ready s.requires.4), c.node.ensures),
-      subst (Source n s.args.width) (sym c.before.before.before.before.before.before.back-row.ensures) (source_of n s.args.width (edge_row n s.args.width) (sources_call n s.args.width) true),
-      (_, sent.waits s.requires.6.0 s.requires.6.1),
+      omega (arith, copy-below n c.args.base (back_below c.requires.1.ready c.requires.4), c.node.ensures),
+      subst (Source n c.args.width) (sym c.back_row-back.ensures) (source_of n c.args.width (edge_row n c.args.width) (sources_call n c.args.width) true),
+      (_, sent.waits c.requires.6.0 c.requires.6.1),
     )
 
 -- what was sent to the entered statements and to the continuation
-back-sent : (c : tie.After-push) → let a = c.before.before.before.before.before.before.before.before.before.before.args in
+back-sent : (c : tie.After-push-queue) → let a = c.args in
     let n = a.h.statements in
     let x = edge_to (at a.base a.call.continuation.0) (at a.base a.call.continuation.0) in
-    Sent (flow_of a.file.now) c.before.before.before.before.before.push-lines.new.1.1.0 c.push.new.0 n a.width (edge_row n a.width) c.before.before.before.before.before.push-lines.result a.i.0 (x ∷ []) c.push.result
+    Sent (flow_of a.file.now) c.push_lines-entered.new.work c.push-queue.new.work n a.width (edge_row n a.width) c.push_lines-entered.result a.i.0 (x ∷ []) c.push-queue.result
 back-sent c =
-    let s = c.before.before.before.before.before.before.before.before.before.before in
-    let n = s.args.h.statements in
-    let v = at s.args.base s.args.call.continuation.0 in
-    sent-edge (edge_to v v) (ready-size s.requires.1.ready) (sources_call n s.args.width) (c.before.before.before.before.before.before.before.back-row.ensures ∙ sym (ap (edge_row n s.args.width) (node-same v))) c.before.node.ensures c.push.ensures
+    let n = c.args.h.statements in
+    let v = at c.args.base c.args.call.continuation.0 in
+    sent-edge (edge_to v v) (ready-size c.requires.1.ready) (sources_call n c.args.width) (c.back_row-back.ensures ∙ sym (ap (edge_row n c.args.width) (node-same v))) c.node.ensures c.push-queue.ensures
 
-push-others-requires : tie.Need-push-others-requires
+push-others-requires : tie.Need-push_others-requires
 push-others-requires c κs =
-    let s = c.before.before.before.before.before.before.before.before.before.before.before.before.before in
-    let lines = c.before.before.before.before.before.before.before.before.push-lines.ensures in
+    let lines = c.push_lines-entered.ensures in
     let back = back-sent c.before.before.before in
     let keeps = keeps-trans lines.keeps back.keeps in
-    (s.requires.0, ready_stays keeps s.requires.1.ready, s.requires.2, s.requires.3, call_stays keeps (ready-size s.requires.1.ready) s.requires.3 s.requires.4, (_, back.waits _ (lines.waits s.requires.6.0 s.requires.6.1)))
+    (c.requires.0, ready_stays keeps c.requires.1.ready, c.requires.2, c.requires.3, call_stays keeps (ready-size c.requires.1.ready) c.requires.3 c.requires.4, (_, back.waits _ (lines.waits c.requires.6.0 c.requires.6.1)))
 
-same_length : tie.Need-same-length
+same_length : tie.Need-shape_of-work
 same_length c = search rules
 
 -- the edges of a call, part by part
@@ -78,15 +75,14 @@ parts f b i k = present-append (line_slots f b i k) (some (edge_to (at b k) (at 
 
 returns : tie.Need-returns
 returns c =
-    let s = c.before.before.before.before.before.before.before.before.before.before.before.before.before.before.before.before in
-    let f = flow_of s.args.file.now in
-    let n = s.args.h.statements in
-    subst (λ (xs : List Edge). Sent f s.args.work.now c.before.before.push-others.new.1.0 n s.args.width (edge_row n s.args.width) s.args.first s.args.i.0 xs c.before.before.push-others.result)
-    (sym (parts f s.args.base s.args.i.0 s.args.call.continuation.0))
-    (sent-append c.before.before.before.before.before.before.before.before.before.before.before.push-lines.ensures (sent-append (back-sent c.before.before.before.before.before.before) c.before.before.push-others.ensures))
+    let f = flow_of c.args.file.now in
+    let n = c.args.h.statements in
+    subst (λ (xs : List Edge). Sent f c.args.work.now c.push_others.new.work n c.args.width (edge_row n c.args.width) c.args.first c.args.i.0 xs c.push_others.result)
+    (sym (parts f c.args.base c.args.i.0 c.args.call.continuation.0))
+    (sent-append c.push_lines-entered.ensures (sent-append (back-sent c.before.before.before.before.before.before) c.push_others.ensures))
 
-pub push-call-spec : {M : Type 1} → statement M
-push-call-spec =
+pub push_call_spec : {M : Type 1} → statement M
+push_call_spec =
     tie.close
     (tie.spec
     back-row-requires

@@ -8,38 +8,36 @@ use borrow.Author.Rules.{rules}
 use Rattle.dataflow.proofs.arrays.push_lines.Statement.{statement}
 use Rattle.dataflow.proofs.arrays.push_lines.Tie as tie
 
-order-of-requires : tie.Need-order-of-requires
+order-of-requires : tie.Need-order_of-order-requires
 order-of-requires c κs =
-    let s = c.before.before.before.before.before in
-    let ready = s.requires.1.ready in
-    let n = s.args.h.statements in
-    let room = ready-room ready (omega (arith, s.requires.3)) in
-    (ready-most ready, s.requires.3, omega (arith, row_from n n, s.requires.3))
+    let ready = c.requires.1.ready in
+    let n = c.args.h.statements in
+    let room = ready-room ready (omega (arith, c.requires.3)) in
+    (ready-most ready, c.requires.3, omega (arith, row_from n n, c.requires.3))
 
-push-order-requires : tie.Need-push-order-requires
+push-order-requires : tie.Need-push_order-requires
 push-order-requires c κs =
-    let s = c.before.before.before.before.before.before.before.before.before in
-    let ready = s.requires.1.ready in
-    let order = c.before.before.before.order-of.ensures in
-    (s.requires.0, ready, s.requires.3, s.requires.4, order-list (ready-most ready) order.0 order.1 c.before.if2.true (s.requires.5 c.before.before.before.before.before.if1.true), s.requires.6)
+    let ready = c.requires.1.ready in
+    let order = c.order_of-order.ensures in
+    (c.requires.0, ready, c.requires.3, c.requires.4, order-list (ready-most ready) order.0 order.1 c.if-order-ne0.true (c.requires.5 c.if-call-gt1.true), c.requires.6)
 
-same_length : tie.Need-same-length
+same_length : tie.Need-shape_of-work-then-order-ne0
 same_length c = search rules
 
-returns : tie.Need-returns
+returns : tie.Need-returns-then-order-ne0
 returns c = search rules
 
-push-each-line-requires : tie.Need-push-each-line-requires
+push-each-line-requires : tie.Need-push_each_line-requires
 push-each-line-requires c κs = search rules
 
-same-length-2 : tie.Need-same-length-2
+same-length-2 : tie.Need-shape_of-work
 same-length-2 c = search rules
 
-returns-2 : tie.Need-returns-2
+returns-2 : tie.Need-returns
 returns-2 c = search rules
 
-pub push-lines-spec : {M : Type 1} → statement M
-push-lines-spec =
+pub push_lines_spec : {M : Type 1} → statement M
+push_lines_spec =
     tie.close
     (tie.spec
     order-of-requires

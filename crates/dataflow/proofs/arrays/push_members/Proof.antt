@@ -20,82 +20,79 @@ use Rattle.dataflow.proofs.Sending.{Sending, sending_none, sending_skip, sending
 use Rattle.dataflow.proofs.arrays.push_members.Statement.{statement}
 use Rattle.dataflow.proofs.arrays.push_members.Tie as tie
 
-abbrev invariant-loop : tie.invariant-loop
+abbrev invariant-loop : tie.invariant-loop-k
 invariant-loop file work₀ n width i from queue₀ k₀ work queue k =
     Sending (flow_of file) work₀ work n width (λ b. from) queue₀ i.0 (present (return_slots (flow_of file) Zero i.0)) queue (left_from k (return_slots (flow_of file) Zero i.0)) × (c : ℕ) × NextReturn (flow_of file) n i.0 c k
 
-abbrev decreases-loop : tie.decreases-loop
+abbrev decreases-loop : tie.decreases-loop-k
 decreases-loop file work₀ n width i from queue₀ k₀ work queue k = n - k
 
 row-requires : tie.Need-row-requires invariant-loop decreases-loop
-row-requires c κs = (ready-most c.before.before.before.requires.1, c.before.before.before.requires.4)
+row-requires c κs = (ready-most c.requires.1, c.requires.4)
 
-next-requires : tie.Need-next-requires invariant-loop decreases-loop
-next-requires c κs = omega (arith, c.row.ensures, row_room c.before.before.before.before.requires.1 c.before.before.before.before.requires.4)
+next-requires : tie.Need-next-k-requires invariant-loop decreases-loop
+next-requires c κs = omega (arith, c.row.ensures, row_room c.requires.1 c.requires.4)
 
 -- the first continuation
-begins : (c : tie.After-next invariant-loop decreases-loop) → NextReturn (flow_of c.before.before.before.before.before.args.file.now) c.before.before.before.before.before.args.n c.before.before.before.before.before.args.i.0 0 c.next.result
-begins c = let s = c.before.before.before.before.before in next-return s.requires.2 (ready-size s.requires.1) s.requires.3 s.requires.4 (omega arith) c.before.row.ensures c.next.ensures
+begins : (c : tie.After-next-k invariant-loop decreases-loop) → NextReturn (flow_of c.args.file.now) c.args.n c.args.i.0 0 c.next-k.result
+begins c = next-return c.requires.2 (ready-size c.requires.1) c.requires.3 c.requires.4 (omega arith) c.row.ensures c.next-k.ensures
 
-loop-holds : tie.Need-loop-init invariant-loop decreases-loop
+loop-holds : tie.Need-loop-k-init invariant-loop decreases-loop
 loop-holds c = (sending_skip sending_none (begins c).passed, 0, begins c)
 
 node-requires : tie.Need-node-requires invariant-loop decreases-loop
-node-requires c κs = (ready-most c.before.before.before.before.before.before.before.before.requires.1, c.before.loop-test.true)
+node-requires c κs = (ready-most c.requires.1, c.loop-k-test.true)
 
-push-requires : tie.Need-push-requires invariant-loop decreases-loop
+push-requires : tie.Need-push-queue-requires invariant-loop decreases-loop
 push-requires c κs =
-    let s = c.before.before.before.before.before.before.before.before.before in
-    let sent = c.before.before.before.loop.invariant.0.sent in
+    let sent = c.loop-k.invariant.0.sent in
     let size = sent.keeps.size in
-    let room = nodes-room s.requires.1 (omega (arith, s.requires.4)) s.requires.0 in
-    (ready-most s.requires.1, s.requires.0, omega arith, omega (arith, copy-below s.args.n Zero c.before.before.loop-test.true, c.node.ensures), s.requires.5, (_, sent.waits s.requires.6.0 s.requires.6.1))
+    let room = nodes-room c.requires.1 (omega (arith, c.requires.4)) c.requires.0 in
+    (ready-most c.requires.1, c.requires.0, omega arith, omega (arith, copy-below c.args.n Zero c.loop-k-test.true, c.node.ensures), c.requires.5, (_, sent.waits c.requires.6.0 c.requires.6.1))
 
 -- what was sent keeps the rows
-since : (c : tie.After-push invariant-loop decreases-loop) → let a = c.before.before.before.before.before.before.before.before.before.before.args in Keeps (queue_at a.n) (nodes_end a.n a.width) a.work.now c.push.new.0
-since c = keeps-trans c.before.before.before.before.loop.invariant.0.sent.keeps c.push.ensures.keeps
+since : (c : tie.After-push-queue invariant-loop decreases-loop) → let a = c.args in Keeps (queue_at a.n) (nodes_end a.n a.width) a.work.now c.push-queue.new.work
+since c = keeps-trans c.loop-k.invariant.0.sent.keeps c.push-queue.ensures.keeps
 
-row-requires-2 : tie.Need-row-requires-2 invariant-loop decreases-loop
-row-requires-2 c κs = (ready-most c.before.before.before.before.before.before.before.before.before.before.before.before.before.requires.1, c.before.before.before.before.before.before.before.before.before.before.before.before.before.requires.4)
+row-requires-2 : tie.Need-row-requires-in-loop-k invariant-loop decreases-loop
+row-requires-2 c κs = (ready-most c.requires.1, c.requires.4)
 
-add-next : tie.Need-overflow-add-next invariant-loop decreases-loop
-add-next c = omega (arith, ready-most c.before.before.before.before.before.before.before.before.before.before.before.before.before.before.requires.1, c.before.before.before.before.before.before.before.loop-test.true)
+add-next : tie.Need-overflow_add-k invariant-loop decreases-loop
+add-next c = omega (arith, ready-most c.requires.1, c.loop-k-test.true)
 
-next-requires-2 : tie.Need-next-requires-2 invariant-loop decreases-loop
-next-requires-2 c κs = let size = (since c.before.before.before.before).size in omega (arith, c.row2.ensures, row_room c.before.before.before.before.before.before.before.before.before.before.before.before.before.before.requires.1 c.before.before.before.before.before.before.before.before.before.before.before.before.before.before.requires.4)
+next-requires-2 : tie.Need-next-k-requires-in-loop-k invariant-loop decreases-loop
+next-requires-2 c κs = let size = (since c.before.before.before).size in omega (arith, c.row-in-loop-k.ensures, row_room c.requires.1 c.requires.4)
 
 -- the next continuation
-goes_on : (c : tie.After-next2 invariant-loop decreases-loop) → NextReturn (flow_of c.before.before.before.before.before.before.before.before.before.before.before.before.before.before.before.args.file.now) c.before.before.before.before.before.before.before.before.before.before.before.before.before.before.before.args.n c.before.before.before.before.before.before.before.before.before.before.before.before.before.before.before.args.i.0 (c.before.before.before.before.before.before.before.before.before.loop.k + 1) c.next2.result
+goes_on : (c : tie.After-next-k-in-loop-k invariant-loop decreases-loop) → NextReturn (flow_of c.args.file.now) c.args.n c.args.i.0 (c.loop-k.k + 1) c.next-k-in-loop-k.result
 goes_on c =
-    let s = c.before.before.before.before.before.before.before.before.before.before.before.before.before.before.before in
-    next-return (linked-stays (since c.before.before.before.before.before) s.requires.2) (ready-size s.requires.1) s.requires.3 s.requires.4 (omega (arith, c.before.before.before.before.before.before.before.before.loop-test.true)) c.before.row2.ensures c.next2.ensures
+    next-return (linked-stays (since c.before.before.before.before) c.requires.2) (ready-size c.requires.1) c.requires.3 c.requires.4 (omega (arith, c.loop-k-test.true)) c.row-in-loop-k.ensures c.next-k-in-loop-k.ensures
 
-loop-less : tie.Need-loop-smaller invariant-loop decreases-loop
-loop-less c = let low = (goes_on c).low in omega (arith, c.before.before.before.before.before.before.before.before.loop-test.true)
+loop-less : tie.Need-loop-k-smaller invariant-loop decreases-loop
+loop-less c = let low = (goes_on c).low in omega (arith, c.loop-k-test.true)
 
-loop-again : tie.Need-loop-preserved invariant-loop decreases-loop
+loop-again : tie.Need-loop-k-preserved invariant-loop decreases-loop
 loop-again c =
-    let s = c.before.before.before.before.before.before.before.before.before.before.before.before.before.before.before in
-    let f = flow_of s.args.file.now in
-    let k = c.before.before.before.before.before.before.before.before.before.loop.k in
-    let i = s.args.i.0 in
-    let here = c.before.before.before.before.before.before.before.before.before.loop.invariant.2.member c.before.before.before.before.before.before.before.before.loop-test.true in (
+    let f = flow_of c.args.file.now in
+    let k = c.loop-k.k in
+    let i = c.args.i.0 in
+    let here = c.loop-k.invariant.2.member c.loop-k-test.true in (
       sending_skip
-          (sending_on c.before.before.before.before.before.before.before.before.before.loop.invariant.0 (member-here f i k (omega (arith, ready-size s.requires.1, c.before.before.before.before.before.before.before.before.loop-test.true)) here)
-          (sent-edge (plain (at Zero k)) (ready-size s.requires.1) (sources_one s.args.n s.args.width s.args.from s.requires.5) refl c.before.before.before.before.before.before.node.ensures c.before.before.before.before.before.push.ensures))
+          (sending_on c.loop-k.invariant.0 (member-here f i k (omega (arith, ready-size c.requires.1, c.loop-k-test.true)) here)
+          (sent-edge (plain (at Zero k)) (ready-size c.requires.1) (sources_one c.args.n c.args.width c.args.from c.requires.5) refl c.node.ensures c.push-queue.ensures))
           (goes_on c).passed,
       k + 1,
       goes_on c,
     )
 
-same_length : tie.Need-same-length invariant-loop decreases-loop
-same_length c = c.before.loop.invariant.0.sent.keeps.size
+same_length : tie.Need-shape_of-work invariant-loop decreases-loop
+same_length c = c.loop-k.invariant.0.sent.keeps.size
 
 returns : tie.Need-returns invariant-loop decreases-loop
-returns c = let s = c.before.before.before.before.before.before.before in sending_all c.before.loop.invariant.0 (member-end (flow_of s.args.file.now) s.args.i.0 c.before.loop.k (omega (arith, ready-size s.requires.1, c.loop-test.false)))
+returns c = sending_all c.loop-k.invariant.0 (member-end (flow_of c.args.file.now) c.args.i.0 c.loop-k.k (omega (arith, ready-size c.requires.1, c.loop-k-test.false)))
 
-pub push-members-spec : {M : Type 1} → statement M
-push-members-spec =
+pub push_members_spec : {M : Type 1} → statement M
+push_members_spec =
     tie.close
     (tie.spec
     invariant-loop

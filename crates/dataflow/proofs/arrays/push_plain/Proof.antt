@@ -22,61 +22,56 @@ use Rattle.dataflow.proofs.arrays.push_plain.Tie as tie
 kind-requires : tie.Need-kind-requires
 kind-requires c κs = search rules
 
-push-listed-requires : tie.Need-push-listed-requires
+push-listed-requires : tie.Need-push_listed-requires
 push-listed-requires c κs = search rules
 
-same_length : tie.Need-same-length
+same_length : tie.Need-shape_of-work-then-kind-ne-KIND_RETURN
 same_length c = search rules
 
 -- which slots the statement has
 
-returned : (c : tie.Else1) → let a = c.before.before.before.before.args in is_return (kind (flow_of a.file.now) a.i.0) ≡ true
+returned : (c : tie.Else-kind-ne-KIND_RETURN) → let a = c.args in is_return (kind (flow_of a.file.now) a.i.0) ≡ true
 returned c =
-    let s = c.before.before.before.before in
-    sym s.requires.3.return ∙ eq-eqb (kind_at s.args.file.now s.args.place) kind_return (sym c.before.kind.ensures ∙ c.if1.false)
+    sym c.requires.3.return ∙ eq-eqb (kind_at c.args.file.now c.args.place) kind_return (sym c.kind.ensures ∙ c.if-kind-ne-KIND_RETURN.false)
 
-listed : (c : tie.Then1) → let a = c.before.before.before.before.args in slots (flow_of a.file.now) (at a.base a.i.0) ≡ listed_slots (flow_of a.file.now) a.base a.i.0
+listed : (c : tie.Then-kind-ne-KIND_RETURN) → let a = c.args in slots (flow_of a.file.now) (at a.base a.i.0) ≡ listed_slots (flow_of a.file.now) a.base a.i.0
 listed c =
-    let s = c.before.before.before.before in
-    slots_listed (flow_of s.args.file.now) s.args.base s.args.i.0
-    (sym s.requires.3.return ∙ ne_eqb (kind_at s.args.file.now s.args.place) kind_return (λ q. c.if1.true (c.before.kind.ensures ∙ q)))
-    (plain_says (flow_of s.args.file.now) s.args.i.0 s.requires.5)
+    slots_listed (flow_of c.args.file.now) c.args.base c.args.i.0
+    (sym c.requires.3.return ∙ ne_eqb (kind_at c.args.file.now c.args.place) kind_return (λ q. c.if-kind-ne-KIND_RETURN.true (c.kind.ensures ∙ q)))
+    (plain_says (flow_of c.args.file.now) c.args.i.0 c.requires.5)
 
-returns : tie.Need-returns
+returns : tie.Need-returns-then-kind-ne-KIND_RETURN
 returns c =
-    let s = c.before.before.before.before.before.before.before.before in
-    subst (λ (xs : List (Option Edge)). Goes (flow_of s.args.file.now) s.args.work.now c.before.before.push-listed.new.1.0 s.args.n s.args.width (λ b. s.args.from) s.args.first s.args.i.0 (present xs) c.before.before.push-listed.result)
-    (sym (listed c.before.before.before.before)) (goes_sent s.requires.7 c.before.before.push-listed.ensures)
+    subst (λ (xs : List (Option Edge)). Goes (flow_of c.args.file.now) c.args.work.now c.push_listed.new.work c.args.n c.args.width (λ b. c.args.from) c.args.first c.args.i.0 (present xs) c.push_listed.result)
+    (sym (listed c.before.before.before.before)) (goes_sent c.requires.7 c.push_listed.ensures)
 
-enum_told : tie.Need-enum-told
+enum_told : tie.Need-enum_told-1
 enum_told c = search rules
 
-push-return-requires : tie.Need-push-return-requires
-push-return-requires c κs = let s = c.before.before.before.before.before.before.before in (s.requires.0, s.requires.1, s.requires.2, returned c.before.before.before, s.requires.4, s.requires.6, s.requires.7, s.requires.8)
+push-return-requires : tie.Need-push_return-requires
+push-return-requires c κs = (c.requires.0, c.requires.1, c.requires.2, returned c.before.before, c.requires.4, c.requires.6, c.requires.7, c.requires.8)
 
-enum-told-2 : tie.Need-enum-told-2
+enum-told-2 : tie.Need-enum_told-in-N
 enum-told-2 c = search rules
 
-same-length-2 : tie.Need-same-length-2
+same-length-2 : tie.Need-shape_of-work
 same-length-2 c = search rules
 
-returns-2 : tie.Need-returns-2
+returns-2 : tie.Need-returns-in-Zero
 returns-2 c =
-    let s = c.before.before.before.before.before.before.before.before.before.before in
-    let f = flow_of s.args.file.now in
-    subst (λ (xs : List (Option Edge)). Goes f s.args.work.now c.before.before.push-return.new.1.0 s.args.n s.args.width (λ b. s.args.from) s.args.first s.args.i.0 (present xs) c.before.before.push-return.result)
-    (sym (slots-return f s.args.base s.args.i.0 (returned c.before.before.before.before.before.before) ∙ ap (λ (b : Base). return_slots f b s.args.i.0) c.before.before.before.before.enum_told.given.1)) c.before.before.push-return.ensures
+    let f = flow_of c.args.file.now in
+    subst (λ (xs : List (Option Edge)). Goes f c.args.work.now c.push_return.new.work c.args.n c.args.width (λ b. c.args.from) c.args.first c.args.i.0 (present xs) c.push_return.result)
+    (sym (slots-return f c.args.base c.args.i.0 (returned c.before.before.before.before.before) ∙ ap (λ (b : Base). return_slots f b c.args.i.0) c.in-Zero.is)) c.push_return.ensures
 
-returns-3 : tie.Need-returns-3
+returns-3 : tie.Need-returns-in-N
 unfolding return_slots present concat_map
 returns-3 c =
-    let s = c.before.before.before.before.before.before in
-    let f = flow_of s.args.file.now in
-    subst (λ (xs : List (Option Edge)). Goes f s.args.work.now s.args.work.now s.args.n s.args.width (λ b. s.args.from) s.args.first s.args.i.0 (present xs) s.args.first)
-    (sym (slots-return f s.args.base s.args.i.0 (returned c.before.before) ∙ ap (λ (b : Base). return_slots f b s.args.i.0) c.enum-told2.given.1)) (goes_sent s.requires.7 sent-none)
+    let f = flow_of c.args.file.now in
+    subst (λ (xs : List (Option Edge)). Goes f c.args.work.now c.args.work.now c.args.n c.args.width (λ b. c.args.from) c.args.first c.args.i.0 (present xs) c.args.first)
+    (sym (slots-return f c.args.base c.args.i.0 (returned c.before) ∙ ap (λ (b : Base). return_slots f b c.args.i.0) c.in-N.is)) (goes_sent c.requires.7 sent-none)
 
-pub push-plain-spec : {M : Type 1} → statement M
-push-plain-spec =
+pub push_plain_spec : {M : Type 1} → statement M
+push_plain_spec =
     tie.close
     (tie.spec
     kind-requires

@@ -17,51 +17,44 @@ use Rattle.dataflow.proofs.arrays.send.Tie as tie
 sized : (c : tie.Start) → size (flow_of c.args.file.now) ≡ c.args.h.statements
 sized c = ready-size c.requires.1.ready
 
-grow-key-requires : tie.Need-grow-key-requires
-grow-key-requires c κs = let s = c.before.before.before in (s.requires.0, s.requires.1, s.requires.4)
+grow-key-requires : tie.Need-grow_key-requires
+grow-key-requires c κs = (c.requires.0, c.requires.1, c.requires.4)
 
 -- what is kept while the masks go to the key's number
-kept : (c : tie.After-grow-key) → let a = c.before.before.before.before.args in Keeps (queue_at a.h.statements) (area_end a.h.statements a.width) a.work.now c.grow-key.new.1.1.0
+kept : (c : tie.After-grow_key) → let a = c.args in Keeps (queue_at a.h.statements) (area_end a.h.statements a.width) a.work.now c.grow_key.new.work
 kept c =
-    let s = c.before.before.before.before in
-    first-keeps (flow_of s.args.file.now) (ready_formed s.requires.1.ready) s.args.work.now c.grow-key.new.1.1.0 s.args.h.statements s.args.width s.args.d.0 (sized s) s.requires.4 c.grow-key.ensures
+    first-keeps (flow_of c.args.file.now) (ready_formed c.requires.1.ready) c.args.work.now c.grow_key.new.work c.args.h.statements c.args.width c.args.d.0 (sized c.before.before.before.before) c.requires.4 c.grow_key.ensures
 
-send-edges-requires : tie.Need-send-edges-requires
+send-edges-requires : tie.Need-send_edges-queue-requires
 send-edges-requires c κs =
-    let s = c.before.before.before.before.before.before.before in
-    let g = c.before.before.before in
-    let f = flow_of s.args.file.now in
-    let keeps = kept g in (
-      s.requires.0,
-      indexed_stays keeps s.requires.1,
-      linked-stays keeps s.requires.2,
-      key-stays keeps s.requires.3,
-      s.requires.4,
-      first-shared f (ready_formed s.requires.1.ready) s.args.work.now g.grow-key.new.1.1.0 s.args.h.statements s.args.width s.args.d.0 (sized s) s.requires.4 g.grow-key.ensures s.requires.5,
-      (_, first-waits f (ready_formed s.requires.1.ready) s.args.work.now g.grow-key.new.1.1.0 s.args.h.statements s.args.width s.args.d.0 (sized s) s.requires.4 g.grow-key.ensures s.requires.6.1),
+    let f = flow_of c.args.file.now in
+    let keeps = kept c.before.before.before in (
+      c.requires.0,
+      indexed_stays keeps c.requires.1,
+      linked-stays keeps c.requires.2,
+      key-stays keeps c.requires.3,
+      c.requires.4,
+      first-shared f (ready_formed c.requires.1.ready) c.args.work.now c.grow_key.new.work c.args.h.statements c.args.width c.args.d.0 (sized c.before.before.before.before.before.before.before) c.requires.4 c.grow_key.ensures c.requires.5,
+      (_, first-waits f (ready_formed c.requires.1.ready) c.args.work.now c.grow_key.new.work c.args.h.statements c.args.width c.args.d.0 (sized c.before.before.before.before.before.before.before) c.requires.4 c.grow_key.ensures c.requires.6.1),
     )
 
-join-key-requires : tie.Need-join-key-requires
+join-key-requires : tie.Need-join_key-requires
 join-key-requires c κs =
-    let s = c.before.before.before.before.before.before.before.before.before.before.before in
-    let g = c.before.before.before.before.before.before.before in
-    let f = flow_of s.args.file.now in (
-      s.requires.0,
-      indexed_stays (keeps-trans (kept g) c.before.before.before.send-edges.ensures.keeps) s.requires.1,
-      (_, c.before.before.before.send-edges.ensures.waits _ (first-waits f (ready_formed s.requires.1.ready) s.args.work.now g.grow-key.new.1.1.0 s.args.h.statements s.args.width s.args.d.0 (sized s) s.requires.4 g.grow-key.ensures s.requires.6.1)),
+    let f = flow_of c.args.file.now in (
+      c.requires.0,
+      indexed_stays (keeps-trans (kept c.before.before.before.before.before.before.before) c.send_edges-queue.ensures.keeps) c.requires.1,
+      (_, c.send_edges-queue.ensures.waits _ (first-waits f (ready_formed c.requires.1.ready) c.args.work.now c.grow_key.new.work c.args.h.statements c.args.width c.args.d.0 (sized c.before.before.before.before.before.before.before.before.before.before.before) c.requires.4 c.grow_key.ensures c.requires.6.1)),
     )
 
-same_length : tie.Need-same-length
+same_length : tie.Need-shape_of-work
 same_length c = search rules
 
 returns : tie.Need-returns
 returns c =
-    let s = c.before.before.before.before.before.before.before.before.before.before.before.before.before.before in
-    let g = c.before.before.before.before.before.before.before.before.before.before in
-    sends_all (flow_of s.args.file.now) (ready_formed s.requires.1.ready) s.args.work.now g.grow-key.new.1.1.0 s.args.h.statements s.args.width s.args.d.0 (sized s) s.requires.4 _ _
-    g.grow-key.ensures c.before.before.before.before.before.before.send-edges.ensures c.before.before.join-key.ensures
+    sends_all (flow_of c.args.file.now) (ready_formed c.requires.1.ready) c.args.work.now c.grow_key.new.work c.args.h.statements c.args.width c.args.d.0 (sized c.before.before.before.before.before.before.before.before.before.before.before.before.before.before) c.requires.4 _ _
+    c.grow_key.ensures c.send_edges-queue.ensures c.join_key.ensures
 
-pub send-spec : {M : Type 1} → statement M
-send-spec =
+pub send_spec : {M : Type 1} → statement M
+send_spec =
     tie.close
     (tie.spec grow-key-requires send-edges-requires join-key-requires same_length returns)

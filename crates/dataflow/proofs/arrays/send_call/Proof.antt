@@ -30,7 +30,7 @@ use borrow.Author.Rules.{rules}
 use Rattle.dataflow.proofs.arrays.send_call.Statement.{statement}
 use Rattle.dataflow.proofs.arrays.send_call.Tie as tie
 
-call-of-requires : tie.Need-call-of-requires
+call-of-requires : tie.Need-call_of-call-requires
 call-of-requires c κs = search rules
 
 -- a continuation is a statement, and so it has its place in a row
@@ -41,53 +41,51 @@ continuation_in_lem c e = (ready_formed c.requires.1.ready).continuation c.args.
 in_row : (row : ℕ) {m k size : ℕ} → k < m → row + (m + 63) / 64 ≤ size → row + k / 64 < size
 in_row row l r = omega arith
 
-enters-again-requires : tie.Need-enters-again-requires
-enters-again-requires c κs = let call = c.before.call-of.ensures in in_row c.before.call-of.result.row (continuation_in_lem c.before.before.before.before.before call.continues) call.room
+enters-again-requires : tie.Need-enters_again-again-requires
+enters-again-requires c κs = let call = c.call_of-call.ensures in in_row c.call_of-call.result.row (continuation_in_lem c.before.before.before.before call.continues) call.room
 
-call-rows-requires : tie.Need-call-rows-requires
-call-rows-requires c κs = let s = c.before.before.before.before.before.before.before in (s.requires.0, s.requires.1, s.requires.2, s.requires.3, s.requires.4, s.requires.5, ap (λ (v : Node). v.stmt) s.requires.6, s.requires.7, s.requires.8, c.before.enters-again.ensures ∙ again-is s.args.base c.before.before.before.call-of.ensures (continuation_in_lem s c.before.before.before.call-of.ensures.continues) ∙ ap (λ (v : Node). enters_again (flow_of s.args.file.now) v.base s.args.i.0) s.requires.6)
+call-rows-requires : tie.Need-call_rows-requires
+call-rows-requires c κs = (c.requires.0, c.requires.1, c.requires.2, c.requires.3, c.requires.4, c.requires.5, ap (λ (v : Node). v.stmt) c.requires.6, c.requires.7, c.requires.8, c.enters_again-again.ensures ∙ again-is c.args.base c.call_of-call.ensures (continuation_in_lem c.before.before.before.before.before.before c.call_of-call.ensures.continues) ∙ ap (λ (v : Node). enters_again (flow_of c.args.file.now) v.base c.args.i.0) c.requires.6)
 
 -- while the rows are made, only words behind the queue are written
-beside : (c : tie.After-call-rows) → let a = c.before.before.before.before.before.before.before.before.args in Keeps (queue_at a.h.statements) (mask_row_at a.h.statements a.width 0) a.work.now c.Call-rows.new.1.1.0
-beside c = keeps_widen (omega arith) (omega arith) c.Call-rows.ensures.keeps
+beside : (c : tie.After-call_rows) → let a = c.args in Keeps (queue_at a.h.statements) (mask_row_at a.h.statements a.width 0) a.work.now c.call_rows.new.work
+beside c = keeps_widen (omega arith) (omega arith) c.call_rows.ensures.keeps
 
-push-call-requires : tie.Need-push-call-requires
+push-call-requires : tie.Need-push_call-requires
 push-call-requires c κs =
-    let s = c.before.before.before.before.before.before.before.before.before.before.before in
-    let rows = c.before.before.before.Call-rows in
+    let rows = c.call_rows in
     let keeps = beside c.before.before.before in
-    let linked = linked-stays keeps s.requires.2 in
-    let call = call_stays keeps (ready-size s.requires.1.ready) s.requires.7 c.before.before.before.before.before.before.before.call-of.ensures in
-    let f = flow_of s.args.file.now in
-    let i = s.args.i.0 in
-    let most = (limited s.requires.1.ready.fit).arrays in (
-      omega (arith, s.requires.0, ap (λ h. h.arrays) s.requires.1.header),
-      indexed_stays keeps s.requires.1,
-      s.requires.5,
-      s.requires.7,
+    let linked = linked-stays keeps c.requires.2 in
+    let call = call_stays keeps (ready-size c.requires.1.ready) c.requires.7 c.call_of-call.ensures in
+    let f = flow_of c.args.file.now in
+    let i = c.args.i.0 in
+    let most = (limited c.requires.1.ready.fit).arrays in (
+      omega (arith, c.requires.0, ap (λ h. h.arrays) c.requires.1.header),
+      indexed_stays keeps c.requires.1,
+      c.requires.5,
+      c.requires.7,
       call,
-      λ many. linked.orders i s.requires.7 (and-true (transparent_call f i) (ltb 1 (length (call_lines (kind f i)))) s.requires.8 (lt-ltb 1 (length (call_lines (kind f i))) (omega (arith, call.lines)))),
-      (_, beside_waits s.args.work.now rows.new.1.1.0 s.args.h.statements s.args.width rows.ensures.keeps s.requires.10.1),
+      λ many. linked.orders i c.requires.7 (and-true (transparent_call f i) (ltb 1 (length (call_lines (kind f i)))) c.requires.8 (lt-ltb 1 (length (call_lines (kind f i))) (omega (arith, call.lines)))),
+      (_, beside_waits c.args.work.now rows.new.work c.args.h.statements c.args.width rows.ensures.keeps c.requires.10.1),
     )
 
-same_length : tie.Need-same-length
+same_length : tie.Need-shape_of-work
 same_length c = search rules
 
 returns : tie.Need-returns
 returns c =
-    let s = c.before.before.before.before.before.before.before.before.before.before.before.before.before.before in
-    let f = flow_of s.args.file.now in
-    let n = s.args.h.statements in
-    let says = call_says f s.args.i.0 s.requires.8 in
-    let rows = c.before.before.before.before.before.before.Call-rows in
-    let shared = beside_shared s.args.work.now rows.new.1.1.0 n s.args.width rows.ensures.keeps s.requires.9 in
-    sends s.requires.6 refl rows.ensures
+    let f = flow_of c.args.file.now in
+    let n = c.args.h.statements in
+    let says = call_says f c.args.i.0 c.requires.8 in
+    let rows = c.call_rows in
+    let shared = beside_shared c.args.work.now rows.new.work n c.args.width rows.ensures.keeps c.requires.9 in
+    sends c.requires.6 refl rows.ensures
     (goes_sent shared
-    (subst (λ (xs : List (Option Edge)). Sent f rows.new.1.1.0 c.before.before.push-call.new.1.1.0 n s.args.width (edge_row n s.args.width) s.args.first s.args.i.0 (present xs) c.before.before.push-call.result)
-    (sym (slots-call f s.args.base s.args.i.0 c.before.before.before.before.before.before.before.before.before.before.call-of.result.continuation.0 c.before.before.before.before.before.before.before.before.before.before.call-of.ensures.continues says.2)) c.before.before.push-call.ensures))
+    (subst (λ (xs : List (Option Edge)). Sent f rows.new.work c.push_call.new.work n c.args.width (edge_row n c.args.width) c.args.first c.args.i.0 (present xs) c.push_call.result)
+    (sym (slots-call f c.args.base c.args.i.0 c.call_of-call.result.continuation.0 c.call_of-call.ensures.continues says.2)) c.push_call.ensures))
 
-pub send-call-spec : {M : Type 1} → statement M
-send-call-spec =
+pub send_call_spec : {M : Type 1} → statement M
+send_call_spec =
     tie.close
     (tie.spec
     call-of-requires

@@ -22,83 +22,79 @@ use borrow.Author.Rules.{rules}
 use Rattle.dataflow.proofs.arrays.send_edges.Statement.{statement}
 use Rattle.dataflow.proofs.arrays.send_edges.Tie as tie
 
-copy-of-requires : tie.Need-copy-of-requires
+copy-of-requires : tie.Need-copy_of-copy-requires
 copy-of-requires c κs = search rules
 
 -- the copy is that of d, whose statement is one of the n
 
-copy_is : (c : tie.After-i) → let a = c.before.before.before.before.args in at c.before.copy_of.result.base c.before.copy_of.result.stmt.0 ≡ node (flow_of a.file.now) a.d.0
-copy_is c = let s = c.before.before.before.before in c.before.copy_of.ensures ∙ sym (ap (λ (n : ℕ). node_in n s.args.d.0) (ready-size s.requires.1.ready))
+copy_is : (c : tie.After-i-1) → let a = c.args in at c.copy_of-copy.result.base c.copy_of-copy.result.stmt.0 ≡ node (flow_of a.file.now) a.d.0
+copy_is c = c.copy_of-copy.ensures ∙ sym (ap (λ (n : ℕ). node_in n c.args.d.0) (ready-size c.requires.1.ready))
 
-below : (c : tie.After-i) → c.before.copy_of.result.stmt.0 < c.before.before.before.before.args.h.statements
+below : (c : tie.After-i-1) → c.copy_of-copy.result.stmt.0 < c.args.h.statements
 below c =
-    let s = c.before.before.before.before in
-    subst (λ (v : Node). v.stmt < s.args.h.statements) (sym c.before.copy_of.ensures) (node-below s.args.h.statements s.args.d.0 (omega (arith, s.requires.4)))
+    subst (λ (v : Node). v.stmt < c.args.h.statements) (sym c.copy_of-copy.ensures) (node-below c.args.h.statements c.args.d.0 (omega (arith, c.requires.4)))
 
-offset-requires : tie.Need-offset-requires
-offset-requires c κs = (c.before.before.before.before.before.requires.1.ready, below c.before)
+offset-requires : tie.Need-offset-place-requires
+offset-requires c κs = (c.requires.1.ready, below c)
 
-is-call-requires : tie.Need-is-call-requires
-is-call-requires c κs = let s = c.before.before.before.before.before.before.before in (s.requires.1.ready, s.requires.2, below c.before.before.before, c.before.offset.ensures)
+is-call-requires : tie.Need-is_call-requires
+is-call-requires c κs = (c.requires.1.ready, c.requires.2, below c.before, c.offset-place.ensures)
 
-send-call-requires : tie.Need-send-call-requires
+send-call-requires : tie.Need-send_call-requires
 send-call-requires c κs =
-    let s = c.before.before.before.before.before.before.before.before.before.before in
-    (s.requires.0, s.requires.1, s.requires.2, s.requires.3, s.requires.4, c.before.before.before.before.offset.ensures, copy_is c.before.before.before.before.before.before, below c.before.before.before.before.before.before, sym c.before.before.is_call.ensures ∙ c.before.if1.true, s.requires.5, s.requires.6)
+    (c.requires.0, c.requires.1, c.requires.2, c.requires.3, c.requires.4, c.offset-place.ensures, copy_is c.before.before.before.before, below c.before.before.before.before, sym c.is_call.ensures ∙ c.if-is_call.true, c.requires.5, c.requires.6)
 
-same_length : tie.Need-same-length
+same_length : tie.Need-shape_of-work-then-is_call
 same_length c = search rules
 
-returns : tie.Need-returns
-returns c = c.before.before.send-call.ensures
+returns : tie.Need-returns-then-is_call
+returns c = c.send_call.ensures
 
-plain-row-requires : tie.Need-plain-row-requires
-plain-row-requires c κs = let s = c.before.before.before.before.before.before.before.before.before.before in (s.requires.0, s.requires.1, s.requires.3, s.requires.4, c.before.before.before.before.offset.ensures, below c.before.before.before.before.before.before)
+plain-row-requires : tie.Need-plain_row-from-requires
+plain-row-requires c κs = (c.requires.0, c.requires.1, c.requires.3, c.requires.4, c.offset-place.ensures, below c.before.before.before.before)
 
 -- while the row is made, only words behind the queue are written
-beside : (c : tie.After-plain-row) → let a = c.before.before.before.before.before.before.before.before.before.before.before.args in Keeps (queue_at a.h.statements) (mask_row_at a.h.statements a.width 0) a.work.now c.plain_row.new.1.1.0
-beside c = keeps_widen (omega arith) (omega arith) c.plain_row.ensures.0.keeps
+beside : (c : tie.After-plain_row-from) → let a = c.args in Keeps (queue_at a.h.statements) (mask_row_at a.h.statements a.width 0) a.work.now c.plain_row-from.new.work
+beside c = keeps_widen (omega arith) (omega arith) c.plain_row-from.ensures.0.keeps
 
 -- the row may be pushed
-source : (c : tie.After-plain-row) → Source c.before.before.before.before.before.before.before.before.before.before.before.args.h.statements c.before.before.before.before.before.before.before.before.before.before.before.args.width c.plain_row.result
-source c = go c.plain_row.ensures.1
+source : (c : tie.After-plain_row-from) → Source c.args.h.statements c.args.width c.plain_row-from.result
+source c = go c.plain_row-from.ensures.1
   where
-    go : (c.plain_row.result ≡ out_row c.before.before.before.before.before.before.before.before.before.before.before.args.h.statements c.before.before.before.before.before.before.before.before.before.before.before.args.width) ⊎ (c.plain_row.result ≡ mask_row_at c.before.before.before.before.before.before.before.before.before.before.before.args.h.statements c.before.before.before.before.before.before.before.before.before.before.before.args.width c.before.before.before.before.before.before.before.before.before.before.before.args.d.0) → Source c.before.before.before.before.before.before.before.before.before.before.before.args.h.statements c.before.before.before.before.before.before.before.before.before.before.before.args.width c.plain_row.result
-    go (inl e) = let first = row_first c.before.before.before.before.before.before.before.before.before.before.before.args.h.statements c.before.before.before.before.before.before.before.before.before.before.before.args.width in inl (omega arith, omega arith)
-    go (inr e) = inr (c.before.before.before.before.before.before.before.before.before.before.before.args.d.0, c.before.before.before.before.before.before.before.before.before.before.before.requires.4, e)
+    go : (c.plain_row-from.result ≡ out_row c.args.h.statements c.args.width) ⊎ (c.plain_row-from.result ≡ mask_row_at c.args.h.statements c.args.width c.args.d.0) → Source c.args.h.statements c.args.width c.plain_row-from.result
+    go (inl e) = let first = row_first c.args.h.statements c.args.width in inl (omega arith, omega arith)
+    go (inr e) = inr (c.args.d.0, c.requires.4, e)
 
-push-plain-requires : tie.Need-push-plain-requires
+push-plain-requires : tie.Need-push_plain-requires
 push-plain-requires c κs =
-    let s = c.before.before.before.before.before.before.before.before.before.before.before.before.before.before in
     let keeps = beside c.before.before.before in
-    let most = (limited s.requires.1.ready.fit).arrays in (
-      omega (arith, s.requires.0, ap (λ h. h.arrays) s.requires.1.header),
-      ready_stays keeps s.requires.1.ready,
-      linked-stays keeps s.requires.2,
-      c.before.before.before.before.before.before.before.before.offset.ensures,
-      below c.before.before.before.before.before.before.before.before.before.before,
-      sym c.before.before.before.before.before.before.is_call.ensures ∙ c.before.before.before.before.before.if1.false,
+    let most = (limited c.requires.1.ready.fit).arrays in (
+      omega (arith, c.requires.0, ap (λ h. h.arrays) c.requires.1.header),
+      ready_stays keeps c.requires.1.ready,
+      linked-stays keeps c.requires.2,
+      c.offset-place.ensures,
+      below c.before.before.before.before.before.before.before.before,
+      sym c.is_call.ensures ∙ c.if-is_call.false,
       source c.before.before.before,
-      beside_shared s.args.work.now c.before.before.before.plain_row.new.1.1.0 s.args.h.statements s.args.width c.before.before.before.plain_row.ensures.0.keeps s.requires.5,
-      (_, beside_waits s.args.work.now c.before.before.before.plain_row.new.1.1.0 s.args.h.statements s.args.width c.before.before.before.plain_row.ensures.0.keeps s.requires.6.1),
+      beside_shared c.args.work.now c.plain_row-from.new.work c.args.h.statements c.args.width c.plain_row-from.ensures.0.keeps c.requires.5,
+      (_, beside_waits c.args.work.now c.plain_row-from.new.work c.args.h.statements c.args.width c.plain_row-from.ensures.0.keeps c.requires.6.1),
     )
 
-same-length-2 : tie.Need-same-length-2
+same-length-2 : tie.Need-shape_of-work
 same-length-2 c = search rules
 
-returns-2 : tie.Need-returns-2
+returns-2 : tie.Need-returns
 returns-2 c =
-    let s = c.before.before.before.before.before.before.before.before.before.before.before.before.before.before.before.before.before in
-    let f = flow_of s.args.file.now in
-    let copy = copy_is c.before.before.before.before.before.before.before.before.before.before.before.before.before in
+    let f = flow_of c.args.file.now in
+    let copy = copy_is c.before.before.before.before.before.before.before.before.before.before.before in
     let stmt = ap (λ (v : Node). v.stmt) copy in
     sends copy refl
-    (prepared_plain f s.args.work.now c.before.before.before.before.before.before.plain_row.new.1.1.0 s.args.h.statements s.args.width s.args.d.0 _ stmt c.before.before.before.before.before.before.plain_row.result c.before.before.before.before.before.before.plain_row.ensures.0
-    (subst (Plain f) stmt (plain_says f _ (sym c.before.before.before.before.before.before.before.before.before.is_call.ensures ∙ c.before.before.before.before.before.before.before.before.if1.false))))
-    c.before.before.push-plain.ensures
+    (prepared_plain f c.args.work.now c.plain_row-from.new.work c.args.h.statements c.args.width c.args.d.0 _ stmt c.plain_row-from.result c.plain_row-from.ensures.0
+    (subst (Plain f) stmt (plain_says f _ (sym c.is_call.ensures ∙ c.if-is_call.false))))
+    c.push_plain.ensures
 
-pub send-edges-spec : {M : Type 1} → statement M
-send-edges-spec =
+pub send_edges_spec : {M : Type 1} → statement M
+send_edges_spec =
     tie.close
     (tie.spec
     copy-of-requires

@@ -35,103 +35,98 @@ room c = nodes-room c.requires.1.ready c.requires.4 (narrow c)
 few : (c : tie.Start) → (flow_of c.args.file.now).arrays ≤ 64 * c.args.width
 few c = omega (arith, c.requires.0, ap (λ h. h.arrays) c.requires.1.header, arrays-is c.args.file.now)
 
-take-requires : tie.Need-take-requires
-take-requires c κs = let s = c.before.before.before in (ready-most s.requires.1.ready, narrow s, room s, s.requires.5, (s.requires.6.state.waiting, s.requires.6.solving.waits))
+take-requires : tie.Need-take-d-requires
+take-requires c κs = (ready-most c.requires.1.ready, narrow c.before.before.before, room c.before.before.before, c.requires.5, (c.requires.6.state.waiting, c.requires.6.solving.waits))
 
-rest-requires : tie.Need-rest-requires
-rest-requires c κs = let s = c.before.before.before.before.before.before in (ready-most s.requires.1.ready, s.requires.5, s.requires.6.solving.waits.front)
+rest-requires : tie.Need-rest-queue-requires
+rest-requires c κs = (ready-most c.requires.1.ready, c.requires.5, c.requires.6.solving.waits.front)
 
 -- the front of a state that is under way is the number taken
 
-taken-room : (c : tie.After-take) → nodes_end c.before.before.before.before.args.h.statements c.before.before.before.before.args.width ≤ length c.take.new.0
-taken-room c = let size = c.take.ensures.kept.size in omega (arith, room c.before.before.before.before)
+taken-room : (c : tie.After-take-d) → nodes_end c.args.h.statements c.args.width ≤ length c.take-d.new.work
+taken-room c = let size = c.take-d.ensures.kept.size in omega (arith, room c.before.before.before.before)
 
-below : (c : tie.After-take) → c.take.result.0 < 2 * c.before.before.before.before.args.h.statements
+below : (c : tie.After-take-d) → c.take-d.result.0 < 2 * c.args.h.statements
 below c =
-    let s = c.before.before.before.before in
-    let u = s.requires.6 in
-    let front = underway-front u s.requires.5 in
-    let wf = well_formed s.requires.1.ready.fit in
-    subst (λ (d : ℕ). d < 2 * s.args.h.statements)
-    (sym (is_front wf (ready-size s.requires.1.ready) (few s) u front.0 front.1 front.2 c.take.ensures))
-    (front_in wf (ready-size s.requires.1.ready) (few s) u front.0 front.1 front.2 c.take.ensures)
+    let u = c.requires.6 in
+    let front = underway-front u c.requires.5 in
+    let wf = well_formed c.requires.1.ready.fit in
+    subst (λ (d : ℕ). d < 2 * c.args.h.statements)
+    (sym (is_front wf (ready-size c.requires.1.ready) (few c.before.before.before.before) u front.0 front.1 front.2 c.take-d.ensures))
+    (front_in wf (ready-size c.requires.1.ready) (few c.before.before.before.before) u front.0 front.1 front.2 c.take-d.ensures)
 
 settle-requires : tie.Need-settle-requires
-settle-requires c κs = let s = c.before.before.before.before.before.before.before.before in (ready-most s.requires.1.ready, narrow s, taken-room c.before.before.before.before, below c.before.before.before.before)
+settle-requires c κs = (ready-most c.requires.1.ready, narrow c.before.before.before.before.before.before.before.before, taken-room c.before.before.before.before, below c.before.before.before.before)
 
 -- what is kept while the front is taken and settled
-beside : (c : tie.After-settle) → let a = c.before.before.before.before.before.before.before.before.before.args in Keeps (queue_at a.h.statements) (nodes_end a.h.statements a.width) a.work.now c.settle.new.0
+beside : (c : tie.After-settle) → let a = c.args in Keeps (queue_at a.h.statements) (nodes_end a.h.statements a.width) a.work.now c.settle.new.work
 beside c =
-    let s = c.before.before.before.before.before.before.before.before.before in
-    let u = s.requires.6 in
-    let front = underway-front u s.requires.5 in
-    let wf = well_formed s.requires.1.ready.fit in
-    let low = row_from s.args.h.statements s.args.width c.before.before.before.before.before.take.result.0 in
-    let fits = row_fits s.args.h.statements s.args.width (below c.before.before.before.before.before) in
-    keeps-trans (rest-keeps c.before.before.before.before.before.take.ensures.kept)
-    (keeps_widen (omega arith) (omega arith) (note_keeps wf (ready-size s.requires.1.ready) (few s) u front.0 front.1 front.2 c.before.before.before.before.before.take.ensures c.settle.ensures.1 (taken-room c.before.before.before.before.before)))
+    let u = c.requires.6 in
+    let front = underway-front u c.requires.5 in
+    let wf = well_formed c.requires.1.ready.fit in
+    let low = row_from c.args.h.statements c.args.width c.take-d.result.0 in
+    let fits = row_fits c.args.h.statements c.args.width (below c.before.before.before.before.before) in
+    keeps-trans (rest-keeps c.take-d.ensures.kept)
+    (keeps_widen (omega arith) (omega arith) (note_keeps wf (ready-size c.requires.1.ready) (few c.before.before.before.before.before.before.before.before.before) u front.0 front.1 front.2 c.take-d.ensures c.settle.ensures.1 (taken-room c.before.before.before.before.before)))
 
-wide : (c : tie.After-settle) → let a = c.before.before.before.before.before.before.before.before.before.args in Keeps (queue_at a.h.statements) (area_end a.h.statements a.width) a.work.now c.settle.new.0
-wide c = let a = c.before.before.before.before.before.before.before.before.before.args in let end = nodes-within a.h.statements a.width in keeps_widen (omega arith) (omega arith) (beside c)
+wide : (c : tie.After-settle) → let a = c.args in Keeps (queue_at a.h.statements) (area_end a.h.statements a.width) a.work.now c.settle.new.work
+wide c = let a = c.args in let end = nodes-within a.h.statements a.width in keeps_widen (omega arith) (omega arith) (beside c)
 
-same_length : tie.Need-same-length
+same_length : tie.Need-shape_of-work-then-settle
 same_length c = (beside c.before.before.before).size
 
-returns : tie.Need-returns
+returns : tie.Need-returns-then-settle
 returns c =
-    let s = c.before.before.before.before.before.before.before.before.before.before.before.before in
-    let taken = c.before.before.before.before.before.before.before.before.take.ensures in (
+    let taken = c.take-d.ensures in (
       λ u.
-          let front = underway-front u s.requires.5 in
-          let wf = well_formed s.requires.1.ready.fit in
-          let still = not-true _ (sym (settled_at wf (ready-size s.requires.1.ready) (few s) u front.0 front.1 front.2 taken c.before.before.before.settle.ensures.0) ∙ c.if1.true) in
-          subst (λ r. VisitsFront (flow_of s.args.file.now) s.args.work.now c.before.before.before.settle.new.0 s.args.h.statements s.args.width s.args.first r u)
-          (sym c.before.before.before.before.before.rest.ensures)
-          (visits-settled wf (ready-size s.requires.1.ready) (few s) u front.0 front.1 front.2 taken c.before.before.before.settle.ensures.1 (taken-room c.before.before.before.before.before.before.before.before) still),
+          let front = underway-front u c.requires.5 in
+          let wf = well_formed c.requires.1.ready.fit in
+          let still = not-true _ (sym (settled_at wf (ready-size c.requires.1.ready) (few c.before.before.before.before.before.before.before.before.before.before.before.before) u front.0 front.1 front.2 taken c.settle.ensures.0) ∙ c.if-settle.true) in
+          subst (λ r. VisitsFront (flow_of c.args.file.now) c.args.work.now c.settle.new.work c.args.h.statements c.args.width c.args.first r u)
+          (sym c.rest-queue.ensures)
+          (visits-settled wf (ready-size c.requires.1.ready) (few c.before.before.before.before.before.before.before.before.before.before.before.before) u front.0 front.1 front.2 taken c.settle.ensures.1 (taken-room c.before.before.before.before.before.before.before.before) still),
       wide c.before.before.before,
     )
 
 send-requires : tie.Need-send-requires
 send-requires c κs =
-    let s = c.before.before.before.before.before.before.before.before.before.before.before.before.before in
-    let u = s.requires.6 in
-    let front = underway-front u s.requires.5 in
-    let wf = well_formed s.requires.1.ready.fit in
+    let u = c.requires.6 in
+    let front = underway-front u c.requires.5 in
+    let wf = well_formed c.requires.1.ready.fit in
     let keeps = beside c.before.before.before.before in (
-      s.requires.0,
-      indexed_stays keeps s.requires.1,
-      linked-stays keeps s.requires.2,
-      key-stays (wide c.before.before.before.before) s.requires.3,
+      c.requires.0,
+      indexed_stays keeps c.requires.1,
+      linked-stays keeps c.requires.2,
+      key-stays (wide c.before.before.before.before) c.requires.3,
       below c.before.before.before.before.before.before.before.before.before,
-      noted-shared wf (ready-size s.requires.1.ready) (few s) u front.0 front.1 front.2 c.before.before.before.before.before.before.before.before.before.take.ensures c.before.before.before.before.settle.ensures.1 (taken-room c.before.before.before.before.before.before.before.before.before),
+      noted-shared wf (ready-size c.requires.1.ready) (few c.before.before.before.before.before.before.before.before.before.before.before.before.before) u front.0 front.1 front.2 c.take-d.ensures c.settle.ensures.1 (taken-room c.before.before.before.before.before.before.before.before.before),
       (
         front.1,
-        subst (λ r. Waits c.before.before.before.before.settle.new.0 s.args.h.statements s.args.width r front.1) (sym c.before.before.before.before.before.before.rest.ensures)
-            (noted-waits wf (ready-size s.requires.1.ready) (few s) u front.0 front.1 front.2 c.before.before.before.before.before.before.before.before.before.take.ensures c.before.before.before.before.settle.ensures.1 (taken-room c.before.before.before.before.before.before.before.before.before)),
+        subst (λ r. Waits c.settle.new.work c.args.h.statements c.args.width r front.1) (sym c.rest-queue.ensures)
+            (noted-waits wf (ready-size c.requires.1.ready) (few c.before.before.before.before.before.before.before.before.before.before.before.before.before) u front.0 front.1 front.2 c.take-d.ensures c.settle.ensures.1 (taken-room c.before.before.before.before.before.before.before.before.before)),
       ),
     )
 
-same-length-2 : tie.Need-same-length-2
-same-length-2 c = c.before.before.send.ensures.keeps.size ∙ (beside c.before.before.before.before.before.before.before).size
+same-length-2 : tie.Need-shape_of-work
+same-length-2 c = c.send.ensures.keeps.size ∙ (beside c.before.before.before.before.before.before.before).size
 
-returns-2 : tie.Need-returns-2
+returns-2 : tie.Need-returns
 returns-2 c =
-    let s = c.before.before.before.before.before.before.before.before.before.before.before.before.before.before.before.before in
-    let n = s.args.h.statements in
-    let f = flow_of s.args.file.now in
-    let taken = c.before.before.before.before.before.before.before.before.before.before.before.before.take.ensures in
-    let wf = well_formed s.requires.1.ready.fit in
-    let end = nodes-within n s.args.width in
-    let sent = subst (λ r. Sends f c.before.before.before.before.before.before.before.settle.new.0 c.before.before.send.new.1.1.0 n s.args.width r c.before.before.before.before.before.before.before.before.before.before.before.before.take.result.0 ((doubled f).arcs c.before.before.before.before.before.before.before.before.before.before.before.before.take.result.0) c.before.before.send.result) c.before.before.before.before.before.before.before.before.before.rest.ensures c.before.before.send.ensures in (
+    let n = c.args.h.statements in
+    let f = flow_of c.args.file.now in
+    let taken = c.take-d.ensures in
+    let wf = well_formed c.requires.1.ready.fit in
+    let end = nodes-within n c.args.width in
+    let sent = subst (λ r. Sends f c.settle.new.work c.send.new.work n c.args.width r c.take-d.result.0 ((doubled f).arcs c.take-d.result.0) c.send.result) c.rest-queue.ensures c.send.ensures in (
       λ u.
-          let front = underway-front u s.requires.5 in
-          let new = not-false _ (sym (settled_at wf (ready-size s.requires.1.ready) (few s) u front.0 front.1 front.2 taken c.before.before.before.before.before.before.before.settle.ensures.0) ∙ c.before.before.before.before.if1.false) in
-          visits-sent wf (ready-size s.requires.1.ready) (few s) u front.0 front.1 front.2 taken c.before.before.before.before.before.before.before.settle.ensures.1 (taken-room c.before.before.before.before.before.before.before.before.before.before.before.before) new sent,
-      keeps-trans (wide c.before.before.before.before.before.before.before) c.before.before.send.ensures.keeps,
+          let front = underway-front u c.requires.5 in
+          let new = not-false _ (sym (settled_at wf (ready-size c.requires.1.ready) (few c.before.before.before.before.before.before.before.before.before.before.before.before.before.before.before.before) u front.0 front.1 front.2 taken c.settle.ensures.0) ∙ c.if-settle.false) in
+          visits-sent wf (ready-size c.requires.1.ready) (few c.before.before.before.before.before.before.before.before.before.before.before.before.before.before.before.before) u front.0 front.1 front.2 taken c.settle.ensures.1 (taken-room c.before.before.before.before.before.before.before.before.before.before.before.before) new sent,
+      keeps-trans (wide c.before.before.before.before.before.before.before) c.send.ensures.keeps,
     )
 
-pub visit-spec : {M : Type 1} → statement M
-visit-spec =
+pub visit_spec : {M : Type 1} → statement M
+visit_spec =
     tie.close
     (tie.spec
     take-requires

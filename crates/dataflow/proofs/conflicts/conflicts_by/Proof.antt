@@ -8,53 +8,49 @@ use Rattle.dataflow.proofs.JudgingRows.{ready_at, rows_start, live-sets, most-fo
 use Rattle.dataflow.proofs.conflicts.conflicts_by.Statement.{statement}
 use Rattle.dataflow.proofs.conflicts.conflicts_by.Tie as tie
 
-note-offsets-requires : tie.Need-note-offsets-requires
+note-offsets-requires : tie.Need-note_offsets-requires
 note-offsets-requires c κs =
-    let p = c.before.before.before.before.before.before.requires.0.flow_fit in
+    let p = c.requires.0.flow_fit in
     (p.fit, (omega (arith, ap (λ (x : Header). x.statements) p.header), omega (arith, p.work_room)))
 
-live-names-requires : tie.Need-live-names-requires
+live-names-requires : tie.Need-live_names-requires
 live-names-requires c κs =
-    let noted = c.before.before.before.before.before in
-    let p = noted.before.before.before.before.before.before.before.requires in
-    record { ready = ready_at p.0 noted.note-offsets.ensures; some = p.0.flow_fit.some; in_room = p.1; out_room = p.2 }
+    let p = c.requires in
+    record { ready = ready_at p.0 c.note_offsets.ensures; some = p.0.flow_fit.some; in_room = p.1; out_room = p.2 }
 
-write-rows-requires : tie.Need-write-rows-requires
+write-rows-requires : tie.Need-write_rows-requires
 write-rows-requires c κs =
-    let live = c.before.before.before.before.before.before.before.before.before.before in
-    let noted = live.before.before.before.before.before.before in
-    let p = noted.before.before.before.before.before.before.before.requires in
-    let e = noted.note-offsets.ensures in
-    (rows_start p.0 e live.live-names.ensures p.1 p.2, live-sets p.0 e live.live-names.ensures p.1 p.2, p.0.flow_fit.header)
+    let noted = c in
+    let p = noted.requires in
+    let e = noted.note_offsets.ensures in
+    (rows_start p.0 e c.live_names.ensures p.1 p.2, live-sets p.0 e c.live_names.ensures p.1 p.2, p.0.flow_fit.header)
 
-most-live-requires : tie.Need-most-live-requires
+most-live-requires : tie.Need-most_live-requires
 most-live-requires c κs = search rules
 
-same_length : tie.Need-same-length
+same_length : tie.Need-shape_of-rows
 same_length c = search rules
 
-same-length-2 : tie.Need-same-length-2
+same-length-2 : tie.Need-shape_of-work
 same-length-2 c = search rules
 
-same-length-3 : tie.Need-same-length-3
+same-length-3 : tie.Need-shape_of-live_in
 same-length-3 c = search rules
 
-same-length-4 : tie.Need-same-length-4
+same-length-4 : tie.Need-shape_of-live_out
 same-length-4 c = search rules
 
 returns : tie.Need-returns
 returns c =
-    let written = c.before.before.before.before in
-    let live = written.before.before.before.before.before.before.before.before.before.before.before in
-    let noted = live.before.before.before.before.before.before in
-    let p = noted.before.before.before.before.before.before.before.requires in
+    let live = c in
+    let p = live.requires in
     record {
-      rows_are = written.write-rows.ensures;
-      most_is = most-found p.0 noted.note-offsets.ensures live.live-names.ensures p.1 p.2 c.most-live.ensures;
+      rows_are = c.write_rows.ensures;
+      most_is = most-found p.0 live.note_offsets.ensures live.live_names.ensures p.1 p.2 c.most_live.ensures;
     }
 
-pub conflicts-by-spec : {M : Type 1} → statement M
-conflicts-by-spec =
+pub conflicts_by_spec : {M : Type 1} → statement M
+conflicts_by_spec =
     tie.close
     (tie.spec
     note-offsets-requires

@@ -14,61 +14,60 @@ use Rattle.dataflow.proofs.Phases.{edges-within}
 use Rattle.dataflow.proofs.door.clear.Statement.{statement}
 use Rattle.dataflow.proofs.door.clear.Tie as tie
 
-lines-requires : tie.Need-lines-requires
+lines-requires : tie.Need-lines-lines-requires
 lines-requires c κs = search rules
 
 matrix-requires : tie.Need-matrix-requires
 matrix-requires c κs = search rules
 
-sub-zero-row : tie.Need-overflow-sub-zero-row
-sub-zero-row c = omega (arith, c.before.before.lines.ensures, c.matrix.ensures)
+sub-zero-row : tie.Need-overflow_sub-matrix
+sub-zero-row c = omega (arith, c.lines-lines.ensures, c.matrix.ensures)
 
-zero-row-requires : tie.Need-zero-row-requires
-zero-row-requires c κs = omega (arith, c.before.before.lines.ensures, c.matrix.ensures, c.before.before.before.before.requires.3)
+zero-row-requires : tie.Need-zero_row-requires
+zero-row-requires c κs = omega (arith, c.lines-lines.ensures, c.matrix.ensures, c.requires.3)
 
-edges-end-requires : tie.Need-edges-end-requires
+edges-end-requires : tie.Need-edges_end-from-requires
 edges-end-requires c κs = search rules
 
-set-words-requires : tie.Need-set-words-requires
+set-words-requires : tie.Need-set_words-requires
 set-words-requires c κs = search rules
 
-end-requires : tie.Need-end-requires
-end-requires c κs = let p = c.before.before.before.before.before.before.before.before.before.requires in (p.1, omega (arith, c.set_words.ensures, p.2))
+end-requires : tie.Need-end-end-requires
+end-requires c κs = let p = c.requires in (p.1, omega (arith, c.set_words.ensures, p.2))
 
 -- where the second run begins and ends
-module _ (c : tie.After-zero-row-arg2) where
+module _ (c : tie.After-zero_row-arg-2-1) where
   abbrev start : tie.Start
   start = c.before.before.before.before.before.before.before.before.before.before.before
 
-  from : c.before.before.before.edges-end.result ≡ edges_end start.args.n
-  from = c.before.before.before.edges-end.ensures
+  from : c.edges_end-from.result ≡ edges_end start.args.n
+  from = c.edges_end-from.ensures
 
-  to : c.before.end.result ≡ area_end start.args.n (set_words start.args.arrays)
-  to = c.before.end.ensures ∙ ap (area_end start.args.n) c.before.before.set_words.ensures
+  to : c.end-end.result ≡ area_end start.args.n (set_words start.args.arrays)
+  to = c.end-end.ensures ∙ ap (area_end start.args.n) c.set_words.ensures
 
-sub-zero-row-2 : tie.Need-overflow-sub-zero-row-2
+sub-zero-row-2 : tie.Need-overflow_sub-end
 sub-zero-row-2 c = omega (arith, from c, to c, edges-within (start c).args.n (set_words (start c).args.arrays))
 
-zero-row-requires-2 : tie.Need-zero-row-requires-2
+zero-row-requires-2 : tie.Need-zero_row-requires-2
 zero-row-requires-2 c κs =
     let n = (start c).args.n in
     let w = set_words (start c).args.arrays in
     let p = (start c).requires in
-    omega (arith, from c, to c, edges-within n w, c.before.before.before.before.before.before.zero_row.auto.0, p.3, solver_fits {w = w} p.0 p.1 (omega (arith, p.2)))
+    omega (arith, from c, to c, edges-within n w, c.zero_row.auto.ws, p.3, solver_fits {w = w} p.0 p.1 (omega (arith, p.2)))
 
-same_length : tie.Need-same-length
+same_length : tie.Need-shape_of-work
 same_length c = search rules
 
 returns : tie.Need-returns
 unfolding cleared
 returns c =
-    let d = c.before.before.before in
-    let a = (start d).args in
-    let first = d.before.before.before.before.before.before.zero_row in
-    let lines = d.before.before.before.before.before.before.before.before.before.lines.ensures in
-    let matrix = d.before.before.before.before.before.before.before.matrix.ensures in
-    c.before.before.zero-row2.ensures
-    ∙ ap₂ (λ (f e : ℕ). zeroed first.new.0 f (e - f)) (from d) (to d)
+    let a = (start c.before.before.before).args in
+    let first = c.zero_row in
+    let lines = c.lines-lines.ensures in
+    let matrix = c.matrix.ensures in
+    c.zero_row-2.ensures
+    ∙ ap₂ (λ (f e : ℕ). zeroed first.new.ws f (e - f)) (from c.before.before.before) (to c.before.before.before)
     ∙ ap (λ (v : List ℕ). zeroed v (edges_end a.n) (area_end a.n (set_words a.arrays) - edges_end a.n)) (first.ensures ∙ ap₂ (λ (l m : ℕ). zeroed a.work.now l (m - l)) lines matrix)
 
 pub clear_spec : {M : Type 1} → statement M

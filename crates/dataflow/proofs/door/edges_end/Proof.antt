@@ -8,20 +8,19 @@ use Rattle.statements.proofs.WorkArea.{queue-below, row-words-le}
 use Rattle.dataflow.proofs.door.edges_end.Statement.{statement}
 use Rattle.dataflow.proofs.door.edges_end.Tie as tie
 
-returns-row-requires : tie.Need-returns-row-requires
+returns-row-requires : tie.Need-returns_row-requires
 returns-row-requires c κs = search rules
 
-row-words-requires : tie.Need-row-words-requires
+row-words-requires : tie.Need-row_words-requires
 row-words-requires c κs = search rules
 
-add-result : tie.Need-overflow-add-result
+add-result : tie.Need-overflow_add-result
 add-result c =
-    let start = c.before.before in
-    let n = start.args.n in
-    omega (arith, c.before.returns-row.ensures, c.row_words.ensures, queue-below start.requires, row-words-le n)
+    let n = c.args.n in
+    omega (arith, c.returns_row.ensures, c.row_words.ensures, queue-below c.requires, row-words-le n)
 
 returns : tie.Need-returns
-returns c = ap₂ ◌+◌ c.before.returns-row.ensures c.row_words.ensures
+returns c = ap₂ ◌+◌ c.returns_row.ensures c.row_words.ensures
 
-pub edges-end-spec : {M : Type 1} → statement M
-edges-end-spec = tie.close (tie.spec returns-row-requires row-words-requires add-result returns)
+pub edges_end_spec : {M : Type 1} → statement M
+edges_end_spec = tie.close (tie.spec returns-row-requires row-words-requires add-result returns)

@@ -6,44 +6,44 @@ use Rattle.dataflow.proofs.Phases.{unvisited}
 use Rattle.dataflow.proofs.door.find_masks.Statement.{statement}
 use Rattle.dataflow.proofs.door.find_masks.Tie as tie
 
-opaque-handler-requires : tie.Need-opaque-handler-requires
-opaque-handler-requires c κs = c.before.before.before.before.requires.0
+opaque-handler-requires : tie.Need-opaque_handler-requires
+opaque-handler-requires c κs = c.requires.0
 
-mul-write-any : tie.Need-overflow-mul-write-any
+mul-write-any : tie.Need-overflow_mul-h
 mul-write-any c = search rules
 
-write-any-requires : tie.Need-write-any-requires
-write-any-requires c κs = c.before.before.before.before.before.before.before.before.requires.2
+write-any-requires : tie.Need-write_any-requires
+write-any-requires c κs = c.requires.2
 
-same_length : tie.Need-same-length
+same_length : tie.Need-shape_of-masks-then-opaque_handler
 same_length c = search rules
 
-same-length-2 : tie.Need-same-length-2
+same-length-2 : tie.Need-shape_of-work-then-opaque_handler
 same-length-2 c = search rules
 
-returns : tie.Need-returns
-returns c = unvisited c.before.before.before.before.before.before.before.before.before.before.before.requires.0.indexed c.before.before.before.before.before.before.before.before.before.before.before.requires.2 (sym c.before.before.before.before.before.before.opaque-handler.ensures ∙ c.before.before.before.before.before.if1.true) c.before.before.write-any.ensures
+returns : tie.Need-returns-then-opaque_handler
+returns c = unvisited c.requires.0.indexed c.requires.2 (sym c.opaque_handler.ensures ∙ c.if-opaque_handler.true) c.write_any.ensures
 
-note-key-requires : tie.Need-note-key-requires
-note-key-requires c κs = (c.before.before.before.before.before.before.before.requires.0, sym c.before.before.opaque-handler.ensures ∙ c.before.if1.false)
+note-key-requires : tie.Need-note_key-requires
+note-key-requires c κs = (c.requires.0, sym c.opaque_handler.ensures ∙ c.if-opaque_handler.false)
 
 link-requires : tie.Need-link-requires
-link-requires c κs = let made = c.before.before.before.note-key.ensures in (made.0, made.1, c.before.before.before.before.before.before.before.before.before.before.before.requires.1)
+link-requires c κs = let made = c.note_key.ensures in (made.0, made.1, c.requires.1)
 
-solve-arrays-requires : tie.Need-solve-arrays-requires
-solve-arrays-requires c κs = (c.before.before.before.before.link.ensures, c.before.before.before.before.before.before.before.before.before.before.before.before.before.before.before.before.requires.2, sym c.before.before.before.before.before.before.before.before.before.before.before.opaque-handler.ensures ∙ c.before.before.before.before.before.before.before.before.before.before.if1.false)
+solve-arrays-requires : tie.Need-solve_arrays-requires
+solve-arrays-requires c κs = (c.link.ensures, c.requires.2, sym c.opaque_handler.ensures ∙ c.if-opaque_handler.false)
 
-same-length-3 : tie.Need-same-length-3
+same-length-3 : tie.Need-shape_of-masks
 same-length-3 c = search rules
 
-same-length-4 : tie.Need-same-length-4
+same-length-4 : tie.Need-shape_of-work
 same-length-4 c = search rules
 
-returns-2 : tie.Need-returns-2
-returns-2 c = c.before.before.before.before.solve-arrays.ensures
+returns-2 : tie.Need-returns
+returns-2 c = c.solve_arrays.ensures
 
-pub find-masks-spec : {M : Type 1} → statement M
-find-masks-spec =
+pub find_masks_spec : {M : Type 1} → statement M
+find_masks_spec =
     tie.close
     (tie.spec
     opaque-handler-requires

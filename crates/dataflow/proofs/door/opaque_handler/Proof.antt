@@ -15,43 +15,42 @@ use borrow.Author.Rules.{rules}
 use Rattle.dataflow.proofs.door.opaque_handler.Statement.{statement}
 use Rattle.dataflow.proofs.door.opaque_handler.Tie as tie
 
-enum_told : tie.Need-enum-told
+enum_told : tie.Need-enum_told-1
 enum_told c = search rules
 
-enum-known-handler : tie.Need-enum-known-handler
+enum-known-handler : tie.Need-enum_known-handler
 enum-known-handler c = search rules
 
 -- the flow's handler, and that it is a statement
 
-told : (c : tie.After-handler) → (flow_of c.before.before.before.before.args.file.now).handler ≡ some c.handler.given.0.0.0
-told c = handler-at c.before.before.before.before.requires.indexed c.handler.given.0.0 c.handler.given.1
+told : (c : tie.In-At) → (flow_of c.args.file.now).handler ≡ some c.in-At.e.0
+told c = handler-at c.requires.indexed c.in-At.e c.in-At.is
 
-low : (c : tie.After-handler) → c.handler.given.0.0.0 < c.before.before.before.before.args.h.statements
-low c = handler-below c.before.before.before.before.requires c.handler.given.0.0.0 (told c)
+low : (c : tie.In-At) → c.in-At.e.0 < c.args.h.statements
+low c = handler-below c.requires c.in-At.e.0 (told c)
 
 bodies-requires : tie.Need-bodies-requires
-bodies-requires c κs = ready-most c.before.before.before.before.before.requires.indexed.ready
+bodies-requires c κs = ready-most c.requires.indexed.ready
 
-add-result : tie.Need-overflow-add-result
-add-result c = omega (arith, c.before.bodies.ensures, low c.before.before.before, ready-most c.before.before.before.before.before.before.before.requires.indexed.ready)
+add-result : tie.Need-overflow_add-result
+add-result c = omega (arith, c.bodies.ensures, low c.before.before, ready-most c.requires.indexed.ready)
 
-mul-result : tie.Need-overflow-mul-result
-mul-result c = omega (arith, c.before.bodies.ensures, low c.before.before.before, ready-most c.before.before.before.before.before.before.before.requires.indexed.ready)
+mul-result : tie.Need-offset_bounds-work-bodies
+mul-result c = omega (arith, c.bodies.ensures, low c.before.before, ready-most c.requires.indexed.ready)
 
-shared-slice-read-result : tie.Need-shared-slice-read-result
-shared-slice-read-result c = omega (arith, c.before.before.bodies.ensures, low c.before.before.before.before, c.before.before.before.before.before.before.before.before.requires.indexed.ready.room)
+shared-slice-read-result : tie.Need-bounds-work-bodies
+shared-slice-read-result c = omega (arith, c.bodies.ensures, low c.before.before.before, c.requires.indexed.ready.room)
 
-returns : tie.Need-returns
-returns c = sym (unkeyed_clear (flow_of c.before.before.before.before.args.file.now) (handler-none c.before.before.before.before.requires.indexed c.enum_told.given.1))
+returns : tie.Need-returns-in-None
+returns c = sym (unkeyed_clear (flow_of c.args.file.now) (handler-none c.requires.indexed c.in-None.is))
 
-returns-2 : tie.Need-returns-2
+returns-2 : tie.Need-returns-in-At
 returns-2 c =
-    let s = c.before.before.before.before.before.before.before.before in
-    ap (λ (x : ℕ). eqb (get_or s.args.work.now (x + c.before.before.before.before.handler.given.0.0.0) 0) opaque) c.before.before.bodies.ensures
-    ∙ body-told s.requires.summarized.handler (told c.before.before.before.before)
+    ap (λ (x : ℕ). eqb (get_or c.args.work.now (x + c.in-At.e.0) 0) opaque) c.bodies.ensures
+    ∙ body-told c.requires.summarized.handler (told c.before.before.before)
 
-pub opaque-handler-spec : {M : Type 1} → statement M
-opaque-handler-spec =
+pub opaque_handler_spec : {M : Type 1} → statement M
+opaque_handler_spec =
     tie.close
     (tie.spec
     enum_told

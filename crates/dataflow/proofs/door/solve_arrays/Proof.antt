@@ -15,34 +15,32 @@ use Rattle.dataflow.proofs.Phases.{masked}
 use Rattle.dataflow.proofs.door.solve_arrays.Statement.{statement}
 use Rattle.dataflow.proofs.door.solve_arrays.Tie as tie
 
-array-states-requires : tie.Need-array-states-requires
+array-states-requires : tie.Need-array_states-visits-requires
 array-states-requires c κs =
-    let blank = c.before.before.before.before.requires.0 in
+    let blank = c.requires.0 in
     (blank.indexed, blank.linked, blank.key, blank.some, blank.zero)
 
-write-masks-requires : tie.Need-write-masks-requires
+write-masks-requires : tie.Need-write_masks-requires
 write-masks-requires c κs =
-    let start = c.before.before.before.before.before.before.before.before.before in
-    let blank = start.requires.0 in
-    let few : start.args.h.arrays ≤ max_arrays = subst (λ (x : Header). x.arrays ≤ max_arrays) (sym blank.indexed.header) (limited blank.indexed.ready.fit).arrays in (
+    let blank = c.requires.0 in
+    let few : c.args.h.arrays ≤ max_arrays = subst (λ (x : Header). x.arrays ≤ max_arrays) (sym blank.indexed.header) (limited blank.indexed.ready.fit).arrays in (
       ready-most blank.indexed.ready,
       few,
-      start.requires.1,
-      subst (λ k. area_end start.args.h.statements (set_words start.args.h.arrays) ≤ k) (sym c.before.before.before.before.array-states.ensures.keeps.size) (solver_room blank.indexed.ready blank.some (omega arith)),
+      c.requires.1,
+      subst (λ k. area_end c.args.h.statements (set_words c.args.h.arrays) ≤ k) (sym c.array_states-visits.ensures.keeps.size) (solver_room blank.indexed.ready blank.some (omega arith)),
     )
 
-same_length : tie.Need-same-length
+same_length : tie.Need-shape_of-masks
 same_length c = search rules
 
-same-length-2 : tie.Need-same-length-2
+same-length-2 : tie.Need-shape_of-work
 same-length-2 c = search rules
 
 returns : tie.Need-returns
 returns c =
-    let start = c.before.before.before.before.before.before.before.before.before.before.before.before in
-    masked start.requires.0 start.requires.1 start.requires.2 c.before.before.before.before.before.before.before.array-states.ensures c.before.before.write-masks.ensures
+    masked c.requires.0 c.requires.1 c.requires.2 c.array_states-visits.ensures c.write_masks.ensures
 
-pub solve-arrays-spec : {M : Type 1} → statement M
-solve-arrays-spec =
+pub solve_arrays_spec : {M : Type 1} → statement M
+solve_arrays_spec =
     tie.close
     (tie.spec array-states-requires write-masks-requires same_length same-length-2 returns)

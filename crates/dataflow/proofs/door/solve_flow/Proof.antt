@@ -8,31 +8,31 @@ use Rattle.dataflow.proofs.door.solve_flow.Tie as tie
 summarize-requires : tie.Need-summarize-requires
 summarize-requires c κs = search rules
 
-find-masks-requires : tie.Need-find-masks-requires
+find-masks-requires : tie.Need-find_masks-visits-requires
 find-masks-requires c κs = search rules
 
-solve-names-requires : tie.Need-solve-names-requires
+solve-names-requires : tie.Need-solve_names-requires
 solve-names-requires c κs = search rules
 
-same_length : tie.Need-same-length
+same_length : tie.Need-shape_of-masks
 same_length c = search rules
 
-same-length-2 : tie.Need-same-length-2
+same-length-2 : tie.Need-shape_of-live_in
 same-length-2 c = search rules
 
-same-length-3 : tie.Need-same-length-3
+same-length-3 : tie.Need-shape_of-live_out
 same-length-3 c = search rules
 
-same-length-4 : tie.Need-same-length-4
+same-length-4 : tie.Need-shape_of-work
 same-length-4 c = search rules
 
 returns : tie.Need-returns
 returns c =
-    let names = c.before.before.before.before.before.before.solve-names.ensures in
-    solved c.before.before.before.before.before.before.before.before.before.before.before.before.before.before.before.before.before.before.before.before.before.before.before.before.before.before.requires.flow_fit.header c.before.before.before.before.before.before.before.before.before.before.before.before.before.before.find-masks.ensures names.0 names.1
+    let names = c.solve_names.ensures in
+    solved c.requires.flow_fit.header c.find_masks-visits.ensures names.0 names.1
 
-pub solve-flow-spec : {M : Type 1} → statement M
-solve-flow-spec =
+pub solve_flow_spec : {M : Type 1} → statement M
+solve_flow_spec =
     tie.close
     (tie.spec
     summarize-requires

@@ -21,27 +21,27 @@ use Rattle.dataflow.proofs.door.states.Statement.{statement}
 use Rattle.dataflow.proofs.door.states.Tie as tie
 
 -- the reader found the file fit, with this header
-fits : (c : tie.After-known-told) → FitFile c.before.before.before.before.before.before.before.before.before.args.file.now
-fits c = judging.file-fit _ _ c.before.before.before.check-file.ensures c.before.found.given.1
+fits : (c : tie.In-Fit) → FitFile c.args.file.now
+fits c = judging.file-fit _ _ c.check_file.ensures c.in-Fit.is
 
-header : (c : tie.After-known-told) → c.before.found.given.0.0 ≡ header_of c.before.before.before.before.before.before.before.before.before.args.file.now
-header c = judging.header_is _ _ c.before.before.before.check-file.ensures c.before.found.given.1
+header : (c : tie.In-Fit) → c.in-Fit.found ≡ header_of c.args.file.now
+header c = judging.header_is _ _ c.check_file.ensures c.in-Fit.is
 
-check-file-requires : tie.Need-check-file-requires
+check-file-requires : tie.Need-check_file-requires
 check-file-requires c κs = search rules
 
-enum-known-found : tie.Need-enum-known-found
+enum-known-found : tie.Need-enum_known-found
 enum-known-found c = search rules
 
-enum-known-r : tie.Need-enum-known-r
+enum-known-r : tie.Need-enum_known-r
 enum-known-r c = search rules
 
-returns : tie.Need-returns
+returns : tie.Need-returns-in-Unfit
 returns c =
-    let a = c.before.before.before.before.before.before.before.before.before.args in
-    judging.file-refused a.file.now a.masks.now a.live_in.now a.live_out.now a.work.now _ c.before.before.before.check-file.ensures c.before.r.given.1
+    let a = c.args in
+    judging.file-refused a.file.now a.masks.now a.live_in.now a.live_out.now a.work.now _ c.check_file.ensures c.in-Unfit.is
 
-areas-fit-requires : tie.Need-areas-fit-requires
+areas-fit-requires : tie.Need-areas_fit-fit-requires
 areas-fit-requires c κs =
     let l = limited (fits c) in (
       subst (λ (h : Header). h.statements ≤ max_statements) (sym (header c)) l.statements,
@@ -49,49 +49,44 @@ areas-fit-requires c κs =
     )
 
 -- the verdict on the areas is the one that the call goes by
-judged : (c : tie.After-areas-fit) (b : Bool) → c.areas-fit.result ≡ b
-    → is_fit (verdict (area_checks (statements_of c.before.before.before.before.before.before.before.before.before.before.args.file.now) (arrays_of c.before.before.before.before.before.before.before.before.before.before.args.file.now) (length c.before.before.before.before.before.before.before.before.before.before.args.masks.now) (length c.before.before.before.before.before.before.before.before.before.before.args.live_in.now) (length c.before.before.before.before.before.before.before.before.before.before.args.live_out.now) (length c.before.before.before.before.before.before.before.before.before.before.args.work.now))) ≡ b
+judged : (c : tie.After-areas_fit-fit) (b : Bool) → c.areas_fit-fit.result ≡ b
+    → is_fit (verdict (area_checks (statements_of c.args.file.now) (arrays_of c.args.file.now) (length c.args.masks.now) (length c.args.live_in.now) (length c.args.live_out.now) (length c.args.work.now))) ≡ b
 judged c b e =
-    let k = c.before in
-    judging.areas_by _ _ k.before.before.before.check-file.ensures k.before.found.given.1 _ _ _ _ _ (sym c.areas-fit.ensures ∙ e)
+    judging.areas_by _ _ c.check_file.ensures c.in-Fit.is _ _ _ _ _ (sym c.areas_fit-fit.ensures ∙ e)
 
-returns-2 : tie.Need-returns-2
+returns-2 : tie.Need-returns-then-not-fit
 returns-2 c =
-    let f = c.before in
-    let a = f.before.before.before.before.before.before.before.before.before.before.args in
-    let unfit = not-true _ c.if1.true in
-    judging.areas-refused a.file.now a.masks.now a.live_in.now a.live_out.now a.work.now (fits f.before) refl (judged f false unfit)
+    let a = c.args in
+    let unfit = c.if-not-fit.true in
+    judging.areas-refused a.file.now a.masks.now a.live_in.now a.live_out.now a.work.now (fits c.before.before) refl (judged c.before false unfit)
 
-same_length : tie.Need-same-length
+same_length : tie.Need-shape_of-work-then-n-eq0
 same_length c = search rules
 
-zero-row-requires : tie.Need-zero-row-requires
+zero-row-requires : tie.Need-zero_row-requires
 zero-row-requires c κs = search rules
 
-returns-3 : tie.Need-returns-3
+returns-3 : tie.Need-returns-then-n-eq0
 returns-3 c =
-    let e = c.before.before.before.before.before in
-    let f = e.before in
-    let a = f.before.before.before.before.before.before.before.before.before.before.args in
-    let fit = not-false _ e.if1.false in
-    let none = ap (λ (h : Header). h.statements) (sym (header f.before)) ∙ c.before.before.before.before.if2.true in
-    judging.accepting a.file.now a.masks.now _ a.live_in.now _ a.live_out.now _ a.work.now _ 0 (fits f.before)
-    (judging.judged-fit a.file.now a.masks.now a.live_in.now a.live_out.now a.work.now (fits f.before) (judged f true fit))
+    let f = c in
+    let a = f.args in
+    let fit = c.if-not-fit.false in
+    let none = ap (λ (h : Header). h.statements) (sym (header f.before.before.before.before.before.before.before)) ∙ c.if-n-eq0.true in
+    judging.accepting a.file.now a.masks.now _ a.live_in.now _ a.live_out.now _ a.work.now _ 0 (fits f.before.before.before.before.before.before.before)
+    (judging.judged-fit a.file.now a.masks.now a.live_in.now a.live_out.now a.work.now (fits f.before.before.before.before.before.before.before) (judged f.before.before.before.before.before.before true fit))
     (judging.nothing-solved a.file.now a.masks.now a.live_in.now a.live_out.now none)
-    (c.before.before.zero_row.ensures ∙ judging.zeroed_whole _ _ refl)
+    (c.zero_row.ensures ∙ judging.zeroed_whole _ _ refl)
 
-solve-flow-requires : tie.Need-solve-flow-requires
+solve-flow-requires : tie.Need-solve_flow-visits-requires
 solve-flow-requires c κs =
-    let e = c.before.before.before.before.before in
-    let f = e.before in
-    let k = f.before in
-    let fit = not-false _ e.if1.false in
-    let rooms = judging.rooms _ _ _ _ _ _ (sym f.areas-fit.ensures ∙ fit) in
-    let some : 0 < k.before.found.given.0.0.statements = pos_of_ne-zero c.before.before.before.before.if2.false in
+    let f = c in
+    let fit = c.if-not-fit.false in
+    let rooms = judging.rooms _ _ _ _ _ _ (sym f.areas_fit-fit.ensures ∙ fit) in
+    let some : 0 < f.in-Fit.found.statements = pos_of_ne-zero c.if-n-eq0.false in
     record {
       flow_fit = record {
-        fit = fits k;
-        header = header k;
+        fit = fits f.before.before.before.before.before.before.before;
+        header = header f.before.before.before.before.before.before.before;
         some = some;
         work_room = rooms.work_room;
       };
@@ -100,34 +95,32 @@ solve-flow-requires c κs =
       out_room = rooms.out_room;
     }
 
-zero-row-requires-2 : tie.Need-zero-row-requires-2
+zero-row-requires-2 : tie.Need-zero_row-requires-2
 zero-row-requires-2 c κs = search rules
 
-same-length-2 : tie.Need-same-length-2
+same-length-2 : tie.Need-shape_of-masks
 same-length-2 c = search rules
 
-same-length-3 : tie.Need-same-length-3
+same-length-3 : tie.Need-shape_of-live_in
 same-length-3 c = search rules
 
-same-length-4 : tie.Need-same-length-4
+same-length-4 : tie.Need-shape_of-live_out
 same-length-4 c = search rules
 
-same-length-5 : tie.Need-same-length-5
+same-length-5 : tie.Need-shape_of-work
 same-length-5 c = search rules
 
-returns-4 : tie.Need-returns-4
+returns-4 : tie.Need-returns
 returns-4 c =
-    let s = c.before.before.before.before.before.before.before.before.before.before.before.before in
-    let e = s.before.before.before.before.before.before in
-    let f = e.before in
-    let a = f.before.before.before.before.before.before.before.before.before.before.args in
-    judging.accepting a.file.now a.masks.now _ a.live_in.now _ a.live_out.now _ a.work.now _ _ (fits f.before)
-    (judging.judged-fit a.file.now a.masks.now a.live_in.now a.live_out.now a.work.now (fits f.before) (judged f true (not-false _ e.if1.false)))
-    s.solve-flow.ensures
-    (c.before.before.zero-row2.ensures ∙ judging.zeroed_whole _ _ s.solve-flow.auto.1.1.1.1.1.0)
+    let e = c in
+    let a = e.args in
+    judging.accepting a.file.now a.masks.now _ a.live_in.now _ a.live_out.now _ a.work.now _ _ (fits e.before.before.before.before.before.before.before.before.before.before.before.before.before.before.before.before.before.before.before.before)
+    (judging.judged-fit a.file.now a.masks.now a.live_in.now a.live_out.now a.work.now (fits e.before.before.before.before.before.before.before.before.before.before.before.before.before.before.before.before.before.before.before.before) (judged e.before.before.before.before.before.before.before.before.before.before.before.before.before.before.before.before.before.before.before true e.if-not-fit.false))
+    c.solve_flow-visits.ensures
+    (c.zero_row-2.ensures ∙ judging.zeroed_whole _ _ c.solve_flow-visits.auto.work)
 
-pub states-spec : {M : Type 1} → statement M
-states-spec =
+pub states_spec : {M : Type 1} → statement M
+states_spec =
     tie.close
     (tie.spec
     check-file-requires

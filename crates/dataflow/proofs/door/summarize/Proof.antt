@@ -15,23 +15,23 @@ use Rattle.dataflow.proofs.door.summarize.Tie as tie
 
 clear-requires : tie.Need-clear-requires
 clear-requires c κs =
-    let p = c.before.before.before.requires in
+    let p = c.requires in
     let l = limited p.fit in
     (p.some, omega (arith, l.statements, ap (λ (x : Header). x.statements) p.header), omega (arith, l.arrays, ap (λ (x : Header). x.arrays) p.header), p.work_room)
 
-note-offsets-requires : tie.Need-note-offsets-requires
+note-offsets-requires : tie.Need-note_offsets-requires
 note-offsets-requires c κs =
-    let p = c.before.before.before.before.before.before.before.requires in
-    (p.fit, (omega (arith, ap (λ (x : Header). x.statements) p.header), room_fits p c.before.before.before.clear.ensures))
+    let p = c.requires in
+    (p.fit, (omega (arith, ap (λ (x : Header). x.statements) p.header), room_fits p c.clear.ensures))
 
 lines-requires : tie.Need-lines-requires
 lines-requires c κs = search rules
 
-note-lines-requires : tie.Need-note-lines-requires
+note-lines-requires : tie.Need-note_lines-requires
 note-lines-requires c κs =
-    let p = c.before.before.before.before.before.before.before.before.before.before.before.before.requires in
-    let cleared = c.before.before.before.before.before.before.before.before.clear.ensures in
-    let noted = c.before.before.before.before.note-offsets.ensures in (
+    let p = c.requires in
+    let cleared = c.clear.ensures in
+    let noted = c.note_offsets.ensures in (
       p.fit,
       (ap (λ (x : Header). x.lines_at) p.header, ap (λ (x : Header). x.lines) p.header),
       p.some,
@@ -41,31 +41,30 @@ note-lines-requires c κs =
     )
 
 -- the parts are noted behind the places
-module _ (c : tie.After-summarize-calls-arg) where
+module _ (c : tie.After-summarize_calls-arg-1) where
   abbrev start : tie.Start
   start = c.before.before.before.before.before.before.before.before.before.before.before.before.before.before.before.before
 
-  parts : PartsNoted start.args.file.now c.before.before.before.before.before.before.before.before.note-offsets.new.1.0 c.before.before.before.note-lines.new.1.1.1.0 (lines_at start.args.h.statements) start.args.h.statements (line_count start.args.file.now)
+  parts : PartsNoted start.args.file.now c.note_offsets.new.offsets c.note_lines.new.work (lines_at start.args.h.statements) start.args.h.statements (line_count start.args.file.now)
   parts =
       let s = start.args.file.now in
       let n = start.args.h.statements in
-      subst (λ (base : ℕ). PartsNoted s c.before.before.before.before.before.before.before.before.note-offsets.new.1.0 c.before.before.before.note-lines.new.1.1.1.0 base n (line_count s)) c.before.before.before.before.lines.ensures c.before.before.before.note-lines.ensures
+      subst (λ (base : ℕ). PartsNoted s c.note_offsets.new.offsets c.note_lines.new.work base n (line_count s)) c.lines.ensures c.note_lines.ensures
 
-summarize-calls-requires : tie.Need-summarize-calls-requires
+summarize-calls-requires : tie.Need-summarize_calls-requires
 summarize-calls-requires c κs =
-    let cleared = c.before.before.before.before.before.before.before.before.before.before.before.before.clear.ensures in
-    let noted = c.before.before.before.before.before.before.before.before.note-offsets.ensures in
+    let cleared = c.clear.ensures in
+    let noted = c.note_offsets.ensures in
     (noted-indexed (start c).requires cleared noted (parts c), no_summaries (start c).requires cleared noted (parts c), no_sure (start c).requires cleared noted (parts c))
 
-same_length : tie.Need-same-length
+same_length : tie.Need-shape_of-work
 same_length c = search rules
 
 returns : tie.Need-returns
 returns c =
-    let calls = c.before.before.summarize-calls.ensures in
-    let d = c.before.before.before in
-    summed (start d).requires d.before.before.before.before.before.before.before.before.before.before.before.before.clear.ensures d.before.before.before.before.before.before.before.before.note-offsets.ensures (parts d) calls.0 calls.1
+    let calls = c.summarize_calls.ensures in
+    summed (start c.before.before.before).requires c.clear.ensures c.note_offsets.ensures (parts c.before.before.before) calls.0 calls.1
 
-pub summarize-spec : {M : Type 1} → statement M
-summarize-spec =
+pub summarize_spec : {M : Type 1} → statement M
+summarize_spec =
     tie.close (tie.spec clear-requires note-offsets-requires lines-requires note-lines-requires summarize-calls-requires same_length returns)

@@ -5,26 +5,25 @@ use Rattle.dataflow.proofs.JudgingWork.{no_handler, handler-certain}
 use Rattle.dataflow.proofs.names.find_certain.Statement.{statement}
 use Rattle.dataflow.proofs.names.find_certain.Tie as tie
 
-enum_told : tie.Need-enum-told
+enum_told : tie.Need-enum_told-1
 enum_told c = search rules
 
-enum-told-2 : tie.Need-enum-told-2
+enum-told-2 : tie.Need-enum_told-in-None
 enum-told-2 c = search rules
 
-walk-names-requires : tie.Need-walk-names-requires
+walk-names-requires : tie.Need-walk_names-requires
 walk-names-requires c κs =
-    let s = c.before.before.before.before.before in
-    (s.requires, no_handler s.args.file.now s.requires.header c.before.enum-told2.given.1)
+    (c.requires, no_handler c.args.file.now c.requires.header c.in-None.is)
 
-returns : tie.Need-returns
-returns c = let s = c.before.before.before.before in handler-certain s.args.file.now s.requires.header c.enum_told.given.0.0 c.enum_told.given.1
+returns : tie.Need-returns-in-At
+returns c = handler-certain c.args.file.now c.requires.header c.in-At.field-0 c.in-At.is
 
-same_length : tie.Need-same-length
+same_length : tie.Need-shape_of-work
 same_length c = search rules
 
-returns-2 : tie.Need-returns-2
+returns-2 : tie.Need-returns-in-None
 returns-2 c = search rules
 
-pub find-certain-spec : {M : Type 1} → statement M
-find-certain-spec =
+pub find_certain_spec : {M : Type 1} → statement M
+find_certain_spec =
     tie.close (tie.spec enum_told enum-told-2 walk-names-requires returns same_length returns-2)

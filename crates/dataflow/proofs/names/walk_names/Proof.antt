@@ -8,20 +8,20 @@ use Rattle.dataflow.proofs.JudgingWork.{certain-start}
 use Rattle.dataflow.proofs.names.walk_names.Statement.{statement}
 use Rattle.dataflow.proofs.names.walk_names.Tie as tie
 
-note-offsets-requires : tie.Need-note-offsets-requires
-note-offsets-requires c κs = let p = c.before.before.before.requires.0 in (p.fit, (omega (arith, ap (λ (x : Header). x.statements) p.header), omega (arith, p.work_room)))
+note-offsets-requires : tie.Need-note_offsets-requires
+note-offsets-requires c κs = let p = c.requires.0 in (p.fit, (omega (arith, ap (λ (x : Header). x.statements) p.header), omega (arith, p.work_room)))
 
-certain-names-requires : tie.Need-certain-names-requires
+certain-names-requires : tie.Need-certain_names-requires
 certain-names-requires c κs =
-    let p = c.before.before.before.before.before.before.before.requires in
-    certain-start p.0 p.1 c.before.before.before.note-offsets.ensures
+    let p = c.requires in
+    certain-start p.0 p.1 c.note_offsets.ensures
 
-same_length : tie.Need-same-length
+same_length : tie.Need-shape_of-work
 same_length c = search rules
 
 returns : tie.Need-returns
 returns c = search rules
 
-pub walk-names-spec : {M : Type 1} → statement M
-walk-names-spec =
+pub walk_names_spec : {M : Type 1} → statement M
+walk_names_spec =
     tie.close (tie.spec note-offsets-requires certain-names-requires same_length returns)

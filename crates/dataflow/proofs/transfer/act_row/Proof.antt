@@ -26,35 +26,34 @@ transfer-requires c κs = search rules
 narrow : (c : tie.Start) → c.args.width ≤ max_width
 narrow c = let most = (limited c.requires.1.ready.fit).arrays in omega (arith, c.requires.0, ap (λ h. h.arrays) c.requires.1.header)
 
-out-row-requires : tie.Need-out-row-requires
-out-row-requires c κs = (ready-most c.before.before.before.before.before.before.before.before.before.requires.1.ready, narrow c.before.before.before.before.before.before.before.before.before)
+out-row-requires : tie.Need-out_row-requires
+out-row-requires c κs = (ready-most c.requires.1.ready, narrow c.before.before.before.before.before.before.before.before)
 
-same_length : tie.Need-same-length
+same_length : tie.Need-shape_of-work-then-acts
 same_length c = search rules
 
-returns : tie.Need-returns
+returns : tie.Need-returns-then-acts
 returns c =
-    let a = c.before.before.before.before.before.before.before.before.before.before.args in
-    (subst (λ (r : ℕ). Acted (flow_of a.file.now) a.work.now c.before.before.before.transfer.new.1.1.0 a.h.statements a.width a.d.0 (statement_effects (flow_of a.file.now) a.i.0) r) (sym c.out-row.ensures) c.before.before.before.transfer.ensures, inl c.out-row.ensures)
+    let a = c.args in
+    (subst (λ (r : ℕ). Acted (flow_of a.file.now) a.work.now c.transfer.new.work a.h.statements a.width a.d.0 (statement_effects (flow_of a.file.now) a.i.0) r) (sym c.out_row.ensures) c.transfer.ensures, inl c.out_row.ensures)
 
-mask-row-requires : tie.Need-mask-row-requires
-mask-row-requires c κs = (ready-most c.before.before.before.before.before.requires.1.ready, narrow c.before.before.before.before.before, c.before.before.before.before.before.requires.2)
+mask-row-requires : tie.Need-mask_row-requires
+mask-row-requires c κs = (ready-most c.requires.1.ready, narrow c.before.before.before.before, c.requires.2)
 
-same-length-2 : tie.Need-same-length-2
+same-length-2 : tie.Need-shape_of-work
 same-length-2 c = search rules
 
-returns-2 : tie.Need-returns-2
+returns-2 : tie.Need-returns
 returns-2 c =
-    let s = c.before.before.before.before.before.before in
-    let a = s.args in
-    let idle = sym c.before.before.acts.ensures ∙ c.before.if1.false in (
-      subst (λ (r : ℕ). Acted (flow_of a.file.now) a.work.now a.work.now a.h.statements a.width a.d.0 (statement_effects (flow_of a.file.now) a.i.0) r) (sym c.mask-row.ensures)
-          (acts_not (well_formed s.requires.1.ready.fit) a.h.statements a.width a.d.0 a.i.0 idle),
-      inr c.mask-row.ensures,
+    let a = c.args in
+    let idle = sym c.acts.ensures ∙ c.if-acts.false in (
+      subst (λ (r : ℕ). Acted (flow_of a.file.now) a.work.now a.work.now a.h.statements a.width a.d.0 (statement_effects (flow_of a.file.now) a.i.0) r) (sym c.mask_row.ensures)
+          (acts_not (well_formed c.requires.1.ready.fit) a.h.statements a.width a.d.0 a.i.0 idle),
+      inr c.mask_row.ensures,
     )
 
-pub act-row-spec : {M : Type 1} → statement M
-act-row-spec =
+pub act_row_spec : {M : Type 1} → statement M
+act_row_spec =
     tie.close
     (tie.spec
     acts-requires

@@ -15,45 +15,45 @@ use borrow.Author.Rules.{rules}
 use Rattle.dataflow.proofs.transfer.below_word.Statement.{statement}
 use Rattle.dataflow.proofs.transfer.below_word.Tie as tie
 
-mul-if1 : tie.Need-overflow-mul-if1
+mul-if1 : tie.Need-overflow_mul-k
 mul-if1 c = search rules
 
-returns : tie.Need-returns
-returns c j l = bit_of_zero j ∙ sym (ap (λ b. cond b 1 0) (le-ltb (64 * c.before.args.k + j) c.before.args.count (omega arith)))
+returns : tie.Need-returns-then-count-k
+returns c j l = bit_of_zero j ∙ sym (ap (λ b. cond b 1 0) (le-ltb (64 * c.args.k + j) c.args.count (omega arith)))
 
-mul-rest : tie.Need-overflow-mul-rest
+mul-rest : tie.Need-overflow_mul-rest
 mul-rest c = search rules
 
-sub-rest : tie.Need-overflow-sub-rest
+sub-rest : tie.Need-overflow_sub-rest
 sub-rest c = search rules
 
-shl-result : tie.Need-overflow-shl-result
+shl-result : tie.Need-overflow_shl-result
 shl-result c = search rules
 
-sub-result : tie.Need-overflow-sub-result
-sub-result c = let m : ℕ = c.before.before.args.count - 64 * c.before.before.args.k in omega (arith, one_shl m (omega arith), pow_pos m)
+sub-result : tie.Need-overflow_sub-result
+sub-result c = let m : ℕ = c.args.count - 64 * c.args.k in omega (arith, one_shl m (omega arith), pow_pos m)
 
-returns-2 : tie.Need-returns-2
+returns-2 : tie.Need-returns-then-rest-lt64
 returns-2 c j l = at (dec_lt j m)
   where
     m : ℕ
-    m = c.before.before.args.count - 64 * c.before.before.args.k
+    m = c.args.count - 64 * c.args.k
 
     word : (1 * 2 ^ m % 2 ^ 64) - 1 ≡ 2 ^ m - 1 - 0
     word = ap (λ (x : ℕ). x - 1) (one_shl m (omega arith)) ∙ sym (sub-zero (2 ^ m - 1))
 
-    at : Dec (j < m) → bit ((1 * 2 ^ m % 2 ^ 64) - 1) j ≡ cond (ltb (64 * c.before.before.args.k + j) c.before.before.args.count) 1 0
+    at : Dec (j < m) → bit ((1 * 2 ^ m % 2 ^ 64) - 1) j ≡ cond (ltb (64 * c.args.k + j) c.args.count) 1 0
     at (yes h) =
         ap (λ (x : ℕ). bit x j) word ∙ bit_not m 0 j (pow_pos m) h ∙ omega (arith, bit_of_zero j)
-        ∙ sym (ap (λ b. cond b 1 0) (lt-ltb (64 * c.before.before.args.k + j) c.before.before.args.count (omega arith)))
+        ∙ sym (ap (λ b. cond b 1 0) (lt-ltb (64 * c.args.k + j) c.args.count (omega arith)))
     at (no h) =
         ap (λ (x : ℕ). bit x j) word ∙ bit_high {j = m} j (omega (arith, pow_pos m)) (omega (arith, h))
-        ∙ sym (ap (λ b. cond b 1 0) (le-ltb (64 * c.before.before.args.k + j) c.before.before.args.count (omega (arith, h))))
+        ∙ sym (ap (λ b. cond b 1 0) (le-ltb (64 * c.args.k + j) c.args.count (omega (arith, h))))
 
-returns-3 : tie.Need-returns-3
-returns-3 c j l = bit_not 64 0 j (pow_pos 64) l ∙ omega (arith, bit_of_zero j) ∙ sym (ap (λ b. cond b 1 0) (lt-ltb (64 * c.before.before.args.k + j) c.before.before.args.count (omega arith)))
+returns-3 : tie.Need-returns-else-rest-lt64
+returns-3 c j l = bit_not 64 0 j (pow_pos 64) l ∙ omega (arith, bit_of_zero j) ∙ sym (ap (λ b. cond b 1 0) (lt-ltb (64 * c.args.k + j) c.args.count (omega arith)))
 
-pub below-word-spec : {M : Type 1} → statement M
-below-word-spec =
+pub below_word_spec : {M : Type 1} → statement M
+below_word_spec =
     tie.close
     (tie.spec mul-if1 returns mul-rest sub-rest shl-result sub-result returns-2 returns-3)

@@ -21,43 +21,41 @@ use Rattle.dataflow.proofs.transfer.call_rows.Tie as tie
 narrow : (c : tie.Start) → c.args.width ≤ max_width
 narrow c = let most = (limited c.requires.1.ready.fit).arrays in omega (arith, c.requires.0, ap (λ h. h.arrays) c.requires.1.header)
 
-own-rows-requires : tie.Need-own-rows-requires
+own-rows-requires : tie.Need-own_rows-requires
 own-rows-requires c κs = search rules
 
-enum_told : tie.Need-enum-told
+enum_told : tie.Need-enum_told-1
 enum_told c = search rules
 
-enum-told-2 : tie.Need-enum-told-2
+enum-told-2 : tie.Need-enum_told-in-At
 enum-told-2 c = search rules
 
-key-rows-requires : tie.Need-key-rows-requires
+key-rows-requires : tie.Need-key_rows-requires
 key-rows-requires c κs =
-    let s = c.before.before.before.before.before.before.before.before.before in
-    let at = s.requires.7 in
-    (ready-most s.requires.1.ready, narrow s, omega (arith, key-room s.requires.1.ready (omega arith) (narrow s), c.before.before.before.before.before.own-rows.ensures.keeps.size))
+    let at = c.requires.7 in
+    (ready-most c.requires.1.ready, narrow c.before.before.before.before.before.before.before.before, omega (arith, key-room c.requires.1.ready (omega arith) (narrow c.before.before.before.before.before.before.before.before), c.own_rows.ensures.keeps.size))
 
-same_length : tie.Need-same-length
+same_length : tie.Need-shape_of-work-in-None
 same_length c = search rules
 
-returns : tie.Need-returns
-returns c = let s = c.before.before.before.before.before.before.before.before in prepared_unkeyed (handler-none s.requires.1 c.enum_told.given.1) c.before.before.before.before.own-rows.ensures
+returns : tie.Need-returns-in-None
+returns c = prepared_unkeyed (handler-none c.requires.1 c.in-None.is) c.own_rows.ensures
 
-same-length-2 : tie.Need-same-length-2
+same-length-2 : tie.Need-shape_of-work-in-At
 same-length-2 c = search rules
 
-returns-2 : tie.Need-returns-2
+returns-2 : tie.Need-returns-in-At
 returns-2 c =
-    let s = c.before.before.before.before.before.before.before.before.before.before.before.before in
-    let n : ℕ = s.args.h.statements in
-    let w : ℕ = s.args.width in
-    let handled = handler-at s.requires.1 c.before.before.before.before.enum-told2.given.0.0 c.before.before.before.before.enum-told2.given.1 in
+    let n : ℕ = c.args.h.statements in
+    let w : ℕ = c.args.width in
+    let handled = handler-at c.requires.1 c.in-At.field-0 c.in-At.is in
     let low = row_from n w (2 * n) in
     let end = nodes-within n w in
-    prepared_keyed c.before.before.before.before.before.before.before.before.own-rows.ensures c.before.before.key-rows.ensures
-    (key_says (key-stays (keeps_widen (le_refl _) (omega (arith, row_first n w)) c.before.before.before.before.before.before.before.before.own-rows.ensures.keeps) s.requires.3) handled)
+    prepared_keyed c.own_rows.ensures c.key_rows.ensures
+    (key_says (key-stays (keeps_widen (le_refl _) (omega (arith, row_first n w)) c.own_rows.ensures.keeps) c.requires.3) handled)
 
-pub call-rows-spec : {M : Type 1} → statement M
-call-rows-spec =
+pub call_rows_spec : {M : Type 1} → statement M
+call_rows_spec =
     tie.close
     (tie.spec
     own-rows-requires

@@ -14,17 +14,16 @@ use Rattle.dataflow.proofs.transfer.note_item.Tie as tie
 insert-requires : tie.Need-insert-requires
 insert-requires c κs = search rules
 
-same_length : tie.Need-same-length
+same_length : tie.Need-shape_of-work
 same_length c = search rules
 
-returns : tie.Need-returns
+returns : tie.Need-returns-then-x-eq1
 returns c =
-    let s = c.before.before.before.before.before.before.before in
-    subst (λ (vs : List ℕ). SetGains s.args.work.now vs s.args.set s.args.width (λ a. eqb s.args.x.array a && eqb s.args.x.flag 1)) (sym c.before.before.insert.ensures.slice)
-    (gains-item s.args.work.now s.args.set s.args.width s.args.x.array s.args.x.flag s.requires.1 s.requires.2 c.before.before.before.before.if1.true)
+    subst (λ (vs : List ℕ). SetGains c.args.work.now vs c.args.set c.args.width (λ a. eqb c.args.x.array a && eqb c.args.x.flag 1)) (sym c.insert.ensures.slice)
+    (gains-item c.args.work.now c.args.set c.args.width c.args.x.array c.args.x.flag c.requires.1 c.requires.2 c.if-x-eq1.true)
 
-returns-2 : tie.Need-returns-2
-returns-2 c = let s = c.before.before.before in gains-nothing s.args.work.now s.args.set s.args.width s.args.x.array s.args.x.flag c.if1.false
+returns-2 : tie.Need-returns-else-x-eq1
+returns-2 c = gains-nothing c.args.work.now c.args.set c.args.width c.args.x.array c.args.x.flag c.if-x-eq1.false
 
-pub note-item-spec : {M : Type 1} → statement M
-note-item-spec = tie.close (tie.spec insert-requires same_length returns returns-2)
+pub note_item_spec : {M : Type 1} → statement M
+note_item_spec = tie.close (tie.spec insert-requires same_length returns returns-2)

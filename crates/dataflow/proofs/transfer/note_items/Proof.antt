@@ -26,10 +26,10 @@ use borrow.Author.Rules.{rules}
 use Rattle.dataflow.proofs.transfer.note_items.Statement.{statement}
 use Rattle.dataflow.proofs.transfer.note_items.Tie as tie
 
-abbrev invariant-loop : tie.invariant-loop
+abbrev invariant-loop : tie.invariant-loop-k
 invariant-loop file work₀ p set width count k₀ work k = Gathering dims (tabulate (item_count file p) (item_at file p)) work₀ set width work k
 
-abbrev decreases-loop : tie.decreases-loop
+abbrev decreases-loop : tie.decreases-loop-k
 decreases-loop file work₀ p set width count k₀ work k = count - k
 
 -- the items of the record are those of the statement
@@ -47,61 +47,57 @@ item-below {s} {i} {p} fit r k l =
     let in_list : k < length its = subst (λ (m : ℕ). k < m) (sym r.items.count) l in
     subst (λ (x : Item). x.array < arrays_of s) (r.items.at k no_item in_list) ((statement_in fit i).dimmed (get_or its k no_item) (get_d_In its k no_item in_list))
 
-zero-row-requires : tie.Need-zero-row-requires invariant-loop decreases-loop
+zero-row-requires : tie.Need-zero_row-requires invariant-loop decreases-loop
 zero-row-requires c κs = search rules
 
-item-count-requires : tie.Need-item-count-requires invariant-loop decreases-loop
+item-count-requires : tie.Need-item_count-count-requires invariant-loop decreases-loop
 item-count-requires c κs = search rules
 
-loop-holds : tie.Need-loop-init invariant-loop decreases-loop
+loop-holds : tie.Need-loop-k-init invariant-loop decreases-loop
 loop-holds c =
-    let s = c.before.before.before.before.before.before.before in
-    let zero = c.before.before.before.zero_row.ensures in
-    gathering_none dims _ keeps-refl (λ a l. ap (λ (vs : List ℕ). has vs s.args.set a) zero ∙ zeroed-has s.args.work.now s.args.set s.args.width s.requires.3 a l)
+    let zero = c.zero_row.ensures in
+    gathering_none dims _ keeps-refl (λ a l. ap (λ (vs : List ℕ). has vs c.args.set a) zero ∙ zeroed-has c.args.work.now c.args.set c.args.width c.requires.3 a l)
 
-item-requires : tie.Need-item-requires invariant-loop decreases-loop
-item-requires c κs = (c.before.before.before.before.before.before.before.before.before.requires.1.fit, search rules)
+item-requires : tie.Need-item-x-requires invariant-loop decreases-loop
+item-requires c κs = (c.requires.1.fit, search rules)
 
-note-item-requires : tie.Need-note-item-requires invariant-loop decreases-loop
+note-item-requires : tie.Need-note_item-requires invariant-loop decreases-loop
 note-item-requires c κs =
-    let s = c.before.before.before.before.before.before.before.before.before.before.before in
-    let size = c.before.before.before.loop.invariant.set_is.keeps.size in
-    let zero = c.before.before.before.before.before.before.before.zero_row.ensures in
-    let long = ap length zero ∙ length-zeroed s.args.work.now s.args.set s.args.width in
-    let few = (limited s.requires.0).arrays in
-    let same = arrays-is s.args.file.now in
-    let k : ℕ = c.before.before.before.loop.k in
-    let within = item-below s.requires.0 s.requires.1 k (search rules) in
-    (omega (arith, s.requires.2), omega (arith, s.requires.3), omega (arith, s.requires.2, c.before.item.ensures.0))
+    let size = c.loop-k.invariant.set_is.keeps.size in
+    let zero = c.zero_row.ensures in
+    let long = ap length zero ∙ length-zeroed c.args.work.now c.args.set c.args.width in
+    let few = (limited c.requires.0).arrays in
+    let same = arrays-is c.args.file.now in
+    let k : ℕ = c.loop-k.k in
+    let within = item-below c.requires.0 c.requires.1 k (search rules) in
+    (omega (arith, c.requires.2), omega (arith, c.requires.3), omega (arith, c.requires.2, c.item-x.ensures.0))
 
-add-k : tie.Need-overflow-add-k invariant-loop decreases-loop
+add-k : tie.Need-overflow_add-k invariant-loop decreases-loop
 add-k c = search rules
 
-loop-less : tie.Need-loop-smaller invariant-loop decreases-loop
+loop-less : tie.Need-loop-k-smaller invariant-loop decreases-loop
 loop-less c = search rules
 
-loop-again : tie.Need-loop-preserved invariant-loop decreases-loop
+loop-again : tie.Need-loop-k-preserved invariant-loop decreases-loop
 loop-again c =
-    let s = c.before.before.before.before.before.before.before.before.before.before.before.before.before.before in
-    let x = c.before.before.before.before.item in
-    gathering_more dims (tabulate (item_count s.args.file.now s.args.p) (item_at s.args.file.now s.args.p)) (λ a. eqb x.result.array a && eqb x.result.flag 1) no_item c.before.before.before.before.before.before.loop.invariant (omega (arith, items-count s.requires.1, c.before.before.before.before.before.before.before.item_count.ensures))
-    c.before.before.note-item.ensures
-    (λ a. ap₂ (λ i f. eqb i a && eqb f 1) x.ensures.0 x.ensures.1 ∙ ap (dims a) (sym (item-is s.requires.1 c.before.before.before.before.before.before.loop.k (search rules))))
+    let x = c.item-x in
+    gathering_more dims (tabulate (item_count c.args.file.now c.args.p) (item_at c.args.file.now c.args.p)) (λ a. eqb x.result.array a && eqb x.result.flag 1) no_item c.loop-k.invariant (omega (arith, items-count c.requires.1, c.item_count-count.ensures))
+    c.note_item.ensures
+    (λ a. ap₂ (λ i f. eqb i a && eqb f 1) x.ensures.0 x.ensures.1 ∙ ap (dims a) (sym (item-is c.requires.1 c.loop-k.k (search rules))))
 
-same_length : tie.Need-same-length invariant-loop decreases-loop
-same_length c = c.before.loop.invariant.set_is.keeps.size ∙ ap length c.before.before.before.before.before.zero_row.ensures ∙ length-zeroed _ _ _
+same_length : tie.Need-shape_of-work invariant-loop decreases-loop
+same_length c = c.loop-k.invariant.set_is.keeps.size ∙ ap length c.zero_row.ensures ∙ length-zeroed _ _ _
 
 returns : tie.Need-returns invariant-loop decreases-loop
 returns c =
-    let s = c.before.before.before.before.before.before.before.before.before in
-    let x = gathering_all dims (tabulate (item_count s.args.file.now s.args.p) (item_at s.args.file.now s.args.p)) c.before.loop.invariant (omega (arith, items-count s.requires.1, c.before.loop.invariant.some, c.before.before.item_count.ensures)) in
+    let x = gathering_all dims (tabulate (item_count c.args.file.now c.args.p) (item_at c.args.file.now c.args.p)) c.loop-k.invariant (omega (arith, items-count c.requires.1, c.loop-k.invariant.some, c.item_count-count.ensures)) in
     record {
-      keeps = keeps-trans (subst (Keeps s.args.set (s.args.set + s.args.width) s.args.work.now) (sym c.before.before.before.before.before.zero_row.ensures) (keeps-zeroed s.args.work.now s.args.set s.args.width (omega arith) (omega arith))) x.keeps;
-      member = λ a l. x.member a l ∙ ap (λ (its : List Item). cond (any (dims a) its) 1 0) (sym s.requires.1.items.list);
+      keeps = keeps-trans (subst (Keeps c.args.set (c.args.set + c.args.width) c.args.work.now) (sym c.zero_row.ensures) (keeps-zeroed c.args.work.now c.args.set c.args.width (omega arith) (omega arith))) x.keeps;
+      member = λ a l. x.member a l ∙ ap (λ (its : List Item). cond (any (dims a) its) 1 0) (sym c.requires.1.items.list);
     }
 
-pub note-items-spec : {M : Type 1} → statement M
-note-items-spec =
+pub note_items_spec : {M : Type 1} → statement M
+note_items_spec =
     tie.close
     (tie.spec
     invariant-loop

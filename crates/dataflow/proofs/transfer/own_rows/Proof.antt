@@ -35,29 +35,28 @@ narrow c = let most = (limited c.requires.1.ready.fit).arrays in omega (arith, c
 room : (c : tie.Start) → area_end c.args.h.statements c.args.width ≤ length c.args.work.now
 room c = let at = c.requires.6 in solver_room c.requires.1.ready (omega arith) (narrow c)
 
-out-row-requires : tie.Need-out-row-requires
-out-row-requires c κs = (ready-most c.before.before.before.before.before.before.requires.1.ready, narrow c.before.before.before.before.before.before)
+out-row-requires : tie.Need-out_row-out-requires
+out-row-requires c κs = (ready-most c.requires.1.ready, narrow c.before.before.before.before.before.before)
 
-call-touched-requires : tie.Need-call-touched-requires
-call-touched-requires c κs = ready-most c.before.before.before.before.before.before.before.requires.1.ready
+call-touched-requires : tie.Need-call_touched-requires
+call-touched-requires c κs = ready-most c.requires.1.ready
 
-add-touched : tie.Need-overflow-add-touched
+add-touched : tie.Need-overflow_add-touched
 add-touched c = search rules
 
-step-back-requires : tie.Need-step-back-requires
+step-back-requires : tie.Need-step_back-requires
 step-back-requires c κs =
-    let s = c.before.before.before.before.before.before.before.before.before.before in
-    let n : ℕ = s.args.h.statements in
+    let n : ℕ = c.args.h.statements in
     let low = area.row_from n n in
-    let at = s.requires.6 in
-    let thin = narrow s in
-    (ready-most s.requires.1.ready, thin, omega (arith, room s, c.before.before.before.before.before.before.transfer.ensures.keeps.size), omega (arith, c.before.before.call-touched.ensures), inl c.before.before.before.out-row.ensures)
+    let at = c.requires.6 in
+    let thin = narrow c.before.before.before.before.before.before.before.before.before.before in
+    (ready-most c.requires.1.ready, thin, omega (arith, room c.before.before.before.before.before.before.before.before.before.before, c.transfer.ensures.keeps.size), omega (arith, c.call_touched.ensures), inl c.out_row-out.ensures)
 
-same_length : tie.Need-same-length
+same_length : tie.Need-shape_of-work-then-again
 same_length c = search rules
 
 -- the rows after the touched step
-module _ (c : tie.After-step-back) where
+module _ (c : tie.After-step_back) where
   abbrev start : tie.Start
   start = c.before.before.before.before.before.before.before.before.before.before.before
 
@@ -71,64 +70,61 @@ module _ (c : tie.After-step-back) where
   f = flow_of start.args.file.now
 
   abbrev us : List ℕ
-  us = c.before.before.before.before.before.before.before.transfer.new.1.1.0
+  us = c.transfer.new.work
 
-  touched-row : RowIs us c.step_back.new.0 start.args.width (back_row n start.args.width) (step_where (member us (call_touched_at n + i)) Touched (mask_at us start.args.width (out_row n start.args.width)))
+  touched-row : RowIs us c.step_back.new.work start.args.width (back_row n start.args.width) (step_where (member us (call_touched_at n + i)) Touched (mask_at us start.args.width (out_row n start.args.width)))
   touched-row =
-      subst (λ (set : ℕ). RowIs us c.step_back.new.0 start.args.width (back_row n start.args.width) (step_where (member us (set + i)) Touched (mask_at us start.args.width (out_row n start.args.width)))) c.before.before.before.call-touched.ensures
-      (subst (λ (from : ℕ). RowIs us c.step_back.new.0 start.args.width (back_row n start.args.width) (step_where (member us (c.before.before.before.call-touched.result + i)) Touched (mask_at us start.args.width from))) c.before.before.before.before.out-row.ensures
+      subst (λ (set : ℕ). RowIs us c.step_back.new.work start.args.width (back_row n start.args.width) (step_where (member us (set + i)) Touched (mask_at us start.args.width (out_row n start.args.width)))) c.call_touched.ensures
+      (subst (λ (from : ℕ). RowIs us c.step_back.new.work start.args.width (back_row n start.args.width) (step_where (member us (c.call_touched.result + i)) Touched (mask_at us start.args.width from))) c.out_row-out.ensures
       c.step_back.ensures)
 
   -- the act leaves the words of the call
   touched-word : MembersWord (get_or us (call_touched_at n + i) 0) (call_touches f i)
-  touched-word = let low = area.row_from n n in let at = start.pre.6 in subst (λ (v : ℕ). MembersWord v (call_touches f i)) (sym (c.before.before.before.before.before.before.before.transfer.ensures.keeps.below (call_touched_at n + i) (omega arith))) (call-touches start.pre.7 start.pre.2 at)
+  touched-word = let low = area.row_from n n in let at = start.requires.6 in subst (λ (v : ℕ). MembersWord v (call_touches f i)) (sym (c.transfer.ensures.keeps.below (call_touched_at n + i) (omega arith))) (call-touches start.requires.7 start.requires.2 at)
 
   sure-word : MembersWord (get_or us (sure_at n + i) 0) (sure f i)
-  sure-word = let low = area.row_from n n in let at = start.pre.6 in subst (λ (v : ℕ). MembersWord v (sure f i)) (sym (c.before.before.before.before.before.before.before.transfer.ensures.keeps.below (sure_at n + i) (omega arith))) (call-sure start.pre.7 start.pre.2 at)
+  sure-word = let low = area.row_from n n in let at = start.requires.6 in subst (λ (v : ℕ). MembersWord v (sure f i)) (sym (c.transfer.ensures.keeps.below (sure_at n + i) (omega arith))) (call-sure start.requires.7 start.requires.2 at)
 
-returns : tie.Need-returns
+returns : tie.Need-returns-then-again
 returns c =
-    let d = c.before.before.before in
-    let s = start d in
-    prepared_again (f d) s.args.work.now (us d) (n d) s.args.width s.args.d.0 (i d) s.pre.5 s.pre.7 d.before.before.before.before.before.before.before.transfer.ensures (narrow s) (touched-word d) (sure-word d) s.pre.6
-    d.step_back.new.0 (touched-row d) (sym s.pre.8 ∙ c.if1.true)
+    let s = start c.before.before.before in
+    prepared_again (f c.before.before.before) s.args.work.now (us c.before.before.before) (n c.before.before.before) s.args.width s.args.d.0 (i c.before.before.before) s.requires.5 s.requires.7 c.transfer.ensures (narrow s) (touched-word c.before.before.before) (sure-word c.before.before.before) s.requires.6
+    c.step_back.new.work (touched-row c.before.before.before) (sym s.requires.8 ∙ c.if-again.true)
 
-back-row-requires : tie.Need-back-row-requires
-back-row-requires c κs = (ready-most c.before.before.before.before.before.before.before.before.before.before.before.before.before.before.requires.1.ready, narrow c.before.before.before.before.before.before.before.before.before.before.before.before.before.before)
+back-row-requires : tie.Need-back_row-back-requires
+back-row-requires c κs = (ready-most c.requires.1.ready, narrow c.before.before.before.before.before.before.before.before.before.before.before.before.before.before)
 
 sure-requires : tie.Need-sure-requires
-sure-requires c κs = ready-most c.before.before.before.before.before.before.before.before.before.before.before.before.before.before.before.requires.1.ready
+sure-requires c κs = ready-most c.requires.1.ready
 
-add-sure : tie.Need-overflow-add-sure
+add-sure : tie.Need-overflow_add-sure
 add-sure c = search rules
 
-step-back-requires-2 : tie.Need-step-back-requires-2
+step-back-requires-2 : tie.Need-step_back-requires-2
 step-back-requires-2 c κs =
-    let s = c.before.before.before.before.before.before.before.before.before.before.before.before.before.before.before.before.before.before in
-    let n : ℕ = s.args.h.statements in
+    let n : ℕ = c.args.h.statements in
     let low = area.row_from n n in
-    let at = s.requires.6 in
-    let thin = narrow s in
-    (ready-most s.requires.1.ready, thin, omega (arith, room s, c.before.before.before.before.before.before.before.before.before.before.before.before.before.before.transfer.ensures.keeps.size, c.before.before.before.before.before.before.before.step_back.ensures.keeps.size), omega (arith, c.before.before.sure.ensures), inr c.before.before.before.back-row.ensures)
+    let at = c.requires.6 in
+    let thin = narrow c.before.before.before.before.before.before.before.before.before.before.before.before.before.before.before.before.before.before in
+    (ready-most c.requires.1.ready, thin, omega (arith, room c.before.before.before.before.before.before.before.before.before.before.before.before.before.before.before.before.before.before, c.transfer.ensures.keeps.size, c.step_back.ensures.keeps.size), omega (arith, c.sure.ensures), inr c.back_row-back.ensures)
 
-same-length-2 : tie.Need-same-length-2
+same-length-2 : tie.Need-shape_of-work
 same-length-2 c = search rules
 
-returns-2 : tie.Need-returns-2
+returns-2 : tie.Need-returns
 returns-2 c =
-    let d = c.before.before.before.before.before.before.before.before.before.before in
-    let s = start d in
-    let vs : List ℕ = d.step_back.new.0 in
+    let s = start c.before.before.before.before.before.before.before.before.before.before in
+    let vs : List ℕ = c.step_back.new.work in
     let w : ℕ = s.args.width in
-    prepared_sure (f d) s.args.work.now (us d) (n d) w s.args.d.0 (i d) s.pre.5 s.pre.7 d.before.before.before.before.before.before.before.transfer.ensures (narrow s) (touched-word d) (sure-word d) s.pre.6
-    vs c.before.before.step-back2.new.0 (touched-row d)
-    (subst (λ (set : ℕ). RowIs vs c.before.before.step-back2.new.0 w (back_row (n d) w) (step_where (member vs (set + i d)) Reference (mask_at vs w (back_row (n d) w)))) c.before.before.before.before.before.sure.ensures
-    (subst (λ (from : ℕ). RowIs vs c.before.before.step-back2.new.0 w (back_row (n d) w) (step_where (member vs (c.before.before.before.before.before.sure.result + i d)) Reference (mask_at vs w from))) c.before.before.before.before.before.before.back-row.ensures
-    c.before.before.step-back2.ensures))
-    (sym s.pre.8 ∙ c.before.before.before.before.before.before.before.if1.false)
+    prepared_sure (f c.before.before.before.before.before.before.before.before.before.before) s.args.work.now (us c.before.before.before.before.before.before.before.before.before.before) (n c.before.before.before.before.before.before.before.before.before.before) w s.args.d.0 (i c.before.before.before.before.before.before.before.before.before.before) s.requires.5 s.requires.7 c.transfer.ensures (narrow s) (touched-word c.before.before.before.before.before.before.before.before.before.before) (sure-word c.before.before.before.before.before.before.before.before.before.before) s.requires.6
+    vs c.step_back-2.new.work (touched-row c.before.before.before.before.before.before.before.before.before.before)
+    (subst (λ (set : ℕ). RowIs vs c.step_back-2.new.work w (back_row (n c.before.before.before.before.before.before.before.before.before.before) w) (step_where (member vs (set + i c.before.before.before.before.before.before.before.before.before.before)) Reference (mask_at vs w (back_row (n c.before.before.before.before.before.before.before.before.before.before) w)))) c.sure.ensures
+    (subst (λ (from : ℕ). RowIs vs c.step_back-2.new.work w (back_row (n c.before.before.before.before.before.before.before.before.before.before) w) (step_where (member vs (c.sure.result + i c.before.before.before.before.before.before.before.before.before.before)) Reference (mask_at vs w from))) c.back_row-back.ensures
+    c.step_back-2.ensures))
+    (sym s.requires.8 ∙ c.if-again.false)
 
-pub own-rows-spec : {M : Type 1} → statement M
-own-rows-spec =
+pub own_rows_spec : {M : Type 1} → statement M
+own_rows_spec =
     tie.close
     (tie.spec
     transfer-requires

@@ -30,7 +30,7 @@ narrow : (c : tie.Start) → c.args.width ≤ max_width
 narrow c = let most = (limited c.requires.1.ready.fit).arrays in omega (arith, c.requires.0, ap (λ h. h.arrays) c.requires.1.header)
 
 -- where the act stands: before the rows of the numbers, or in that of d
-module _ (c : tie.After-act-row) where
+module _ (c : tie.After-act_row-own) where
   abbrev start : tie.Start
   start = c.before.before.before.before
 
@@ -41,81 +41,75 @@ module _ (c : tie.After-act-row) where
   w = start.args.width
 
   made : mask_row_at n w 0 ≤ key_at n w
-  made = let low = row_from n w (2 * n) in let end = nodes-within n w in let first = row_from n w 0 in omega (arith, row_first n w, start.pre.5)
+  made = let low = row_from n w (2 * n) in let end = nodes-within n w in let first = row_from n w 0 in omega (arith, row_first n w, start.requires.5)
 
-  own-fits : c.act-row.result + 3 * w ≤ key_at n w
-  own-fits = go c.act-row.ensures.1
+  own-fits : c.act_row-own.result + 3 * w ≤ key_at n w
+  own-fits = go c.act_row-own.ensures.1
     where
-      go : (c.act-row.result ≡ out_row n w) ⊎ (c.act-row.result ≡ mask_row_at n w start.args.d.0) → c.act-row.result + 3 * w ≤ key_at n w
+      go : (c.act_row-own.result ≡ out_row n w) ⊎ (c.act_row-own.result ≡ mask_row_at n w start.args.d.0) → c.act_row-own.result + 3 * w ≤ key_at n w
       go (inl e) = let low = row_from n w (2 * n) in let end = nodes-within n w in omega arith
-      go (inr e) = let fits = row_fits n w start.pre.3 in let end = nodes-within n w in omega arith
+      go (inr e) = let fits = row_fits n w start.requires.3 in let end = nodes-within n w in omega arith
 
-beside : (c : tie.After-out-row) → Beside c.before.before.before.before.before.before.before.before.before.args.width c.out-row.result c.before.before.before.before.before.act-row.result
-beside c = go c.before.before.before.before.before.act-row.ensures.1
+beside : (c : tie.After-out_row-out) → Beside c.args.width c.out_row-out.result c.act_row-own.result
+beside c = go c.act_row-own.ensures.1
   where
-    start_of : tie.Start
-    start_of = c.before.before.before.before.before.before.before.before.before
+    go : (c.act_row-own.result ≡ out_row c.args.h.statements c.args.width) ⊎ (c.act_row-own.result ≡ mask_row_at c.args.h.statements c.args.width c.args.d.0)
+        → Beside c.args.width c.out_row-out.result c.act_row-own.result
+    go (inl e) = inr (c.out_row-out.ensures ∙ sym e)
+    go (inr e) = let low = row_from c.args.h.statements c.args.width c.args.d.0 in inl (inl (omega (arith, c.out_row-out.ensures)))
 
-    go : (c.before.before.before.before.before.act-row.result ≡ out_row start_of.args.h.statements start_of.args.width) ⊎ (c.before.before.before.before.before.act-row.result ≡ mask_row_at start_of.args.h.statements start_of.args.width start_of.args.d.0)
-        → Beside start_of.args.width c.out-row.result c.before.before.before.before.before.act-row.result
-    go (inl e) = inr (c.out-row.ensures ∙ sym e)
-    go (inr e) = let low = row_from start_of.args.h.statements start_of.args.width start_of.args.d.0 in inl (inl (omega (arith, c.out-row.ensures)))
-
-act-row-requires : tie.Need-act-row-requires
+act-row-requires : tie.Need-act_row-own-requires
 act-row-requires c κs = search rules
 
-enum_told : tie.Need-enum-told
+enum_told : tie.Need-enum_told-1
 enum_told c = search rules
 
-enum-told-2 : tie.Need-enum-told-2
+enum-told-2 : tie.Need-enum_told-in-At
 enum-told-2 c = search rules
 
-out-row-requires : tie.Need-out-row-requires
-out-row-requires c κs = (ready-most c.before.before.before.before.before.before.before.before.requires.1.ready, narrow c.before.before.before.before.before.before.before.before)
+out-row-requires : tie.Need-out_row-out-requires
+out-row-requires c κs = (ready-most c.requires.1.ready, narrow c.before.before.before.before.before.before.before)
 
-step-key-requires : tie.Need-step-key-requires
+step-key-requires : tie.Need-step_key-requires
 step-key-requires c κs =
-    let s = c.before.before.before.before.before.before.before.before.before.before in
-    let n : ℕ = s.args.h.statements in
-    let w : ℕ = s.args.width in
+    let n : ℕ = c.args.h.statements in
+    let w : ℕ = c.args.width in
     let low = row_from n w (2 * n) in
     let end = nodes-within n w in
-    let out = c.before.out-row.ensures in
-    let at = s.requires.5 in
-    (ready-most s.requires.1.ready, narrow s, omega (arith, key-room s.requires.1.ready (omega arith) (narrow s), c.before.before.before.before.before.before.act-row.ensures.0.keeps.size), omega arith, own-fits c.before.before.before.before.before.before, beside c.before)
+    let out = c.out_row-out.ensures in
+    let at = c.requires.5 in
+    (ready-most c.requires.1.ready, narrow c.before.before.before.before.before.before.before.before.before, omega (arith, key-room c.requires.1.ready (omega arith) (narrow c.before.before.before.before.before.before.before.before.before), c.act_row-own.ensures.0.keeps.size), omega arith, own-fits c.before.before.before.before.before, beside c.before)
 
-same_length : tie.Need-same-length
+same_length : tie.Need-shape_of-work-in-None
 same_length c = search rules
 
-returns : tie.Need-returns
+returns : tie.Need-returns-in-None
 returns c =
-    let s = c.before.before.before.before.before.before.before.before in
-    (acts_unkeyed (flow_of s.args.file.now) s.args.i.0 (handler-none s.requires.1 c.enum_told.given.1) c.before.before.before.before.act-row.ensures.0, c.before.before.before.before.act-row.ensures.1)
+    (acts_unkeyed (flow_of c.args.file.now) c.args.i.0 (handler-none c.requires.1 c.in-None.is) c.act_row-own.ensures.0, c.act_row-own.ensures.1)
 
-same-length-2 : tie.Need-same-length-2
+same-length-2 : tie.Need-shape_of-work-in-At
 same-length-2 c = search rules
 
-returns-2 : tie.Need-returns-2
+returns-2 : tie.Need-returns-in-At
 returns-2 c =
-    let s = c.before.before.before.before.before.before.before.before.before.before.before.before.before in
-    let f = flow_of s.args.file.now in
-    let n : ℕ = s.args.h.statements in
-    let w : ℕ = s.args.width in
-    let ws : List ℕ = s.args.work.now in
-    let us : List ℕ = c.before.before.before.before.before.before.before.before.before.act-row.new.1.1.0 in
-    let vs : List ℕ = c.before.before.step-key.new.0 in
-    let row : ℕ = c.before.before.before.before.before.before.before.before.before.act-row.result in
-    let out = c.before.before.before.before.out-row.ensures in
-    let handled = handler-at s.requires.1 c.before.before.before.before.before.enum-told2.given.0.0 c.before.before.before.before.before.enum-told2.given.1 in (
-      subst (λ (r : ℕ). Acted f ws vs n w s.args.d.0 (plain_effects f s.args.i.0) r) (sym out)
-          (acts_keyed (well_formed s.requires.1.ready.fit) s.args.i.0 c.before.before.before.before.before.before.before.before.before.act-row.ensures.0
-          (subst (λ (to : ℕ). RowIs us vs w to (step_where (member us (key_at n w)) Touched (mask_at us w row))) out c.before.before.step-key.ensures)
-          (key_says (key-stays (keeps_widen (le_refl _) (made c.before.before.before.before.before.before.before.before.before) c.before.before.before.before.before.before.before.before.before.act-row.ensures.0.keeps) s.requires.2) handled)),
+    let f = flow_of c.args.file.now in
+    let n : ℕ = c.args.h.statements in
+    let w : ℕ = c.args.width in
+    let ws : List ℕ = c.args.work.now in
+    let us : List ℕ = c.act_row-own.new.work in
+    let vs : List ℕ = c.step_key.new.work in
+    let row : ℕ = c.act_row-own.result in
+    let out = c.out_row-out.ensures in
+    let handled = handler-at c.requires.1 c.in-At.field-0 c.in-At.is in (
+      subst (λ (r : ℕ). Acted f ws vs n w c.args.d.0 (plain_effects f c.args.i.0) r) (sym out)
+          (acts_keyed (well_formed c.requires.1.ready.fit) c.args.i.0 c.act_row-own.ensures.0
+          (subst (λ (to : ℕ). RowIs us vs w to (step_where (member us (key_at n w)) Touched (mask_at us w row))) out c.step_key.ensures)
+          (key_says (key-stays (keeps_widen (le_refl _) (made c.before.before.before.before.before.before.before.before) c.act_row-own.ensures.0.keeps) c.requires.2) handled)),
       inl out,
     )
 
-pub plain-row-spec : {M : Type 1} → statement M
-plain-row-spec =
+pub plain_row_spec : {M : Type 1} → statement M
+plain_row_spec =
     tie.close
     (tie.spec
     act-row-requires

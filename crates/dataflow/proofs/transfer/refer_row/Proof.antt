@@ -7,18 +7,18 @@ use borrow.Author.Rules.{rules}
 use Rattle.dataflow.proofs.transfer.refer_row.Statement.{statement}
 use Rattle.dataflow.proofs.transfer.refer_row.Tie as tie
 
-note-references-requires : tie.Need-note-references-requires
+note-references-requires : tie.Need-note_references-requires
 note-references-requires c κs = search rules
 
-step-members-requires : tie.Need-step-members-requires
-step-members-requires c κs = let pre = c.before.before.before.before.before.before.before.requires in let r = pre.2 in let size = c.before.before.before.note-references.ensures.keeps.size in (pre.1, inl r.below_to, omega (arith, r.below_to, r.to_fits), omega (arith, r.to_fits), omega (arith, r.from_fits), inl r.apart)
+step-members-requires : tie.Need-step_members-requires
+step-members-requires c κs = let pre = c.requires in let r = pre.2 in let size = c.note_references.ensures.keeps.size in (pre.1, inl r.below_to, omega (arith, r.below_to, r.to_fits), omega (arith, r.to_fits), omega (arith, r.from_fits), inl r.apart)
 
-same_length : tie.Need-same-length
+same_length : tie.Need-shape_of-work
 same_length c = search rules
 
 returns : tie.Need-returns
-returns c = row-steps c.before.before.before.before.before.before.before.before.before.before.requires.2 c.before.before.before.before.before.before.note-references.ensures c.before.before.step-members.ensures
+returns c = row-steps c.requires.2 c.note_references.ensures c.step_members.ensures
 
-pub refer-row-spec : {M : Type 1} → statement M
-refer-row-spec =
+pub refer_row_spec : {M : Type 1} → statement M
+refer_row_spec =
     tie.close (tie.spec note-references-requires step-members-requires same_length returns)

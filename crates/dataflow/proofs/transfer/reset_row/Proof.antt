@@ -7,17 +7,17 @@ use borrow.Author.Rules.{rules}
 use Rattle.dataflow.proofs.transfer.reset_row.Statement.{statement}
 use Rattle.dataflow.proofs.transfer.reset_row.Tie as tie
 
-note-all-requires : tie.Need-note-all-requires
+note-all-requires : tie.Need-note_all-requires
 note-all-requires c κs = search rules
 
-step-members-requires : tie.Need-step-members-requires
-step-members-requires c κs = let pre = c.before.before.before.before.before.before.requires in let r = pre.2 in let size = c.before.before.before.note-all.ensures.keeps.size in (pre.1, inl r.below_to, omega (arith, r.below_to, r.to_fits), omega (arith, r.to_fits), omega (arith, r.from_fits), inl r.apart)
+step-members-requires : tie.Need-step_members-requires
+step-members-requires c κs = let pre = c.requires in let r = pre.2 in let size = c.note_all.ensures.keeps.size in (pre.1, inl r.below_to, omega (arith, r.below_to, r.to_fits), omega (arith, r.to_fits), omega (arith, r.from_fits), inl r.apart)
 
-same_length : tie.Need-same-length
+same_length : tie.Need-shape_of-work
 same_length c = search rules
 
 returns : tie.Need-returns
-returns c = row-steps c.before.before.before.before.before.before.before.before.before.requires.2 c.before.before.before.before.before.before.note-all.ensures c.before.before.step-members.ensures
+returns c = row-steps c.requires.2 c.note_all.ensures c.step_members.ensures
 
-pub reset-row-spec : {M : Type 1} → statement M
-reset-row-spec = tie.close (tie.spec note-all-requires step-members-requires same_length returns)
+pub reset_row_spec : {M : Type 1} → statement M
+reset_row_spec = tie.close (tie.spec note-all-requires step-members-requires same_length returns)

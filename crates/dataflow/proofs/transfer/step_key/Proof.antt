@@ -14,20 +14,19 @@ use Rattle.dataflow.proofs.transfer.step_key.Tie as tie
 key-requires : tie.Need-key-requires
 key-requires c κs = search rules
 
-step-members-requires : tie.Need-step-members-requires
+step-members-requires : tie.Need-step_members-requires
 step-members-requires c κs =
-    let s = c.before.before.before in
     let at = c.key.ensures in
-    (s.requires.1, inr (omega (arith, s.requires.3)), omega (arith, s.requires.2), omega (arith, s.requires.2, s.requires.3), omega (arith, s.requires.2, s.requires.4), s.requires.5)
+    (c.requires.1, inr (omega (arith, c.requires.3)), omega (arith, c.requires.2), omega (arith, c.requires.2, c.requires.3), omega (arith, c.requires.2, c.requires.4), c.requires.5)
 
-same_length : tie.Need-same-length
+same_length : tie.Need-shape_of-work
 same_length c = search rules
 
 returns : tie.Need-returns
 returns c =
-    let a = c.before.before.before.before.before.before.args in
+    let a = c.args in
     let ws : List ℕ = a.work.now in
-    subst (λ (set : ℕ). RowIs ws c.before.before.step-members.new.0 a.width a.to (step_where (member ws set) Touched (mask_at ws a.width a.from))) c.before.before.before.key.ensures c.before.before.step-members.ensures
+    subst (λ (set : ℕ). RowIs ws c.step_members.new.work a.width a.to (step_where (member ws set) Touched (mask_at ws a.width a.from))) c.key.ensures c.step_members.ensures
 
-pub step-key-spec : {M : Type 1} → statement M
-step-key-spec = tie.close (tie.spec key-requires step-members-requires same_length returns)
+pub step_key_spec : {M : Type 1} → statement M
+step_key_spec = tie.close (tie.spec key-requires step-members-requires same_length returns)

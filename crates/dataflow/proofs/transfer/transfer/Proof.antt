@@ -43,106 +43,99 @@ narrow c = let most = few c in omega (arith, c.requires.0)
 room : (c : tie.Start) → area_end c.args.h.statements c.args.width ≤ length c.args.work.now
 room c = let below = c.requires.2 in solver_room c.requires.1.ready (omega arith) (narrow c)
 
-set-row-requires : tie.Need-set-row-requires
-set-row-requires c κs = ready-most c.before.before.requires.1.ready
+set-row-requires : tie.Need-set_row-set-requires
+set-row-requires c κs = ready-most c.requires.1.ready
 
-out-row-requires : tie.Need-out-row-requires
-out-row-requires c κs = (ready-most c.before.before.before.requires.1.ready, narrow c.before.before.before)
+out-row-requires : tie.Need-out_row-out-requires
+out-row-requires c κs = (ready-most c.requires.1.ready, narrow c.before.before.before)
 
-mask-row-requires : tie.Need-mask-row-requires
-mask-row-requires c κs = (ready-most c.before.before.before.before.requires.1.ready, narrow c.before.before.before.before, c.before.before.before.before.requires.2)
+mask-row-requires : tie.Need-mask_row-from-requires
+mask-row-requires c κs = (ready-most c.requires.1.ready, narrow c.before.before.before.before, c.requires.2)
 
 resets-requires : tie.Need-resets-requires
 resets-requires c κs = search rules
 
-reset-row-requires : tie.Need-reset-row-requires
+reset-row-requires : tie.Need-reset_row-requires
 reset-row-requires c κs =
-    let s = c.before.before.before.before.before.before.before.before in
-    let set = c.before.before.before.before.before.set-row.ensures in
-    let out = c.before.before.before.before.out-row.ensures in
-    let from = c.before.before.before.mask-row.ensures in
-    (few s, narrow s, hand_apart s.args.work.now s.args.h.statements s.args.width s.args.d.0 (room s) s.requires.2 set (omega arith) (omega arith) from)
+    let set = c.set_row-set.ensures in
+    let out = c.out_row-out.ensures in
+    let from = c.mask_row-from.ensures in
+    (few c.before.before.before.before.before.before.before.before, narrow c.before.before.before.before.before.before.before.before, hand_apart c.args.work.now c.args.h.statements c.args.width c.args.d.0 (room c.before.before.before.before.before.before.before.before) c.requires.2 set (omega arith) (omega arith) from)
 
-same_length : tie.Need-same-length
+same_length : tie.Need-shape_of-work-then-resets
 same_length c = search rules
 
-returns : tie.Need-returns
+returns : tie.Need-returns-then-resets
 returns c =
-    let s = c.before.before.before.before.before.before.before.before.before.before.before in
-    let set = c.before.before.before.before.before.before.before.before.set-row.ensures in
-    let out = c.before.before.before.before.before.before.before.out-row.ensures in
-    let from = c.before.before.before.before.before.before.mask-row.ensures in
-    acts_resets (well_formed s.requires.1.ready.fit) s.args.h.statements s.args.width s.args.d.0 s.args.i.0 s.requires.2 (count s)
-    (sym c.before.before.before.before.before.resets.ensures ∙ c.before.before.before.before.if1.true) (steps-at set out from c.before.before.reset-row.ensures)
+    let set = c.set_row-set.ensures in
+    let out = c.out_row-out.ensures in
+    let from = c.mask_row-from.ensures in
+    acts_resets (well_formed c.requires.1.ready.fit) c.args.h.statements c.args.width c.args.d.0 c.args.i.0 c.requires.2 (count c.before.before.before.before.before.before.before.before.before.before.before)
+    (sym c.resets.ensures ∙ c.if-resets.true) (steps-at set out from c.reset_row.ensures)
 
-item-count-requires : tie.Need-item-count-requires
+item-count-requires : tie.Need-item_count-requires
 item-count-requires c κs = search rules
 
-refer-row-requires : tie.Need-refer-row-requires
+refer-row-requires : tie.Need-refer_row-requires
 refer-row-requires c κs =
-    let s = c.before.before.before.before.before.before.before.before.before.before in
-    let set = c.before.before.before.before.before.before.before.set-row.ensures in
-    let out = c.before.before.before.before.before.before.out-row.ensures in
-    let from = c.before.before.before.before.before.mask-row.ensures in
-    (s.requires.3, narrow s, hand_apart s.args.work.now s.args.h.statements s.args.width s.args.d.0 (room s) s.requires.2 set (omega arith) (omega arith) from)
+    let set = c.set_row-set.ensures in
+    let out = c.out_row-out.ensures in
+    let from = c.mask_row-from.ensures in
+    (c.requires.3, narrow c.before.before.before.before.before.before.before.before.before.before, hand_apart c.args.work.now c.args.h.statements c.args.width c.args.d.0 (room c.before.before.before.before.before.before.before.before.before.before) c.requires.2 set (omega arith) (omega arith) from)
 
-same-length-2 : tie.Need-same-length-2
+same-length-2 : tie.Need-shape_of-work-then-item_count-eq0
 same-length-2 c = search rules
 
 empty-list : (l : List Item) → length l ≡ 0 → l ≡ []
 empty-list [] e = refl
 empty-list (x ∷ l) e = absurd (omega arith)
 
-returns-2 : tie.Need-returns-2
+returns-2 : tie.Need-returns-then-item_count-eq0
 returns-2 c =
-    let s = c.before.before.before.before.before.before.before.before.before.before.before.before.before in
-    let set = c.before.before.before.before.before.before.before.before.before.before.set-row.ensures in
-    let out = c.before.before.before.before.before.before.before.before.before.out-row.ensures in
-    let from = c.before.before.before.before.before.before.before.before.mask-row.ensures in
-    acts_plain (well_formed s.requires.1.ready.fit) s.args.h.statements s.args.width s.args.d.0 s.args.i.0 s.requires.2
-    (sym c.before.before.before.before.before.before.before.resets.ensures ∙ c.before.before.before.before.before.before.if1.false) (empty-list (items (kind (flow_of s.args.file.now) s.args.i.0)) (s.requires.3.items.count ∙ sym c.before.before.before.before.before.item_count.ensures ∙ c.before.before.before.before.if2.true))
-    (steps-at set out from c.before.before.refer-row.ensures)
+    let set = c.set_row-set.ensures in
+    let out = c.out_row-out.ensures in
+    let from = c.mask_row-from.ensures in
+    acts_plain (well_formed c.requires.1.ready.fit) c.args.h.statements c.args.width c.args.d.0 c.args.i.0 c.requires.2
+    (sym c.resets.ensures ∙ c.if-resets.false) (empty-list (items (kind (flow_of c.args.file.now) c.args.i.0)) (c.requires.3.items.count ∙ sym c.item_count.ensures ∙ c.if-item_count-eq0.true))
+    (steps-at set out from c.refer_row.ensures)
 
-back-row-requires : tie.Need-back-row-requires
-back-row-requires c κs = (ready-most c.before.before.before.before.before.before.before.before.before.requires.1.ready, narrow c.before.before.before.before.before.before.before.before.before)
+back-row-requires : tie.Need-back_row-back-requires
+back-row-requires c κs = (ready-most c.requires.1.ready, narrow c.before.before.before.before.before.before.before.before.before)
 
-refer-row-requires-2 : tie.Need-refer-row-requires-2
+refer-row-requires-2 : tie.Need-refer_row-requires-2
 refer-row-requires-2 c κs =
-    let s = c.before.before.before.before.before.before.before.before.before.before.before in
-    let set = c.before.before.before.before.before.before.before.before.set-row.ensures in
-    let out = c.before.before.before.before.before.before.before.out-row.ensures in
-    let from = c.before.before.before.before.before.before.mask-row.ensures in
-    let back = c.before.back-row.ensures in
-    (s.requires.3, narrow s, hand_apart s.args.work.now s.args.h.statements s.args.width s.args.d.0 (room s) s.requires.2 set (omega arith) (omega arith) from)
+    let set = c.set_row-set.ensures in
+    let out = c.out_row-out.ensures in
+    let from = c.mask_row-from.ensures in
+    let back = c.back_row-back.ensures in
+    (c.requires.3, narrow c.before.before.before.before.before.before.before.before.before.before.before, hand_apart c.args.work.now c.args.h.statements c.args.width c.args.d.0 (room c.before.before.before.before.before.before.before.before.before.before.before) c.requires.2 set (omega arith) (omega arith) from)
 
-dim-row-requires : tie.Need-dim-row-requires
+dim-row-requires : tie.Need-dim_row-requires
 dim-row-requires c κs =
-    let s = c.before.before.before.before.before.before.before.before.before.before.before.before.before.before.before in
-    let set = c.before.before.before.before.before.before.before.before.before.before.before.before.set-row.ensures in
-    let out = c.before.before.before.before.before.before.before.before.before.before.before.out-row.ensures in
-    let from = c.before.before.before.before.before.before.before.before.before.before.mask-row.ensures in
-    let back = c.before.before.before.before.before.back-row.ensures in (
-      s.requires.1.ready.fit,
-      s.requires.3,
-      s.requires.0 ∙ ap set_words (count s),
-      apart-again s.args.work.now c.before.before.before.refer-row2.new.1.0 c.before.before.before.refer-row2.ensures.size (edges-apart s.args.work.now s.args.h.statements s.args.width (room s) set out back),
+    let set = c.set_row-set.ensures in
+    let out = c.out_row-out.ensures in
+    let from = c.mask_row-from.ensures in
+    let back = c.back_row-back.ensures in (
+      c.requires.1.ready.fit,
+      c.requires.3,
+      c.requires.0 ∙ ap set_words (count c.before.before.before.before.before.before.before.before.before.before.before.before.before.before.before),
+      apart-again c.args.work.now c.refer_row-2.new.work c.refer_row-2.ensures.size (edges-apart c.args.work.now c.args.h.statements c.args.width (room c.before.before.before.before.before.before.before.before.before.before.before.before.before.before.before) set out back),
     )
 
-same-length-3 : tie.Need-same-length-3
+same-length-3 : tie.Need-shape_of-work
 same-length-3 c = search rules
 
-returns-3 : tie.Need-returns-3
+returns-3 : tie.Need-returns
 returns-3 c =
-    let s = c.before.before.before.before.before.before.before.before.before.before.before.before.before.before.before.before.before.before in
-    let set = c.before.before.before.before.before.before.before.before.before.before.before.before.before.before.before.set-row.ensures in
-    let out = c.before.before.before.before.before.before.before.before.before.before.before.before.before.before.out-row.ensures in
-    let from = c.before.before.before.before.before.before.before.before.before.before.before.before.before.mask-row.ensures in
-    let back = c.before.before.before.before.before.before.before.before.back-row.ensures in
-    acts_dims (well_formed s.requires.1.ready.fit) s.args.h.statements s.args.width s.args.d.0 s.args.i.0 s.requires.2
-    (sym c.before.before.before.before.before.before.before.before.before.before.before.before.resets.ensures ∙ c.before.before.before.before.before.before.before.before.before.before.before.if1.false) (steps-at set back from c.before.before.before.before.before.before.refer-row2.ensures) (steps-at set out back c.before.before.dim-row.ensures)
+    let set = c.set_row-set.ensures in
+    let out = c.out_row-out.ensures in
+    let from = c.mask_row-from.ensures in
+    let back = c.back_row-back.ensures in
+    acts_dims (well_formed c.requires.1.ready.fit) c.args.h.statements c.args.width c.args.d.0 c.args.i.0 c.requires.2
+    (sym c.resets.ensures ∙ c.if-resets.false) (steps-at set back from c.refer_row-2.ensures) (steps-at set out back c.dim_row.ensures)
 
-pub transfer-spec : {M : Type 1} → statement M
-transfer-spec =
+pub transfer_spec : {M : Type 1} → statement M
+transfer_spec =
     tie.close
     (tie.spec
     set-row-requires

@@ -18,37 +18,37 @@ spread-requires c κs = search rules
 spread-requires-2 : tie.Need-spread-requires-2
 spread-requires-2 c κs = search rules
 
-mul-result : tie.Need-overflow-mul-result
-mul-result c = omega (arith, bits_most (c.before.before.args.auto % 256))
+mul-result : tie.Need-overflow_mul-result
+mul-result c = omega (arith, bits_most (c.args.auto % 256))
 
-add-result : tie.Need-overflow-add-result
+add-result : tie.Need-overflow_add-result
 add-result c =
-    let a = c.before.before.args in
+    let a = c.args in
     omega (arith, bits_most (a.none % 256), bits_most (a.auto % 256))
 
 spread-requires-3 : tie.Need-spread-requires-3
 spread-requires-3 c κs = search rules
 
-mul-result-2 : tie.Need-overflow-mul-result-2
-mul-result-2 c = omega (arith, bits_most (c.before.before.before.args.dimmed % 256))
+mul-result-2 : tie.Need-overflow_mul-result-2
+mul-result-2 c = omega (arith, bits_most (c.args.dimmed % 256))
 
-add-result-2 : tie.Need-overflow-add-result-2
+add-result-2 : tie.Need-overflow_add-result-2
 add-result-2 c =
-    let a = c.before.before.before.args in
+    let a = c.args in
     omega (arith, bits_most (a.none % 256), bits_most (a.auto % 256), bits_most (a.dimmed % 256))
 
 returns : tie.Need-returns
 returns c j l =
-    let a = c.before.before.before.args in
+    let a = c.args in
     let x = a.none % 256 in
     let y = a.auto % 256 in
     let z = a.dimmed % 256 in
-    let sum : c.before.before.spread.result + 2 * c.before.spread2.result + 4 * c.spread3.result ≡ bytes (mask_in x y z) 8 = omega (arith, sum_bytes (bit x) (bit y) (bit z) 8) in
+    let sum : c.spread.result + 2 * c.spread-2.result + 4 * c.spread-3.result ≡ bytes (mask_in x y z) 8 = omega (arith, sum_bytes (bit x) (bit y) (bit z) 8) in
     ap (λ (w : ℕ). byte_of w j) sum ∙ byte_at (mask_in x y z) 8 j (λ i. omega (arith, bit-lt x i, bit-lt y i, bit-lt z i)) l
     ∙ omega (arith, bit-mod 8 a.none j l, bit-mod 8 a.auto j l, bit-mod 8 a.dimmed j l)
 
-pub eight-masks-spec : {M : Type 1} → statement M
-eight-masks-spec =
+pub eight_masks_spec : {M : Type 1} → statement M
+eight_masks_spec =
     tie.close
     (tie.spec
     spread-requires

@@ -19,55 +19,49 @@ within n w e l m h = omega (arith, e, row_fits n w l, m, h)
 node-requires : tie.Need-node-requires
 node-requires c κs = search rules
 
-mask-row-requires : tie.Need-mask-row-requires
+mask-row-requires : tie.Need-mask_row-zero-requires
 mask-row-requires c κs = search rules
 
 node-requires-2 : tie.Need-node-requires-2
 node-requires-2 c κs = search rules
 
-mask-row-requires-2 : tie.Need-mask-row-requires-2
+mask-row-requires-2 : tie.Need-mask_row-other-requires
 mask-row-requires-2 c κs = search rules
 
-add-result : tie.Need-overflow-add-result
+add-result : tie.Need-overflow_add-result
 add-result c =
-    let start = c.before.before.before.before.before in
-    omega (arith, within start.args.n start.args.width c.before.before.mask-row.ensures (omega arith) start.requires.2 start.requires.0.room)
+    omega (arith, within c.args.n c.args.width c.mask_row-zero.ensures (omega arith) c.requires.2 c.requires.0.room)
 
-mul-result : tie.Need-overflow-mul-result
+mul-result : tie.Need-offset_bounds-work-zero
 mul-result c =
-    let start = c.before.before.before.before.before in
-    omega (arith, within start.args.n start.args.width c.before.before.mask-row.ensures (omega arith) start.requires.2 start.requires.0.room)
+    omega (arith, within c.args.n c.args.width c.mask_row-zero.ensures (omega arith) c.requires.2 c.requires.0.room)
 
-shared-slice-read-result : tie.Need-shared-slice-read-result
+shared-slice-read-result : tie.Need-bounds-work-zero
 shared-slice-read-result c =
-    let start = c.before.before.before.before.before.before in
-    omega (arith, within start.args.n start.args.width c.before.before.before.mask-row.ensures (omega arith) start.requires.2 start.requires.0.room)
+    omega (arith, within c.args.n c.args.width c.mask_row-zero.ensures (omega arith) c.requires.2 c.requires.0.room)
 
-add-result-2 : tie.Need-overflow-add-result-2
+add-result-2 : tie.Need-overflow_add-result-2
 add-result-2 c =
-    let start = c.before.before.before.before.before.before in
-    omega (arith, within start.args.n start.args.width c.before.mask-row2.ensures (omega arith) start.requires.2 start.requires.0.room)
+    omega (arith, within c.args.n c.args.width c.mask_row-other.ensures (omega arith) c.requires.2 c.requires.0.room)
 
-mul-result-2 : tie.Need-overflow-mul-result-2
+mul-result-2 : tie.Need-offset_bounds-work-other
 mul-result-2 c =
-    let start = c.before.before.before.before.before.before in
-    omega (arith, within start.args.n start.args.width c.before.mask-row2.ensures (omega arith) start.requires.2 start.requires.0.room)
+    omega (arith, within c.args.n c.args.width c.mask_row-other.ensures (omega arith) c.requires.2 c.requires.0.room)
 
-shared-slice-read-result-2 : tie.Need-shared-slice-read-result-2
+shared-slice-read-result-2 : tie.Need-bounds-work-other
 shared-slice-read-result-2 c =
-    let start = c.before.before.before.before.before.before.before in
-    omega (arith, within start.args.n start.args.width c.before.before.mask-row2.ensures (omega arith) start.requires.2 start.requires.0.room)
+    omega (arith, within c.args.n c.args.width c.mask_row-other.ensures (omega arith) c.requires.2 c.requires.0.room)
 
 returns : tie.Need-returns
 unfolding both_words
 returns c =
-    let a = c.before.before.before.before.before.before.before.args in
-    let zero = c.before.before.before.before.mask-row.ensures ∙ ap (mask_row_at a.n a.width) (c.before.before.before.before.before.node.ensures ∙ zero-add a.i) in
-    let other = c.before.before.mask-row2.ensures ∙ ap (mask_row_at a.n a.width) c.before.before.before.node2.ensures in
+    let a = c.args in
+    let zero = c.mask_row-zero.ensures ∙ ap (mask_row_at a.n a.width) (c.node.ensures ∙ zero-add a.i) in
+    let other = c.mask_row-other.ensures ∙ ap (mask_row_at a.n a.width) c.node-2.ensures in
     ap₂ (λ (x y : ℕ). bit_or (get_or a.work.now (x + a.k) 0) (get_or a.work.now (y + a.k) 0)) zero other
 
-pub joined-word-spec : {M : Type 1} → statement M
-joined-word-spec =
+pub joined_word_spec : {M : Type 1} → statement M
+joined_word_spec =
     tie.close
     (tie.spec
     node-requires

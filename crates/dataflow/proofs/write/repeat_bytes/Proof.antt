@@ -12,42 +12,42 @@ use Rattle.records.proofs.Noting.{noted_other}
 use Rattle.dataflow.proofs.write.repeat_bytes.Statement.{statement}
 use Rattle.dataflow.proofs.write.repeat_bytes.Tie as tie
 
-abbrev invariant-loop : tie.invariant-loop
+abbrev invariant-loop : tie.invariant-loop-k
 invariant-loop masks₀ from count k₀ masks k = (k ≤ count) × (length masks ≡ length masks₀) × (masks ≡ noted masks₀ (from + count) k (λ x. get_or masks₀ (from + x) 0))
 
-abbrev decreases-loop : tie.decreases-loop
+abbrev decreases-loop : tie.decreases-loop-k
 decreases-loop masks₀ from count k₀ masks k = count - k
 
-loop-holds : tie.Need-loop-init invariant-loop decreases-loop
+loop-holds : tie.Need-loop-k-init invariant-loop decreases-loop
 unfolding noted
 loop-holds c = (omega arith, refl, refl)
 
-add-masks : tie.Need-overflow-add-masks invariant-loop decreases-loop
+add-masks : tie.Need-overflow_add-masks invariant-loop decreases-loop
 add-masks c = search rules
 
-slice-read-masks : tie.Need-slice-read-masks invariant-loop decreases-loop
+slice-read-masks : tie.Need-bounds-masks-from invariant-loop decreases-loop
 slice-read-masks c = search rules
 
-add-masks-2 : tie.Need-overflow-add-masks-2 invariant-loop decreases-loop
+add-masks-2 : tie.Need-overflow_add-masks-in-loop-k invariant-loop decreases-loop
 add-masks-2 c = search rules
 
-add-masks-3 : tie.Need-overflow-add-masks-3 invariant-loop decreases-loop
+add-masks-3 : tie.Need-overflow_add-masks-in-loop-k-2 invariant-loop decreases-loop
 add-masks-3 c = search rules
 
-slice-write-masks : tie.Need-slice-write-masks invariant-loop decreases-loop
+slice-write-masks : tie.Need-bounds-masks-from-in-loop-k invariant-loop decreases-loop
 slice-write-masks c = search rules
 
-add-k : tie.Need-overflow-add-k invariant-loop decreases-loop
+add-k : tie.Need-overflow_add-k invariant-loop decreases-loop
 add-k c = search rules
 
-loop-less : tie.Need-loop-smaller invariant-loop decreases-loop
+loop-less : tie.Need-loop-k-smaller invariant-loop decreases-loop
 loop-less c = search rules
 
-loop-again : tie.Need-loop-preserved invariant-loop decreases-loop
+loop-again : tie.Need-loop-k-preserved invariant-loop decreases-loop
 unfolding noted
 loop-again c =
-    let a = c.before.before.before.args in
-    let s = c.before.before.loop in
+    let a = c.args in
+    let s = c.loop-k in
     let old : get_or s.masks (a.from + s.k) 0 ≡ get_or a.masks.now (a.from + s.k) 0 = ap (λ (l : List ℕ). get_or l (a.from + s.k) 0) s.invariant.2
     ∙ noted_other a.masks.now (a.from + a.count) (λ x. get_or a.masks.now (a.from + x) 0) s.k (a.from + s.k) 0 (λ i l e. omega arith) in (
       omega arith,
@@ -55,17 +55,17 @@ loop-again c =
       rw add-one (ap₂ (λ (l : List ℕ) (v : ℕ). set l (a.from + a.count + s.k) v) s.invariant.2 old),
     )
 
-same_length : tie.Need-same-length invariant-loop decreases-loop
-same_length c = c.before.loop.invariant.1
+same_length : tie.Need-shape_of-masks invariant-loop decreases-loop
+same_length c = c.loop-k.invariant.1
 
 returns : tie.Need-returns invariant-loop decreases-loop
 returns c =
-    let a = c.before.before.args in
-    let all : c.before.loop.k ≡ a.count = omega arith in
-    c.before.loop.invariant.2 ∙ ap (λ k. noted a.masks.now (a.from + a.count) k (λ x. get_or a.masks.now (a.from + x) 0)) all
+    let a = c.args in
+    let all : c.loop-k.k ≡ a.count = omega arith in
+    c.loop-k.invariant.2 ∙ ap (λ k. noted a.masks.now (a.from + a.count) k (λ x. get_or a.masks.now (a.from + x) 0)) all
 
-pub repeat-bytes-spec : {M : Type 1} → statement M
-repeat-bytes-spec =
+pub repeat_bytes_spec : {M : Type 1} → statement M
+repeat_bytes_spec =
     tie.close
     (tie.spec
     invariant-loop

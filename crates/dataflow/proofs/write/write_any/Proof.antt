@@ -13,45 +13,45 @@ use Rattle.theory.specs.Masks.{any_state}
 use Rattle.dataflow.proofs.write.write_any.Statement.{statement}
 use Rattle.dataflow.proofs.write.write_any.Tie as tie
 
-abbrev invariant-loop : tie.invariant-loop
+abbrev invariant-loop : tie.invariant-loop-j
 invariant-loop masks₀ count j₀ masks j = (j ≤ count) × (length masks ≡ length masks₀) × (masks ≡ noted masks₀ 0 j (λ x. any_state))
 
-abbrev decreases-loop : tie.decreases-loop
+abbrev decreases-loop : tie.decreases-loop-j
 decreases-loop masks₀ count j₀ masks j = count - j
 
-loop-holds : tie.Need-loop-init invariant-loop decreases-loop
+loop-holds : tie.Need-loop-j-init invariant-loop decreases-loop
 unfolding noted
 loop-holds c = (omega arith, refl, refl)
 
-slice-write-masks : tie.Need-slice-write-masks invariant-loop decreases-loop
+slice-write-masks : tie.Need-bounds-masks-j invariant-loop decreases-loop
 slice-write-masks c = search rules
 
-add-j : tie.Need-overflow-add-j invariant-loop decreases-loop
+add-j : tie.Need-overflow_add-j invariant-loop decreases-loop
 add-j c = search rules
 
-loop-less : tie.Need-loop-smaller invariant-loop decreases-loop
+loop-less : tie.Need-loop-j-smaller invariant-loop decreases-loop
 loop-less c = search rules
 
-loop-again : tie.Need-loop-preserved invariant-loop decreases-loop
+loop-again : tie.Need-loop-j-preserved invariant-loop decreases-loop
 unfolding noted
 loop-again c =
-    let s = c.before.loop in (
+    let s = c.loop-j in (
       omega arith,
       rw length-set s.invariant.1,
       rw add-one (ap₂ (λ (l : List ℕ) (x : ℕ). set l x any_state) s.invariant.2 (sym (zero-add s.j))),
     )
 
-same_length : tie.Need-same-length invariant-loop decreases-loop
-same_length c = c.before.loop.invariant.1
+same_length : tie.Need-shape_of-masks invariant-loop decreases-loop
+same_length c = c.loop-j.invariant.1
 
 returns : tie.Need-returns invariant-loop decreases-loop
 returns c =
-    let a = c.before.before.args in
-    let all : c.before.loop.j ≡ a.count = omega arith in
-    c.before.loop.invariant.2 ∙ ap (λ j. noted a.masks.now 0 j (λ x. any_state)) all
+    let a = c.args in
+    let all : c.loop-j.j ≡ a.count = omega arith in
+    c.loop-j.invariant.2 ∙ ap (λ j. noted a.masks.now 0 j (λ x. any_state)) all
 
-pub write-any-spec : {M : Type 1} → statement M
-write-any-spec =
+pub write_any_spec : {M : Type 1} → statement M
+write_any_spec =
     tie.close
     (tie.spec
     invariant-loop

@@ -19,10 +19,10 @@ record Filled (ws work : List ℕ) (n arrays : ℕ) (masks : List ℕ) (i : ℕ)
   passed : i ≤ n
   rows : masks ≡ noted_rows ws arrays (both_copies work n (set_words arrays)) i
 
-abbrev invariant-loop : tie.invariant-loop
+abbrev invariant-loop : tie.invariant-loop-i
 invariant-loop masks₀ work n arrays i₀ masks i = Filled masks₀ work n arrays masks i
 
-abbrev decreases-loop : tie.decreases-loop
+abbrev decreases-loop : tie.decreases-loop-i
 decreases-loop masks₀ work n arrays i₀ masks i = n - i
 
 -- the rows up to this one lie within the area
@@ -38,52 +38,51 @@ module _ {ws work masks : List ℕ} {n arrays i : ℕ} (f : Filled ws work n arr
       ap (λ (v : List ℕ). get_or v ((i - 1) * arrays + a) 0) f.rows
       ∙ rows_at ws arrays (both_copies work n (set_words arrays)) i (i - 1) a (omega arith) l (omega arith)
 
-loop-holds : tie.Need-loop-init invariant-loop decreases-loop
+loop-holds : tie.Need-loop-i-init invariant-loop decreases-loop
 unfolding noted_rows
 loop-holds c = record { passed = omega arith; rows = refl }
 
-write-statement-requires : tie.Need-write-statement-requires invariant-loop decreases-loop
+write-statement-requires : tie.Need-write_statement-requires invariant-loop decreases-loop
 write-statement-requires c κs =
-    let start = c.before.before.before.before.before in
-    let a = start.args in
-    let loop = c.before.before.loop in
-    let last = fits a.n a.arrays (length a.masks.now) loop.i c.before.loop-test.true start.requires.2 in (
-      start.requires.1,
-      record { most = start.requires.0; narrow = omega arith; room = start.requires.3 },
-      c.before.loop-test.true,
+    let a = c.args in
+    let loop = c.loop-i in
+    let last = fits a.n a.arrays (length a.masks.now) loop.i c.loop-i-test.true c.requires.2 in (
+      c.requires.1,
+      record { most = c.requires.0; narrow = omega arith; room = c.requires.3 },
+      c.loop-i-test.true,
       omega (arith, last, size loop.invariant),
       row_before loop.invariant last,
     )
 
-add-i : tie.Need-overflow-add-i invariant-loop decreases-loop
+add-i : tie.Need-overflow_add-i invariant-loop decreases-loop
 add-i c = search rules
 
-loop-less : tie.Need-loop-smaller invariant-loop decreases-loop
+loop-less : tie.Need-loop-i-smaller invariant-loop decreases-loop
 loop-less c = search rules
 
-loop-again : tie.Need-loop-preserved invariant-loop decreases-loop
+loop-again : tie.Need-loop-i-preserved invariant-loop decreases-loop
 unfolding noted_rows
 loop-again c =
-    let a = c.before.before.before.before.before.before.before.before.args in
-    let loop = c.before.before.before.before.before.loop in
+    let a = c.args in
+    let loop = c.loop-i in
     record {
-      passed = omega (arith, c.before.before.before.before.loop-test.true);
+      passed = omega (arith, c.loop-i-test.true);
       rows = rw (add-one loop.i)
-          (c.before.before.write-statement.ensures
+          (c.write_statement.ensures
           ∙ ap (λ (l : List ℕ). noted l (loop.i * a.arrays) a.arrays (both_copies a.work.now a.n (set_words a.arrays) loop.i)) loop.invariant.rows);
     }
 
-same_length : tie.Need-same-length invariant-loop decreases-loop
-same_length c = size c.before.loop.invariant
+same_length : tie.Need-shape_of-masks invariant-loop decreases-loop
+same_length c = size c.loop-i.invariant
 
 returns : tie.Need-returns invariant-loop decreases-loop
 returns c =
-    let a = c.before.before.before.before.args in
-    let all : c.before.loop.i ≡ a.n = omega (arith, c.loop-test.false) in
-    c.before.loop.invariant.rows ∙ ap (noted_rows a.masks.now a.arrays (both_copies a.work.now a.n (set_words a.arrays))) all
+    let a = c.args in
+    let all : c.loop-i.i ≡ a.n = omega (arith, c.loop-i-test.false) in
+    c.loop-i.invariant.rows ∙ ap (noted_rows a.masks.now a.arrays (both_copies a.work.now a.n (set_words a.arrays))) all
 
-pub write-masks-spec : {M : Type 1} → statement M
-write-masks-spec =
+pub write_masks_spec : {M : Type 1} → statement M
+write_masks_spec =
     tie.close
     (tie.spec
     invariant-loop

@@ -20,10 +20,10 @@ record Filled (ws work : List ℕ) (n arrays i width at : ℕ) (masks : List ℕ
   size : length masks ≡ length ws
   bytes : masks ≡ noted ws at (min (64 * k) arrays) (both_copies work n width i)
 
-abbrev invariant-loop : tie.invariant-loop
+abbrev invariant-loop : tie.invariant-loop-k
 invariant-loop masks₀ work n arrays i width at k₀ masks k = Filled masks₀ work n arrays i width at masks k
 
-abbrev decreases-loop : tie.decreases-loop
+abbrev decreases-loop : tie.decreases-loop-k
 decreases-loop masks₀ work n arrays i width at k₀ masks k = width - k
 
 -- the masks of one word more are noted
@@ -40,79 +40,78 @@ module _ {ws work masks : List ℕ} {n arrays i width at k : ℕ} (f : Filled ws
       up_to : {a b : ℕ} → a ≡ b → noted ws at a (both_copies work n width i) ≡ noted ws at b (both_copies work n width i)
       up_to = ap (λ (v : ℕ). noted ws at v (both_copies work n width i))
 
-set-words-requires : tie.Need-set-words-requires invariant-loop decreases-loop
+set-words-requires : tie.Need-set_words-width-requires invariant-loop decreases-loop
 set-words-requires c κs = search rules
 
-mul_at : tie.Need-overflow-mul-at invariant-loop decreases-loop
+mul_at : tie.Need-overflow_mul-at invariant-loop decreases-loop
 mul_at c = search rules
 
-loop-holds : tie.Need-loop-init invariant-loop decreases-loop
+loop-holds : tie.Need-loop-k-init invariant-loop decreases-loop
 unfolding noted
 loop-holds c =
-    let start = c.before.before.before in
-    record { passed = omega arith; held = subst (RowsHeld start.args.work.now start.args.n) (sym c.set_words.ensures) start.requires.1; size = refl; bytes = simp zero-min }
+    record { passed = omega arith; held = subst (RowsHeld c.args.work.now c.args.n) (sym c.set_words-width.ensures) c.requires.1; size = refl; bytes = simp zero-min }
 
-joined-word-requires : tie.Need-joined-word-requires invariant-loop decreases-loop
+joined-word-requires : tie.Need-joined_word-none-requires invariant-loop decreases-loop
 joined-word-requires c κs = search rules
 
-add-joined-word : tie.Need-overflow-add-joined-word invariant-loop decreases-loop
+add-joined-word : tie.Need-overflow_add-width invariant-loop decreases-loop
 add-joined-word c = search rules
 
-joined-word-requires-2 : tie.Need-joined-word-requires-2 invariant-loop decreases-loop
+joined-word-requires-2 : tie.Need-joined_word-auto-requires invariant-loop decreases-loop
 joined-word-requires-2 c κs = search rules
 
-mul-joined-word : tie.Need-overflow-mul-joined-word invariant-loop decreases-loop
+mul-joined-word : tie.Need-overflow_mul-width invariant-loop decreases-loop
 mul-joined-word c = search rules
 
-add-joined-word-2 : tie.Need-overflow-add-joined-word-2 invariant-loop decreases-loop
+add-joined-word-2 : tie.Need-overflow_add-width-in-loop-k invariant-loop decreases-loop
 add-joined-word-2 c = search rules
 
-joined-word-requires-3 : tie.Need-joined-word-requires-3 invariant-loop decreases-loop
+joined-word-requires-3 : tie.Need-joined_word-dimmed-requires invariant-loop decreases-loop
 joined-word-requires-3 c κs = search rules
 
-mul-write-word : tie.Need-overflow-mul-write-word invariant-loop decreases-loop
+mul-write-word : tie.Need-overflow_mul-k invariant-loop decreases-loop
 mul-write-word c = search rules
 
-add-write-word : tie.Need-overflow-add-write-word invariant-loop decreases-loop
+add-write-word : tie.Need-overflow_add-at invariant-loop decreases-loop
 add-write-word c = search rules
 
-in-word-requires : tie.Need-in-word-requires invariant-loop decreases-loop
+in-word-requires : tie.Need-in_word-requires invariant-loop decreases-loop
 in-word-requires c κs = search rules
 
-write-word-requires : tie.Need-write-word-requires invariant-loop decreases-loop
+write-word-requires : tie.Need-write_word-requires invariant-loop decreases-loop
 write-word-requires c κs = search rules
 
-add-k : tie.Need-overflow-add-k invariant-loop decreases-loop
+add-k : tie.Need-overflow_add-k invariant-loop decreases-loop
 add-k c = search rules
 
-loop-less : tie.Need-loop-smaller invariant-loop decreases-loop
+loop-less : tie.Need-loop-k-smaller invariant-loop decreases-loop
 loop-less c = search rules
 
-loop-again : tie.Need-loop-preserved invariant-loop decreases-loop
+loop-again : tie.Need-loop-k-preserved invariant-loop decreases-loop
 loop-again c =
-    let s = c.before.before.before.before.before.before.before.before.before.loop in
+    let s = c.loop-k in
     record {
       passed = omega arith;
       held = s.invariant.held;
-      size = c.before.before.write_word.auto.0 ∙ s.invariant.size;
-      bytes = c.before.before.write_word.ensures
-          ∙ word_on s.invariant (omega arith) c.before.before.before.before.before.before.before.joined_word.ensures
-          c.before.before.before.before.before.before.joined-word2.ensures c.before.before.before.before.before.joined-word3.ensures
-          c.before.before.before.in_word.ensures;
+      size = c.write_word.auto.masks ∙ s.invariant.size;
+      bytes = c.write_word.ensures
+          ∙ word_on s.invariant (omega arith) c.joined_word-none.ensures
+          c.joined_word-auto.ensures c.joined_word-dimmed.ensures
+          c.in_word.ensures;
     }
 
-same_length : tie.Need-same-length invariant-loop decreases-loop
-same_length c = c.before.loop.invariant.size
+same_length : tie.Need-shape_of-masks invariant-loop decreases-loop
+same_length c = c.loop-k.invariant.size
 
 returns : tie.Need-returns invariant-loop decreases-loop
 returns c =
-    let a = c.before.before.before.before.before.args in
-    let s = c.before.loop in
+    let a = c.args in
+    let s = c.loop-k in
     let whole : min (64 * s.k) a.arrays ≡ a.arrays = omega arith in
-    s.invariant.bytes ∙ ap₂ (λ (k w : ℕ). noted a.masks.now (a.i * a.arrays) k (both_copies a.work.now a.n w a.i)) whole c.before.before.set_words.ensures
+    s.invariant.bytes ∙ ap₂ (λ (k w : ℕ). noted a.masks.now (a.i * a.arrays) k (both_copies a.work.now a.n w a.i)) whole c.set_words-width.ensures
 
-pub write-row-spec : {M : Type 1} → statement M
-write-row-spec =
+pub write_row_spec : {M : Type 1} → statement M
+write_row_spec =
     tie.close
     (tie.spec
     invariant-loop

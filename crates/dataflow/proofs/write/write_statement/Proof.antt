@@ -28,53 +28,51 @@ copied masks ws n arrays i some row same =
     ∙ noted-same masks (i * arrays) arrays (both_copies ws n (set_words arrays) i) _
     (λ a l. row a some l ∙ same_masks ws n (set_words arrays) (i - 1) i a same (omega arith))
 
-set-words-requires : tie.Need-set-words-requires
+set-words-requires : tie.Need-set_words-requires
 set-words-requires c κs = search rules
 
-sub-same-sets : tie.Need-overflow-sub-same-sets
+sub-same-sets : tie.Need-overflow_sub-i
 sub-same-sets c = search rules
 
-same-sets-requires : tie.Need-same-sets-requires
+same-sets-requires : tie.Need-same_sets-requires
 same-sets-requires c κs =
-    let start = c.before.before.before.before in
-    (subst (RowsHeld start.args.work.now start.args.n) (sym c.set_words.ensures) start.requires.1, omega arith, omega arith)
+    (subst (RowsHeld c.args.work.now c.args.n) (sym c.set_words.ensures) c.requires.1, omega arith, omega arith)
 
-sub-repeat-bytes : tie.Need-overflow-sub-repeat-bytes
+sub-repeat-bytes : tie.Need-overflow_sub-i-then-same_sets
 sub-repeat-bytes c = search rules
 
-mul-repeat-bytes : tie.Need-overflow-mul-repeat-bytes
+mul-repeat-bytes : tie.Need-overflow_mul-i
 mul-repeat-bytes c =
-    let a = c.before.before.before.before.before.before.before.args in
-    omega (arith, row_on a.i a.arrays c.before.before.before.before.if1.true)
+    let a = c.args in
+    omega (arith, row_on a.i a.arrays c.if-i-gt0.true)
 
-repeat-bytes-requires : tie.Need-repeat-bytes-requires
+repeat-bytes-requires : tie.Need-repeat_bytes-requires
 repeat-bytes-requires c κs =
-    let a = c.before.before.before.before.before.before.before.args in
-    omega (arith, row_on a.i a.arrays c.before.before.before.before.if1.true)
+    let a = c.args in
+    omega (arith, row_on a.i a.arrays c.if-i-gt0.true)
 
-same_length : tie.Need-same-length
+same_length : tie.Need-shape_of-masks-then-same_sets
 same_length c = search rules
 
-returns : tie.Need-returns
+returns : tie.Need-returns-then-same_sets
 returns c =
-    let chosen = c.before.before.before.before in
-    let start = chosen.before.before.before.before.before.before in
+    let start = c in
     let a = start.args in
-    c.before.before.repeat-bytes.ensures
-    ∙ copied a.masks.now a.work.now a.n a.arrays a.i chosen.before.before.before.if1.true start.requires.4
-    (rw (chosen.if2.true, chosen.before.before.set_words.ensures) at chosen.before.same-sets.ensures)
+    c.repeat_bytes.ensures
+    ∙ copied a.masks.now a.work.now a.n a.arrays a.i c.if-i-gt0.true start.requires.4
+    (rw (c.if-same_sets.true, c.set_words.ensures) at c.same_sets.ensures)
 
-write-row-requires : tie.Need-write-row-requires
+write-row-requires : tie.Need-write_row-requires
 write-row-requires c κs = search rules
 
-same-length-2 : tie.Need-same-length-2
+same-length-2 : tie.Need-shape_of-masks
 same-length-2 c = search rules
 
-returns-2 : tie.Need-returns-2
+returns-2 : tie.Need-returns
 returns-2 c = search rules
 
-pub write-statement-spec : {M : Type 1} → statement M
-write-statement-spec =
+pub write_statement_spec : {M : Type 1} → statement M
+write_statement_spec =
     tie.close
     (tie.spec
     set-words-requires

@@ -24,10 +24,10 @@ record Filled (ws : List ℕ) (at none auto dimmed count : ℕ) (masks : List �
   third : z ≡ dimmed / 2 ^ (8 * g)
   bytes : masks ≡ noted ws at (8 * g) (mask_in none auto dimmed)
 
-abbrev invariant-loop : tie.invariant-loop
+abbrev invariant-loop : tie.invariant-loop-g
 invariant-loop masks₀ at none auto dimmed count x₀ y₀ z₀ g₀ masks x y z g = Filled masks₀ at none auto dimmed count masks x y z g
 
-abbrev decreases-loop : tie.decreases-loop
+abbrev decreases-loop : tie.decreases-loop-g
 decreases-loop masks₀ at none auto dimmed count x₀ y₀ z₀ g₀ masks x y z g = count / 8 - g
 
 -- one group more is shifted past
@@ -46,67 +46,67 @@ module _ {ws masks : List ℕ} {at none auto dimmed count x y z g : ℕ} (f : Fi
       shifted : (j : ℕ) → mask_in x y z j ≡ mask_in (none / 2 ^ (8 * g)) (auto / 2 ^ (8 * g)) (dimmed / 2 ^ (8 * g)) j
       shifted j = rw (f.first, f.second, f.third)
 
-loop-holds : tie.Need-loop-init invariant-loop decreases-loop
+loop-holds : tie.Need-loop-g-init invariant-loop decreases-loop
 unfolding noted
 loop-holds c = record { passed = omega arith; size = refl; first = sym (div-one _); second = sym (div-one _); third = sym (div-one _); bytes = refl }
 
-mul-write-bytes : tie.Need-overflow-mul-write-bytes invariant-loop decreases-loop
+mul-write-bytes : tie.Need-overflow_mul-g invariant-loop decreases-loop
 mul-write-bytes c = search rules
 
-add-write-bytes : tie.Need-overflow-add-write-bytes invariant-loop decreases-loop
+add-write-bytes : tie.Need-overflow_add-at invariant-loop decreases-loop
 add-write-bytes c = search rules
 
-eight-masks-requires : tie.Need-eight-masks-requires invariant-loop decreases-loop
+eight-masks-requires : tie.Need-eight_masks-requires invariant-loop decreases-loop
 eight-masks-requires c κs = search rules
 
-write-bytes-requires : tie.Need-write-bytes-requires invariant-loop decreases-loop
+write-bytes-requires : tie.Need-write_bytes-requires invariant-loop decreases-loop
 write-bytes-requires c κs = search rules
 
-add-g : tie.Need-overflow-add-g invariant-loop decreases-loop
+add-g : tie.Need-overflow_add-g invariant-loop decreases-loop
 add-g c = search rules
 
-loop-less : tie.Need-loop-smaller invariant-loop decreases-loop
+loop-less : tie.Need-loop-g-smaller invariant-loop decreases-loop
 loop-less c = search rules
 
-loop-again : tie.Need-loop-preserved invariant-loop decreases-loop
+loop-again : tie.Need-loop-g-preserved invariant-loop decreases-loop
 loop-again c =
-    let a = c.before.before.before.before.before.before.before.before.args in
-    let s = c.before.before.before.before.before.before.loop in
+    let a = c.args in
+    let s = c.loop-g in
     record {
       passed = omega arith;
-      size = c.before.before.write_bytes.auto.0 ∙ s.invariant.size;
+      size = c.write_bytes.auto.masks ∙ s.invariant.size;
       first = past a.none s.x s.g s.invariant.first;
       second = past a.auto s.y s.g s.invariant.second;
       third = past a.dimmed s.z s.g s.invariant.third;
-      bytes = c.before.before.write_bytes.ensures ∙ group-on s.invariant _ 8 c.before.before.before.eight-masks.ensures (omega arith)
+      bytes = c.write_bytes.ensures ∙ group-on s.invariant _ 8 c.eight_masks.ensures (omega arith)
           ∙ ap (λ (k : ℕ). noted a.masks.now a.at k (mask_in a.none a.auto a.dimmed)) (omega arith);
     }
 
-mul-write-bytes-2 : tie.Need-overflow-mul-write-bytes-2 invariant-loop decreases-loop
+mul-write-bytes-2 : tie.Need-overflow_mul-g-2 invariant-loop decreases-loop
 mul-write-bytes-2 c = search rules
 
-add-write-bytes-2 : tie.Need-overflow-add-write-bytes-2 invariant-loop decreases-loop
+add-write-bytes-2 : tie.Need-overflow_add-at-2 invariant-loop decreases-loop
 add-write-bytes-2 c = search rules
 
-eight-masks-requires-2 : tie.Need-eight-masks-requires-2 invariant-loop decreases-loop
+eight-masks-requires-2 : tie.Need-eight_masks-requires-2 invariant-loop decreases-loop
 eight-masks-requires-2 c κs = search rules
 
-write-bytes-requires-2 : tie.Need-write-bytes-requires-2 invariant-loop decreases-loop
+write-bytes-requires-2 : tie.Need-write_bytes-requires-2 invariant-loop decreases-loop
 write-bytes-requires-2 c κs = search rules
 
-same_length : tie.Need-same-length invariant-loop decreases-loop
-same_length c = c.before.before.write-bytes2.auto.0 ∙ c.before.before.before.before.before.before.loop.invariant.size
+same_length : tie.Need-shape_of-masks invariant-loop decreases-loop
+same_length c = c.write_bytes-2.auto.masks ∙ c.loop-g.invariant.size
 
 returns : tie.Need-returns invariant-loop decreases-loop
 returns c =
-    let a = c.before.before.before.before.before.before.before.before.args in
-    let s = c.before.before.before.before.before.before.loop in
+    let a = c.args in
+    let s = c.loop-g in
     let whole : 8 * s.g + a.count % 8 ≡ a.count = omega arith in
-    c.before.before.write-bytes2.ensures ∙ group-on s.invariant _ (a.count % 8) c.before.before.before.eight-masks2.ensures (omega arith)
+    c.write_bytes-2.ensures ∙ group-on s.invariant _ (a.count % 8) c.eight_masks-2.ensures (omega arith)
     ∙ ap (λ (k : ℕ). noted a.masks.now a.at k (mask_in a.none a.auto a.dimmed)) whole
 
-pub write-word-spec : {M : Type 1} → statement M
-write-word-spec =
+pub write_word_spec : {M : Type 1} → statement M
+write_word_spec =
     tie.close
     (tie.spec
     invariant-loop
