@@ -46,11 +46,11 @@ judged-fit s masks live_in live_out work h =
     }
 
 -- the areas hold the masks, 0 to 7, and the live words of the definitions
-pub record Holds (f : Flow) (masks live_in live_out : List ℕ) : Type 0 where
+pub record Holds (f : Flow) (masks ins outs : List ℕ) : Type 0 where
   pub mask : (i a : ℕ) → i < size f → a < f.arrays → mask_byte masks f.arrays i a ≡ mask_of f i a
   pub below : (i a : ℕ) → i < size f → a < f.arrays → mask_byte masks f.arrays i a < 8
-  pub live_in : (i : ℕ) → i < size f → word_in live_in i ≡ live_in_word f i
-  pub live_out : (i : ℕ) → i < size f → word_in live_out i ≡ live_out_word f i
+  pub live_in : (i : ℕ) → i < size f → word_in ins i ≡ live_in_word f i
+  pub live_out : (i : ℕ) → i < size f → word_in outs i ≡ live_out_word f i
 
 -- all that the listing takes from what an accepted call has written
 pub holds : {f : Flow} {masks masks' live_in live_in' live_out live_out' work work' : List ℕ} {visits : ℕ}

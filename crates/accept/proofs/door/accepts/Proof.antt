@@ -31,51 +31,49 @@ module _ (c : tie.Start) where
   some = subst (λ (n : ℕ). 0 < n) sized c.requires.0.some
 
 summarize-requires : tie.Need-summarize-requires
-summarize-requires c κs = c.before.before.before.before.requires.0
+summarize-requires c κs = c.requires.0
 
-opaque-handler-requires : tie.Need-opaque-handler-requires
-opaque-handler-requires c κs = c.before.before.before.summarize.ensures
+opaque-handler-requires : tie.Need-opaque_handler-requires
+opaque-handler-requires c κs = c.summarize.ensures
 
-mul-all-any : tie.Need-overflow-mul-all-any
-mul-all-any c = omega (arith, c.before.before.before.before.before.before.before.before.before.before.before.requires.1.room)
+mul-all-any : tie.Need-overflow_mul-h
+mul-all-any c = omega (arith, c.requires.1.room)
 
-mul-all-any-2 : tie.Need-overflow-mul-all-any-2
-mul-all-any-2 c = omega (arith, c.before.before.before.before.before.before.before.before.before.before.before.requires.1.room)
+mul-all-any-2 : tie.Need-overflow_mul-h-then-opaque_handler
+mul-all-any-2 c = omega (arith, c.requires.1.room)
 
-all-any-requires : tie.Need-all-any-requires
-all-any-requires c κs = c.before.before.before.before.before.before.before.before.before.before.before.requires.1.room
+all-any-requires : tie.Need-all_any-requires
+all-any-requires c κs = c.requires.1.room
 
-same_length : tie.Need-same-length
+same_length : tie.Need-shape_of-work-then-opaque_handler
 same_length c = search rules
 
-returns : tie.Need-returns
+returns : tie.Need-returns-then-opaque_handler
 returns c =
-    let s = c.before.before.before.before.before.before.before.before.before.before.before.before in
-    let f = flow_of s.args.file.now in
-    let p = s.args.proposal.now in
-    c.all_any.ensures ∙ ap₂ (λ (n k : ℕ). all_below (2 * (n * k)) (λ j. eqb (get_or p j 0) any_state)) (sized s) (count s) ∙ any-rows f p
-    ∙ sym (accepted-any f (proposed f p) (some s) (sym c.before.before.before.opaque-handler.ensures ∙ c.before.before.if1.true))
+    let f = flow_of c.args.file.now in
+    let p = c.args.proposal.now in
+    c.all_any.ensures ∙ ap₂ (λ (n k : ℕ). all_below (2 * (n * k)) (λ j. eqb (get_or p j 0) any_state)) (sized c.before.before.before.before.before.before.before.before.before.before.before) (count c.before.before.before.before.before.before.before.before.before.before.before) ∙ any-rows f p
+    ∙ sym (accepted-any f (proposed f p) (some c.before.before.before.before.before.before.before.before.before.before.before) (sym c.opaque_handler.ensures ∙ c.if-opaque_handler.true))
 
-note-key-requires : tie.Need-note-key-requires
-note-key-requires c κs = (c.before.before.before.before.before.before.summarize.ensures, sym c.before.before.opaque-handler.ensures ∙ c.before.if1.false)
+note-key-requires : tie.Need-note_key-requires
+note-key-requires c κs = (c.summarize.ensures, sym c.opaque_handler.ensures ∙ c.if-opaque_handler.false)
 
 link-requires : tie.Need-link-requires
-link-requires c κs = let x = c.before.before.before.note-key.ensures in (x.0, x.1, c.before.before.before.before.before.before.before.before.before.before.before.before.before.before.before.requires.0.some)
+link-requires c κs = let x = c.note_key.ensures in (x.0, x.1, c.requires.0.some)
 
 holds-requires : tie.Need-holds-requires
-holds-requires c κs = (c.before.before.before.link.ensures, c.before.before.before.before.before.before.before.before.before.before.before.before.before.before.before.before.before.before.before.requires.1)
+holds-requires c κs = (c.link.ensures, c.requires.1)
 
-same-length-2 : tie.Need-same-length-2
+same-length-2 : tie.Need-shape_of-work
 same-length-2 c = search rules
 
-returns-2 : tie.Need-returns-2
+returns-2 : tie.Need-returns
 returns-2 c =
-    let s = c.before.before.before.before.before.before.before.before.before.before.before.before.before.before.before.before.before.before.before.before.before.before in
-    let f = flow_of s.args.file.now in
-    c.before.before.holds.ensures ∙ sym (accepted-held f (proposed f s.args.proposal.now) (some s) (sym c.before.before.before.before.before.before.before.before.before.before.before.before.before.opaque-handler.ensures ∙ c.before.before.before.before.before.before.before.before.before.before.before.before.if1.false))
+    let f = flow_of c.args.file.now in
+    c.holds.ensures ∙ sym (accepted-held f (proposed f c.args.proposal.now) (some c.before.before.before.before.before.before.before.before.before.before.before.before.before.before.before.before.before.before.before.before.before) (sym c.opaque_handler.ensures ∙ c.if-opaque_handler.false))
 
-pub accepts-spec : {M : Type 1} → statement M
-accepts-spec =
+pub accepts_spec : {M : Type 1} → statement M
+accepts_spec =
     tie.close
     (tie.spec
     summarize-requires

@@ -54,122 +54,111 @@ module _ (c : tie.Start) where
   bytes : Bytes (flow_of c.args.file.now) (proposed (flow_of c.args.file.now) c.args.proposal.now)
   bytes = table_bytes (flow_of c.args.file.now) c.args.proposal.now c.args.h.statements c.args.h.arrays (ready-size c.requires.0.indexed.ready) count c.requires.1
 
-narrow : (c : tie.After-set-words) → c.set_words.result ≤ max_width
-narrow c = omega (arith, c.set_words.ensures, limit c.before.before.before.before)
+narrow : (c : tie.After-set_words-width) → c.set_words-width.result ≤ max_width
+narrow c = omega (arith, c.set_words-width.ensures, limit c.before.before.before.before)
 
 -- an area of this length has room for the numbers' words
-roomy : (c : tie.After-set-words) (ws : List ℕ) → length ws ≡ length c.before.before.before.before.args.work.now → nodes_end c.before.before.before.before.args.h.statements c.set_words.result ≤ length ws
-roomy c ws e = let s = c.before.before.before.before in let room = nodes-room s.requires.0.indexed.ready s.requires.0.some (narrow c) in omega arith
+roomy : (c : tie.After-set_words-width) (ws : List ℕ) → length ws ≡ length c.args.work.now → nodes_end c.args.h.statements c.set_words-width.result ≤ length ws
+roomy c ws e = let room = nodes-room c.requires.0.indexed.ready c.requires.0.some (narrow c) in omega arith
 
 -- the boundary stands in the row behind the edges at hand
 
-begun : (c : tie.After-begin) → let s = c.before.before.before.before.before.before.before in let w : ℕ = set_words s.args.h.arrays in Begun (flow_of s.args.file.now) s.args.work.now c.begin.new.1.1.0 s.args.h.statements w (back_row s.args.h.statements w)
+begun : (c : tie.After-begin) → let w : ℕ = set_words c.args.h.arrays in Begun (flow_of c.args.file.now) c.args.work.now c.begin.new.work c.args.h.statements w (back_row c.args.h.statements w)
 begun c =
-    let s = c.before.before.before.before.before.before.before in
-    let f = flow_of s.args.file.now in
-    let ws : List ℕ = s.args.work.now in
-    let us : List ℕ = c.begin.new.1.1.0 in
-    let n : ℕ = s.args.h.statements in
-    subst (λ (w : ℕ). Begun f ws us n w (back_row n w)) c.before.before.before.set_words.ensures
-    (subst (λ (row : ℕ). Begun f ws us n c.before.before.before.set_words.result row) c.before.before.back-row.ensures c.begin.ensures)
+    let f = flow_of c.args.file.now in
+    let ws : List ℕ = c.args.work.now in
+    let us : List ℕ = c.begin.new.work in
+    let n : ℕ = c.args.h.statements in
+    subst (λ (w : ℕ). Begun f ws us n w (back_row n w)) c.set_words-width.ensures
+    (subst (λ (row : ℕ). Begun f ws us n c.set_words-width.result row) c.back_row-back.ensures c.begin.ensures)
 
 -- and is joined to the masks of the entry
 
-first : (c : tie.After-node) → c.node.result.0 ≡ c.before.before.before.before.before.before.before.before.before.before.before.before.before.before.before.args.h.entry.0
-first c = c.node.ensures ∙ zero-add c.before.before.before.before.before.before.before.before.before.before.before.before.before.before.before.args.h.entry.0
+first : (c : tie.After-node) → c.node.result.0 ≡ c.args.h.entry.0
+first c = c.node.ensures ∙ zero-add c.args.h.entry.0
 
-grown : (c : tie.After-grow) → let s = c.before.before.before.before.before.before.before.before.before.before.before.before.before.before.before.before in let w : ℕ = set_words s.args.h.arrays in Grown c.before.before.before.before.before.load-rows.new.0 c.grow.new.0 s.args.h.statements w (back_row s.args.h.statements w) s.args.h.entry.0
+grown : (c : tie.After-grow) → let w : ℕ = set_words c.args.h.arrays in Grown c.load_rows.new.work c.grow.new.work c.args.h.statements w (back_row c.args.h.statements w) c.args.h.entry.0
 grown c =
-    let s = c.before.before.before.before.before.before.before.before.before.before.before.before.before.before.before.before in
-    let us : List ℕ = c.before.before.before.before.before.load-rows.new.0 in
-    let vs : List ℕ = c.grow.new.0 in
-    let n : ℕ = s.args.h.statements in
-    let w : ℕ = c.before.before.before.before.before.before.before.before.before.before.before.before.set_words.result in
-    subst (λ (w : ℕ). Grown us vs n w (back_row n w) s.args.h.entry.0) c.before.before.before.before.before.before.before.before.before.before.before.before.set_words.ensures
-    (subst (λ (row : ℕ). Grown us vs n w row s.args.h.entry.0) c.before.before.before.before.before.before.before.before.before.before.before.back-row.ensures
-    (subst (λ (d : ℕ). Grown us vs n w c.before.before.before.before.before.before.before.before.before.before.before.back-row.result d) (first c.before) c.grow.ensures))
+    let us : List ℕ = c.load_rows.new.work in
+    let vs : List ℕ = c.grow.new.work in
+    let n : ℕ = c.args.h.statements in
+    let w : ℕ = c.set_words-width.result in
+    subst (λ (w : ℕ). Grown us vs n w (back_row n w) c.args.h.entry.0) c.set_words-width.ensures
+    (subst (λ (row : ℕ). Grown us vs n w row c.args.h.entry.0) c.back_row-back.ensures
+    (subst (λ (d : ℕ). Grown us vs n w c.back_row-back.result d) (first c.before) c.grow.ensures))
 
 module _ (c : tie.After-grow) where
   abbrev at : tie.Start
-  at = c.before.before.before.before.before.before.before.before.before.before.before.before.before.before.before.before
+  at = c.before.before.before.before.before.before.before.before.before.before.before.before.before.before.before.before.before
 
   abbrev width : ℕ
   width = set_words at.args.h.arrays
 
-  passing : Passing (flow_of at.args.file.now) (proposed (flow_of at.args.file.now) at.args.proposal.now) c.grow.new.0 at.args.h.statements width nothing 0
+  passing : Passing (flow_of at.args.file.now) (proposed (flow_of at.args.file.now) at.args.proposal.now) c.grow.new.work at.args.h.statements width nothing 0
   passing =
-      passing_start (flow_of at.args.file.now) at.args.proposal.now at.args.work.now _ _ c.grow.new.0 at.args.h.statements at.args.h.arrays at.args.h.entry.0 (count at) (ready-size at.pre.0.indexed.ready) at.pre.0.some (entry at) (within at) (wide at) (bytes at)
-      at.pre.0.linked at.pre.0.zero (begun c.before.before.before.before.before.before.before.before.before) c.before.before.before.before.before.load-rows.ensures (grown c)
+      passing_start (flow_of at.args.file.now) at.args.proposal.now at.args.work.now _ _ c.grow.new.work at.args.h.statements at.args.h.arrays at.args.h.entry.0 (count at) (ready-size at.requires.0.indexed.ready) at.requires.0.some (entry at) (within at) (wide at) (bytes at)
+      at.requires.0.linked at.requires.0.zero (begun c.before.before.before.before.before.before.before.before.before.before) c.load_rows.ensures (grown c)
 
-  keeps : Keeps (queue_at at.args.h.statements) (area_end at.args.h.statements width) at.args.work.now c.grow.new.0
+  keeps : Keeps (queue_at at.args.h.statements) (area_end at.args.h.statements width) at.args.work.now c.grow.new.work
   keeps =
-      start_keeps (flow_of at.args.file.now) at.args.proposal.now at.args.work.now _ _ c.grow.new.0 at.args.h.statements at.args.h.arrays at.args.h.entry.0 (count at) (ready-size at.pre.0.indexed.ready) at.pre.0.some (entry at) (within at) (wide at) (bytes at)
-      at.pre.0.linked at.pre.0.zero (begun c.before.before.before.before.before.before.before.before.before) c.before.before.before.before.before.load-rows.ensures (grown c)
+      start_keeps (flow_of at.args.file.now) at.args.proposal.now at.args.work.now _ _ c.grow.new.work at.args.h.statements at.args.h.arrays at.args.h.entry.0 (count at) (ready-size at.requires.0.indexed.ready) at.requires.0.some (entry at) (within at) (wide at) (bytes at)
+      at.requires.0.linked at.requires.0.zero (begun c.before.before.before.before.before.before.before.before.before.before) c.load_rows.ensures (grown c)
 
-  edged : Edged at.args.file.now at.args.h c.grow.new.0
-  edged = record { indexed = indexed_stays keeps at.pre.0.indexed; linked = linked-stays keeps at.pre.0.linked; key = key-stays keeps at.pre.0.key; some = at.pre.0.some }
+  edged : Edged at.args.file.now at.args.h c.grow.new.work
+  edged = record { indexed = indexed_stays keeps at.requires.0.indexed; linked = linked-stays keeps at.requires.0.linked; key = key-stays keeps at.requires.0.key; some = at.requires.0.some }
 
-set-words-requires : tie.Need-set-words-requires
+set-words-requires : tie.Need-set_words-width-requires
 set-words-requires c κs = limit c.before.before.before
 
-back-row-requires : tie.Need-back-row-requires
-back-row-requires c κs = (ready-most c.before.before.before.before.requires.0.indexed.ready, narrow c)
+back-row-requires : tie.Need-back_row-back-requires
+back-row-requires c κs = (ready-most c.requires.0.indexed.ready, narrow c)
 
 begin-requires : tie.Need-begin-requires
 begin-requires c κs =
-    let s = c.before.before.before.before.before.before in
-    let e = c.before.before.set_words.ensures in
-    let n : ℕ = s.args.h.statements in
-    (e, s.requires.0.indexed, subst (KeySet (flow_of s.args.file.now) s.args.work.now n) (sym e) s.requires.0.key, s.requires.0.some, omega (arith, c.before.back-row.ensures), omega (arith, c.before.back-row.ensures, row_from n c.before.before.set_words.result (2 * n)), subst (Unused s.args.work.now n) (sym e) s.requires.0.zero)
+    let e = c.set_words-width.ensures in
+    let n : ℕ = c.args.h.statements in
+    (e, c.requires.0.indexed, subst (KeySet (flow_of c.args.file.now) c.args.work.now n) (sym e) c.requires.0.key, c.requires.0.some, omega (arith, c.back_row-back.ensures), omega (arith, c.back_row-back.ensures, row_from n c.set_words-width.result (2 * n)), subst (Unused c.args.work.now n) (sym e) c.requires.0.zero)
 
-load-rows-requires : tie.Need-load-rows-requires
+load-rows-requires : tie.Need-load_rows-requires
 load-rows-requires c κs =
-    let s = c.before.before.before.before.before.before.before.before.before.before in
-    let e = c.before.before.before.before.before.before.set_words.ensures in
-    let us : List ℕ = c.before.before.before.begin.new.1.1.0 in
-    (ready-most s.requires.0.indexed.ready, limit s, subst (λ (w : ℕ). nodes_end s.args.h.statements w ≤ length us) e (roomy c.before.before.before.before.before.before us c.before.before.before.begin.ensures.size), s.requires.1, zero_begun (begun c.before.before.before) s.requires.0.zero)
+    let e = c.set_words-width.ensures in
+    let us : List ℕ = c.begin.new.work in
+    (ready-most c.requires.0.indexed.ready, limit c.before.before.before.before.before.before.before.before.before.before, subst (λ (w : ℕ). nodes_end c.args.h.statements w ≤ length us) e (roomy c.before.before.before.before.before.before us c.begin.ensures.size), c.requires.1, zero_begun (begun c.before.before.before) c.requires.0.zero)
 
 node-requires : tie.Need-node-requires
-node-requires c κs = let s = c.before.before.before.before.before.before.before.before.before.before.before.before.before.before in (ready-most s.requires.0.indexed.ready, within s)
+node-requires c κs = (ready-most c.requires.0.indexed.ready, within c.before.before.before.before.before.before.before.before.before.before.before.before.before.before.before)
 
 grow-requires : tie.Need-grow-requires
 grow-requires c κs =
-    let s = c.before.before.before.before.before.before.before.before.before.before.before.before.before.before.before in
-    let n : ℕ = s.args.h.statements in
-    let w : ℕ = c.before.before.before.before.before.before.before.before.before.before.before.set_words.result in
-    let row = c.before.before.before.before.before.before.before.before.before.before.back-row.ensures in
-    (ready-most s.requires.0.indexed.ready, narrow c.before.before.before.before.before.before.before.before.before.before.before, roomy c.before.before.before.before.before.before.before.before.before.before.before c.before.before.before.before.load-rows.new.0 (c.before.before.before.before.load-rows.ensures.keeps.size ∙ c.before.before.before.before.before.before.before.before.begin.ensures.size), omega (arith, first c, within s), inl (omega arith, omega (arith, row_first n w)))
+    let n : ℕ = c.args.h.statements in
+    let w : ℕ = c.set_words-width.result in
+    let row = c.back_row-back.ensures in
+    (ready-most c.requires.0.indexed.ready, narrow c.before.before.before.before.before.before.before.before.before.before.before.before, roomy c.before.before.before.before.before.before.before.before.before.before.before.before c.load_rows.new.work (c.load_rows.ensures.keeps.size ∙ c.begin.ensures.size), omega (arith, first c, within c.before.before.before.before.before.before.before.before.before.before.before.before.before.before.before.before), inl (omega arith, omega (arith, row_first n w)))
 
-pass-rows-requires : tie.Need-pass-rows-requires
+pass-rows-requires : tie.Need-pass_rows-requires
 pass-rows-requires c κs =
-    let g = c.before.before.before in
-    let s = c.before.before.before.before.before.before.before.before.before.before.before.before.before.before.before.before.before.before.before in
-    let f = flow_of s.args.file.now in
-    let e = c.before.before.before.before.before.before.before.before.before.before.before.before.before.before.before.set_words.ensures in
-    (e, edged g, (proposed f s.args.proposal.now, bytes s, subst (λ (w : ℕ). Passing f (proposed f s.args.proposal.now) g.grow.new.0 s.args.h.statements w nothing 0) (sym e) (passing g)))
+    let f = flow_of c.args.file.now in
+    let e = c.set_words-width.ensures in
+    (e, edged c.before.before.before, (proposed f c.args.proposal.now, bytes c.before.before.before.before.before.before.before.before.before.before.before.before.before.before.before.before.before.before.before.before, subst (λ (w : ℕ). Passing f (proposed f c.args.proposal.now) c.grow.new.work c.args.h.statements w nothing 0) (sym e) (passing c.before.before.before)))
 
-all-settled-requires : tie.Need-all-settled-requires
+all-settled-requires : tie.Need-all_settled-requires
 all-settled-requires c κs =
-    let s = c.before.before.before.before.before.before.before.before.before.before.before.before.before.before.before.before.before.before.before.before.before.before.before in
-    let g = c.before.before.before.before.before.before.before in
-    (ready-most s.requires.0.indexed.ready, narrow c.before.before.before.before.before.before.before.before.before.before.before.before.before.before.before.before.before.before.before, roomy c.before.before.before.before.before.before.before.before.before.before.before.before.before.before.before.before.before.before.before c.before.before.before.pass-rows.new.1.1.0 (c.before.before.before.pass-rows.ensures.keeps.size ∙ (keeps g).size))
+    (ready-most c.requires.0.indexed.ready, narrow c.before.before.before.before.before.before.before.before.before.before.before.before.before.before.before.before.before.before.before, roomy c.before.before.before.before.before.before.before.before.before.before.before.before.before.before.before.before.before.before.before c.pass_rows.new.work (c.pass_rows.ensures.keeps.size ∙ (keeps c.before.before.before.before.before.before).size))
 
-same_length : tie.Need-same-length
+same_length : tie.Need-shape_of-work
 same_length c = search rules
 
 returns : tie.Need-returns
 unfolding all_held
 returns c =
-    let s = c.before.before.before.before.before.before.before.before.before.before.before.before.before.before.before.before.before.before.before.before.before.before.before.before in
-    let g = c.before.before.before.before.before.before.before.before in
-    let f = flow_of s.args.file.now in
-    let t = proposed f s.args.proposal.now in
-    let twice : 2 * s.args.h.statements ≡ size f + size f = omega (arith, ready-size s.requires.0.indexed.ready) in
-    let passes : Passing f t g.grow.new.0 s.args.h.statements c.before.before.before.before.before.before.before.before.before.before.before.before.before.before.before.before.before.before.before.before.set_words.result nothing 0 = subst (λ (w : ℕ). Passing f t g.grow.new.0 s.args.h.statements w nothing 0) (sym c.before.before.before.before.before.before.before.before.before.before.before.before.before.before.before.before.before.before.before.before.set_words.ensures) (passing g) in
-    c.all_settled.ensures ∙ c.before.before.before.before.pass-rows.ensures.told t (bytes s) passes ∙ ap (λ (k : ℕ). entry_held f t && all_below k (row_held f t)) twice
+    let f = flow_of c.args.file.now in
+    let t = proposed f c.args.proposal.now in
+    let twice : 2 * c.args.h.statements ≡ size f + size f = omega (arith, ready-size c.requires.0.indexed.ready) in
+    let passes : Passing f t c.grow.new.work c.args.h.statements c.set_words-width.result nothing 0 = subst (λ (w : ℕ). Passing f t c.grow.new.work c.args.h.statements w nothing 0) (sym c.set_words-width.ensures) (passing c.before.before.before.before.before.before.before) in
+    c.all_settled.ensures ∙ c.pass_rows.ensures.told t (bytes c.before.before.before.before.before.before.before.before.before.before.before.before.before.before.before.before.before.before.before.before.before.before.before.before) passes ∙ ap (λ (k : ℕ). entry_held f t && all_below k (row_held f t)) twice
 
-pub holds-spec : {M : Type 1} → statement M
-holds-spec =
+pub holds_spec : {M : Type 1} → statement M
+holds_spec =
     tie.close
     (tie.spec
     set-words-requires

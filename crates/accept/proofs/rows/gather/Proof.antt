@@ -8,5 +8,5 @@ use Rattle.accept.proofs.rows.gather.Tie as tie
 returns : tie.Need-returns
 returns c = gathers c.args.word
 
-pub gather-spec : {M : Type 1} → statement M
-gather-spec = tie.close (tie.spec returns)
+pub gather_spec : {M : Type 1} → statement M
+gather_spec = tie.close (tie.spec returns)

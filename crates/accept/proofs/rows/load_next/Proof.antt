@@ -32,70 +32,66 @@ room : (c : tie.Start) → c.args.d.0 * c.args.arrays + c.args.arrays ≤ length
 room c = (row-masks c.args.n c.args.arrays c.requires.5 c.requires.3).room
 
 -- the row before is as long
-earlier : (c : tie.Then1) → c.before.before.before.before.before.before.args.arrays ≤ c.before.before.before.before.before.before.args.d.0 * c.before.before.before.before.before.before.args.arrays
-earlier c = let s = c.before.before.before.before.before.before in subst (λ (x : ℕ). x ≤ s.args.d.0 * s.args.arrays) (one-mul s.args.arrays) (mul-le-mul_right s.args.arrays c.if1.true)
+earlier : (c : tie.Then-d-gt0) → c.args.arrays ≤ c.args.d.0 * c.args.arrays
+earlier c = subst (λ (x : ℕ). x ≤ c.args.d.0 * c.args.arrays) (one-mul c.args.arrays) (mul-le-mul_right c.args.arrays c.if-d-gt0.true)
 
-mask-row-requires : tie.Need-mask-row-requires
-mask-row-requires c κs = let s = c.before.before in (s.requires.0, narrow s, s.requires.3)
+mask-row-requires : tie.Need-mask_row-row-requires
+mask-row-requires c κs = (c.requires.0, narrow c.before.before, c.requires.3)
 
-mul_at : tie.Need-overflow-mul-at
+mul_at : tie.Need-overflow_mul-at
 mul_at c = omega (arith, room c.before.before.before.before)
 
-sub-join-apart : tie.Need-overflow-sub-join-apart
+sub-join-apart : tie.Need-overflow_sub-at
 sub-join-apart c = earlier c
 
-join-apart-requires : tie.Need-join-apart-requires
+join-apart-requires : tie.Need-join_apart-requires
 join-apart-requires c κs = (omega (arith, room c.before.before.before.before.before.before, earlier c), room c.before.before.before.before.before.before)
 
-sub-union : tie.Need-overflow-sub-union
-sub-union c = omega (arith, c.before.before.before.if1.true)
+sub-union : tie.Need-overflow_sub-d
+sub-union c = omega (arith, c.if-d-gt0.true)
 
-mask-row-requires-2 : tie.Need-mask-row-requires-2
-mask-row-requires-2 c κs = let s = c.before.before.before.before.before.before.before.before.before in (s.requires.0, narrow s, omega (arith, s.requires.3))
+mask-row-requires-2 : tie.Need-mask_row-before-requires
+mask-row-requires-2 c κs = (c.requires.0, narrow c.before.before.before.before.before.before.before.before.before, omega (arith, c.requires.3))
 
-mul-union : tie.Need-overflow-mul-union
+mul-union : tie.Need-overflow_mul-width
 mul-union c = omega (arith, narrow c.before.before.before.before.before.before.before.before.before.before.before)
 
 union-requires : tie.Need-union-requires
 union-requires c κs =
-    let s = c.before.before.before.before.before.before.before.before.before.before.before in
-    (omega (arith, c.before.before.before.before.before.before.before.before.mask-row.ensures, within s s.requires.3), omega (arith, c.before.mask-row2.ensures, within s {d = s.args.d.0 - 1} (omega (arith, s.requires.3))))
+    (omega (arith, c.mask_row-row.ensures, within c.before.before.before.before.before.before.before.before.before.before.before c.requires.3), omega (arith, c.mask_row-before.ensures, within c.before.before.before.before.before.before.before.before.before.before.before {d = c.args.d.0 - 1} (omega (arith, c.requires.3))))
 
-same_length : tie.Need-same-length
+same_length : tie.Need-shape_of-work-then-join_apart-eq0
 same_length c = search rules
 
-returns : tie.Need-returns
+returns : tie.Need-returns-then-join_apart-eq0
 returns c =
-    let s = c.before.before.before.before.before.before.before.before.before.before.before.before.before.before in
-    let a = s.args in
+    let a = c.args in
     let d : ℕ = a.d.0 in
-    let some = c.before.before.before.before.before.before.before.before.if1.true in
+    let some = c.if-d-gt0.true in
     let ws : List ℕ = a.work.now in
-    let vs : List ℕ = c.before.before.union.new.0 in
+    let vs : List ℕ = c.union.new.ws in
     let differ : ℕ → ℕ = λ k. apart (get_or a.s.now (d * a.arrays + k) 0) (get_or a.s.now (d * a.arrays - a.arrays + k) 0) in
-    let none = sym c.before.before.before.before.before.before.before.join_apart.ensures ∙ c.before.before.before.before.before.before.if2.true in
+    let none = sym c.join_apart.ensures ∙ c.if-join_apart-eq0.true in
     let same : (b : ℕ) → b < a.arrays → row_of a.s.now a.arrays d b ≡ row_of a.s.now a.arrays (d - 1) b =
     λ b l. apart_none _ _ (omega (arith, union_most a.arrays differ b l, none)) ∙ ap (λ (x : ℕ). get_or a.s.now (x + b) 0) (row_before d a.arrays some) in
-    repeated s.requires.3 some s.requires.4 s.requires.6 same
-    (subst (λ (x : ℕ). Unioned ws vs (mask_row_at a.n a.width d) x (3 * a.width) c.before.before.union.result) c.before.before.before.before.mask-row2.ensures
-    (subst (λ (x : ℕ). Unioned ws vs x c.before.before.before.before.mask-row2.result (3 * a.width) c.before.before.union.result) c.before.before.before.before.before.before.before.before.before.before.before.mask-row.ensures c.before.before.union.ensures))
+    repeated c.requires.3 some c.requires.4 c.requires.6 same
+    (subst (λ (x : ℕ). Unioned ws vs (mask_row_at a.n a.width d) x (3 * a.width) c.union.result) c.mask_row-before.ensures
+    (subst (λ (x : ℕ). Unioned ws vs x c.mask_row-before.result (3 * a.width) c.union.result) c.mask_row-row.ensures c.union.ensures))
 
-load-row-requires : tie.Need-load-row-requires
+load-row-requires : tie.Need-load_row-requires
 load-row-requires c κs =
-    let s = c.before.before.before.before.before.before.before in
-    (s.requires.2, s.requires.1, omega (arith, c.before.before.before.before.mask-row.ensures, within s s.requires.3), row-masks s.args.n s.args.arrays s.requires.5 s.requires.3)
+    (c.requires.2, c.requires.1, omega (arith, c.mask_row-row.ensures, within c.before.before.before.before.before.before.before c.requires.3), row-masks c.args.n c.args.arrays c.requires.5 c.requires.3)
 
-same-length-2 : tie.Need-same-length-2
+same-length-2 : tie.Need-shape_of-work
 same-length-2 c = search rules
 
-returns-2 : tie.Need-returns-2
+returns-2 : tie.Need-returns
 returns-2 c =
-    let s = c.before.before.before.before.before.before.before.before.before.before in
-    let a = s.args in
-    subst (λ (x : ℕ). RowIs a.work.now c.before.before.Load-row.new.0 a.width x (masks_below a.arrays (row_of a.s.now a.arrays a.d.0))) c.before.before.before.before.before.before.before.mask-row.ensures c.before.before.Load-row.ensures
+    let a = c.args in
+    subst (λ (x : ℕ). RowIs a.work.now c.Load-row.new.0 a.width x (masks_below a.arrays (row_of a.s.now a.arrays a.d.0))) c.mask_row-row.ensures c.Load-row.ensures
 
-pub load-next-spec : {M : Type 1} → statement M
-load-next-spec =
+pub load_next_spec : {M : Type 1} → statement M
+load_next_spec =
     tie.close
     (tie.spec
     mask-row-requires

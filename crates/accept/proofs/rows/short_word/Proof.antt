@@ -12,13 +12,13 @@ use native.Mathlib.Omega.{arith}
 use Rattle.accept.proofs.rows.short_word.Statement.{statement}
 use Rattle.accept.proofs.rows.short_word.Tie as tie
 
-abbrev invariant-loop : tie.invariant-loop
+abbrev invariant-loop : tie.invariant-loop-k
 invariant-loop s at count word₀ k₀ word k = (k ≤ count) × (word ≡ le_at (count - k) s (at + k))
 
-abbrev decreases-loop : tie.decreases-loop
+abbrev decreases-loop : tie.decreases-loop-k
 decreases-loop s at count word₀ k₀ word k = k
 
-loop-holds : tie.Need-loop-init invariant-loop decreases-loop
+loop-holds : tie.Need-loop-k-init invariant-loop decreases-loop
 unfolding le_at
 loop-holds c = (omega arith, sym (ap (λ (w : ℕ). le_at w c.args.s.now (c.args.at + c.args.count)) (sub_self c.args.count)))
 
@@ -31,38 +31,38 @@ small c k word e some =
     λ a l. subst (λ (x : ℕ). get_or c.args.s.now x 0 < 256) (sym (near a)) (omega (arith, c.requires.1.below (k + a) (omega arith))) in
     omega (arith, le-small (c.args.count - k) c.args.s.now (c.args.at + k) byte, pow-le-pow_right {n = 256} (lit< tt) few)
 
-sub-k : tie.Need-overflow-sub-k invariant-loop decreases-loop
+sub-k : tie.Need-overflow_sub-k invariant-loop decreases-loop
 sub-k c = search rules
 
-mul-word : tie.Need-overflow-mul-word invariant-loop decreases-loop
-mul-word c = omega (arith, small c.before.before c.before.loop.k c.before.loop.word c.before.loop.invariant.1 c.loop-test.true)
+mul-word : tie.Need-overflow_mul-word invariant-loop decreases-loop
+mul-word c = omega (arith, small c.before.before c.loop-k.k c.loop-k.word c.loop-k.invariant.1 c.loop-k-test.true)
 
-add-word : tie.Need-overflow-add-word invariant-loop decreases-loop
+add-word : tie.Need-overflow_add-word invariant-loop decreases-loop
 add-word c = search rules
 
-shared-slice-read-word : tie.Need-shared-slice-read-word invariant-loop decreases-loop
+shared-slice-read-word : tie.Need-bounds-s-at invariant-loop decreases-loop
 shared-slice-read-word c = search rules
 
-cast-word : tie.Need-overflow-cast-word invariant-loop decreases-loop
-cast-word c = omega (arith, c.shared-slice-known.given (c.before.before.before.args.at + (c.before.before.loop.k - 1)))
+cast-word : tie.Need-overflow_cast-word invariant-loop decreases-loop
+cast-word c = omega (arith, c.shared_slice_known-1.given (c.args.at + (c.loop-k.k - 1)))
 
-add-word-2 : tie.Need-overflow-add-word-2 invariant-loop decreases-loop
+add-word-2 : tie.Need-overflow_add-word-in-loop-k invariant-loop decreases-loop
 add-word-2 c =
     omega (
       arith,
-      small c.before.before.before c.before.before.loop.k c.before.before.loop.word c.before.before.loop.invariant.1 c.before.loop-test.true,
-      c.shared-slice-known.given (c.before.before.before.args.at + (c.before.before.loop.k - 1)),
+      small c.before.before.before c.loop-k.k c.loop-k.word c.loop-k.invariant.1 c.loop-k-test.true,
+      c.shared_slice_known-1.given (c.args.at + (c.loop-k.k - 1)),
     )
 
-loop-less : tie.Need-loop-smaller invariant-loop decreases-loop
+loop-less : tie.Need-loop-k-smaller invariant-loop decreases-loop
 loop-less c = search rules
 
-loop-again : tie.Need-loop-preserved invariant-loop decreases-loop
+loop-again : tie.Need-loop-k-preserved invariant-loop decreases-loop
 unfolding le_at
 loop-again c =
-    let x = c.before.before.loop in
-    let a = c.before.before.before.args in
-    let some = c.before.loop-test.true in
+    let x = c.loop-k in
+    let a = c.args in
+    let some = c.loop-k-test.true in
     let more : a.count - (x.k - 1) ≡ suc (a.count - x.k) = omega (arith, x.invariant.0) in
     let next : a.at + (x.k - 1) + 1 ≡ a.at + x.k = omega arith in (
       omega arith,
@@ -73,13 +73,13 @@ loop-again c =
 
 returns : tie.Need-returns invariant-loop decreases-loop
 returns c =
-    let a = c.before.before.args in
-    let x = c.before.loop in
+    let a = c.args in
+    let x = c.loop-k in
     let none : x.k ≡ 0 = omega arith in
     x.invariant.1 ∙ ap (λ (k : ℕ). le_at (a.count - k) a.s.now (a.at + k)) none ∙ ap₂ (λ (w p : ℕ). le_at w a.s.now p) (sub-zero a.count) (add-zero a.at)
 
-pub short-word-spec : {M : Type 1} → statement M
-short-word-spec =
+pub short_word_spec : {M : Type 1} → statement M
+short_word_spec =
     tie.close
     (tie.spec
     invariant-loop

@@ -24,48 +24,44 @@ narrow c = let most = (limited c.requires.1.indexed.ready.fit).arrays in omega (
 wide : (c : tie.Start) → (flow_of c.args.file.now).arrays ≤ 64 * c.args.width
 wide c = omega (arith, c.requires.0, ap (λ h. h.arrays) c.requires.1.indexed.header, arrays-is c.args.file.now)
 
-is-filled-requires : tie.Need-is-filled-requires
+is-filled-requires : tie.Need-is_filled-requires
 is-filled-requires c κs =
-    let s = c.before.before.before in
-    (ready-most s.requires.1.indexed.ready, narrow s, s.requires.2, nodes-room s.requires.1.indexed.ready s.requires.1.some (narrow s))
+    (ready-most c.requires.1.indexed.ready, narrow c.before.before, c.requires.2, nodes-room c.requires.1.indexed.ready c.requires.1.some (narrow c.before.before))
 
 send-requires : tie.Need-send-requires
 send-requires c κs =
-    let s = c.before.before.before.before.before.before in
-    let e = s.requires.1 in
-    let p = s.requires.3.1 in
-    (s.requires.0, e.indexed, e.linked, subst (KeySet (flow_of s.args.file.now) s.args.work.now s.args.h.statements) (sym s.requires.0) e.key, s.requires.2, p.shared, (p.waiting, p.waits))
+    let e = c.requires.1 in
+    let p = c.requires.3.1 in
+    (c.requires.0, e.indexed, e.linked, subst (KeySet (flow_of c.args.file.now) c.args.work.now c.args.h.statements) (sym c.requires.0) e.key, c.requires.2, p.shared, (p.waiting, p.waits))
 
-same_length : tie.Need-same-length
+same_length : tie.Need-shape_of-work-then-is_filled
 same_length c = search rules
 
-returns : tie.Need-returns
+returns : tie.Need-returns-then-is_filled
 returns c =
-    let s = c.before.before.before.before.before.before.before.before.before in
-    let a = s.args in
-    let ready = s.requires.1.indexed.ready in
-    let sends = c.before.before.send.ensures in
-    let some = sym c.before.before.before.before.before.is-filled.ensures ∙ c.before.before.before.before.if1.true in
+    let a = c.args in
+    let ready = c.requires.1.indexed.ready in
+    let sends = c.send.ensures in
+    let some = sym c.is_filled.ensures ∙ c.if-is_filled.true in
     record {
-      on = λ t bytes p. passed_on (flow_of a.file.now) t a.work.now a.h.statements a.width a.queue a.d.0 (well_formed ready.fit) (ready-size ready) (wide s) bytes s.requires.2 p _ _ sends some;
+      on = λ t bytes p. passed_on (flow_of a.file.now) t a.work.now a.h.statements a.width a.queue a.d.0 (well_formed ready.fit) (ready-size ready) (wide c.before.before.before.before.before.before.before.before) bytes c.requires.2 p _ _ sends some;
       keeps = sends.keeps;
     }
 
-same-length-2 : tie.Need-same-length-2
+same-length-2 : tie.Need-shape_of-work
 same-length-2 c = search rules
 
-returns-2 : tie.Need-returns-2
+returns-2 : tie.Need-returns
 returns-2 c =
-    let s = c.before.before.before.before.before in
-    let a = s.args in
-    let ready = s.requires.1.indexed.ready in
-    let empty = sym c.before.is-filled.ensures ∙ c.if1.false in
+    let a = c.args in
+    let ready = c.requires.1.indexed.ready in
+    let empty = sym c.is_filled.ensures ∙ c.if-is_filled.false in
     record {
-      on = λ t bytes p. passed_by (flow_of a.file.now) t a.work.now a.h.statements a.width a.queue a.d.0 (well_formed ready.fit) (ready-size ready) (wide s) bytes s.requires.2 p empty;
+      on = λ t bytes p. passed_by (flow_of a.file.now) t a.work.now a.h.statements a.width a.queue a.d.0 (well_formed ready.fit) (ready-size ready) (wide c.before.before.before.before) bytes c.requires.2 p empty;
       keeps = keeps-refl;
     }
 
-pub pass-row-spec : {M : Type 1} → statement M
-pass-row-spec =
+pub pass_row_spec : {M : Type 1} → statement M
+pass_row_spec =
     tie.close
     (tie.spec is-filled-requires send-requires same_length returns same-length-2 returns-2)

@@ -17,55 +17,53 @@ use native.Mathlib.Omega.{arith}
 use Rattle.accept.proofs.table.pass_rows.Statement.{statement}
 use Rattle.accept.proofs.table.pass_rows.Tie as tie
 
-abbrev invariant-loop : tie.invariant-loop
+abbrev invariant-loop : tie.invariant-loop-d
 invariant-loop file h work₀ width count queue₀ d₀ work queue d =
     (d ≤ count) × Keeps (queue_at h.statements) (area_end h.statements width) work₀ work
     × ((t : Proposal) → Bytes (flow_of file) t → Passing (flow_of file) t work₀ h.statements width nothing 0 → Passing (flow_of file) t work h.statements width queue d)
 
-abbrev decreases-loop : tie.decreases-loop
+abbrev decreases-loop : tie.decreases-loop-d
 decreases-loop file h work₀ width count queue₀ d₀ work queue d = count - d
 
-mul-count : tie.Need-overflow-mul-count invariant-loop decreases-loop
-mul-count c = omega (arith, ready-most c.before.before.before.requires.1.indexed.ready)
+mul-count : tie.Need-overflow_mul-count invariant-loop decreases-loop
+mul-count c = omega (arith, ready-most c.requires.1.indexed.ready)
 
-loop-holds : tie.Need-loop-init invariant-loop decreases-loop
+loop-holds : tie.Need-loop-d-init invariant-loop decreases-loop
 loop-holds c = (omega arith, keeps-refl, λ t b p. p)
 
-pass-row-requires : tie.Need-pass-row-requires invariant-loop decreases-loop
+pass-row-requires : tie.Need-pass_row-queue-requires invariant-loop decreases-loop
 pass-row-requires c κs =
-    let s = c.before.before.before.before.before.before in
-    let e = s.requires.1 in
-    let x = c.before.before.loop in
+    let e = c.requires.1 in
+    let x = c.loop-d in
     let keeps = x.invariant.1 in
-    (s.requires.0, record { indexed = indexed_stays keeps e.indexed; linked = linked-stays keeps e.linked; key = key-stays (subst (λ (w : ℕ). Keeps (queue_at s.args.h.statements) (area_end s.args.h.statements w) s.args.work.now x.work) s.requires.0 keeps) e.key; some = e.some }, c.before.loop-test.true, (s.requires.2.0, x.invariant.2 s.requires.2.0 s.requires.2.1 s.requires.2.2))
+    (c.requires.0, record { indexed = indexed_stays keeps e.indexed; linked = linked-stays keeps e.linked; key = key-stays (subst (λ (w : ℕ). Keeps (queue_at c.args.h.statements) (area_end c.args.h.statements w) c.args.work.now x.work) c.requires.0 keeps) e.key; some = e.some }, c.loop-d-test.true, (c.requires.2.0, x.invariant.2 c.requires.2.0 c.requires.2.1 c.requires.2.2))
 
-add-d : tie.Need-overflow-add-d invariant-loop decreases-loop
+add-d : tie.Need-overflow_add-d invariant-loop decreases-loop
 add-d c = search rules
 
-loop-less : tie.Need-loop-smaller invariant-loop decreases-loop
+loop-less : tie.Need-loop-d-smaller invariant-loop decreases-loop
 loop-less c = search rules
 
-loop-again : tie.Need-loop-preserved invariant-loop decreases-loop
+loop-again : tie.Need-loop-d-preserved invariant-loop decreases-loop
 loop-again c =
-    let x = c.before.before.before.before.before.loop in
-    let y = c.before.before.pass-row.ensures in
+    let x = c.loop-d in
+    let y = c.pass_row-queue.ensures in
     (omega arith, keeps-trans x.invariant.1 y.keeps, λ t b p. y.on t b (x.invariant.2 t b p))
 
-same_length : tie.Need-same-length invariant-loop decreases-loop
-same_length c = c.before.loop.invariant.1.size
+same_length : tie.Need-shape_of-work invariant-loop decreases-loop
+same_length c = c.loop-d.invariant.1.size
 
 returns : tie.Need-returns invariant-loop decreases-loop
 returns c =
-    let s = c.before.before.before.before.before in
-    let x = c.before.loop in
-    let whole : x.d ≡ 2 * s.args.h.statements = omega (arith, x.invariant.0) in
+    let x = c.loop-d in
+    let whole : x.d ≡ 2 * c.args.h.statements = omega (arith, x.invariant.0) in
     record {
-      told = λ t b p. (x.invariant.2 t b p).told ∙ ap (λ (k : ℕ). entry_held (flow_of s.args.file.now) t && all_below k (row_held (flow_of s.args.file.now) t)) whole;
+      told = λ t b p. (x.invariant.2 t b p).told ∙ ap (λ (k : ℕ). entry_held (flow_of c.args.file.now) t && all_below k (row_held (flow_of c.args.file.now) t)) whole;
       keeps = x.invariant.1;
     }
 
-pub pass-rows-spec : {M : Type 1} → statement M
-pass-rows-spec =
+pub pass_rows_spec : {M : Type 1} → statement M
+pass_rows_spec =
     tie.close
     (tie.spec
     invariant-loop

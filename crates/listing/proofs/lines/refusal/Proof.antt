@@ -14,38 +14,31 @@ line-room c = record {
   room = record { fits = omega (arith, c.requires, refusal_length c.args.number c.args.place c.ranges.number.fits c.ranges.place.fits) };
 }
 
-slice-aggregate-field : tie.Need-slice-aggregate-field
-slice-aggregate-field c = search rules
+field-requires : tie.Need-field-at-requires
+field-requires c κs = field_room (line-room c.before.before.before.before)
 
-field-requires : tie.Need-field-requires
-field-requires c κs = field_room (line-room c.before.before.before)
+decimal-requires : tie.Need-decimal-at-requires
+decimal-requires c κs = field_room (rest-room (line-room c.before.before.before.before.before.before.before.before) c.field-at.ensures)
 
-decimal-requires : tie.Need-decimal-requires
-decimal-requires c κs = let r = c.before.before.before in field_room (rest-room (line-room r.before.before.before.before) r.field.ensures)
-
-decimal-requires-2 : tie.Need-decimal-requires-2
+decimal-requires-2 : tie.Need-decimal-requires
 decimal-requires-2 c κs =
-    let number = c.before.before.before in
-    let r = number.before.before.before.before in
-    last-room (rest-room (rest-room (line-room r.before.before.before.before) r.field.ensures) number.decimal.ensures)
+    let r = c in
+    last-room (rest-room (rest-room (line-room r.before.before.before.before.before.before.before.before.before.before.before.before) r.field-at.ensures) c.decimal-at.ensures)
 
-same_length : tie.Need-same-length
+same_length : tie.Need-shape_of-out
 same_length c = search rules
 
 returns : tie.Need-returns
 returns c =
-    let place = c.before.before in
-    let number = place.before.before.before.before in
-    let r = number.before.before.before.before in
-    let a = r.before.before.before.before.args in
-    line ((letter_r ∷ []) ∷ decimal a.number ∷ decimal a.place ∷ []) (field_then r.field.ensures (field_then number.decimal.ensures (last_field place.decimal2.ensures)))
+    let number = c in
+    let a = number.args in
+    line ((letter_r ∷ []) ∷ decimal a.number ∷ decimal a.place ∷ []) (field_then number.field-at.ensures (field_then number.decimal-at.ensures (last_field c.decimal.ensures)))
 
-pub refusal-spec : {M : Type 1} → statement M
-refusal-spec =
+pub refusal_spec : {M : Type 1} → statement M
+refusal_spec =
     tie.close
     (tie.spec
-    slice-aggregate-field
-    field-requires
+        field-requires
     decimal-requires
     decimal-requires-2
     same_length

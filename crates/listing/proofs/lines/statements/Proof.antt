@@ -25,39 +25,39 @@ record Passed (out₀ out : List ℕ) (start n arrays : ℕ) (line : ℕ → Lis
   begins : row ≡ i * arrays
   put : Appended out₀ start (concat_map line (up_to i)) out at
 
-abbrev invariant-loop : tie.invariant-loop
+abbrev invariant-loop : tie.invariant-loop-i
 invariant-loop out₀ start file work n arrays masks live_in live_out at₀ row₀ i₀ out at row i = Passed out₀ out start n arrays (areas_line file masks live_in live_out) at row i
 
-abbrev decreases-loop : tie.decreases-loop
+abbrev decreases-loop : tie.decreases-loop-i
 decreases-loop out₀ start file work n arrays masks live_in live_out at₀ row₀ i₀ out at row i = n - i
 
-abbrev start : tie.In-loop invariant-loop decreases-loop → tie.Start invariant-loop decreases-loop
+abbrev start : tie.In-loop-i invariant-loop decreases-loop → tie.Start invariant-loop decreases-loop
 start c = c.before.before.before.before.before.before.before.before
 
-module _ (c : tie.In-loop invariant-loop decreases-loop) where
+module _ (c : tie.In-loop-i invariant-loop decreases-loop) where
   abbrev i : ℕ
-  i = c.before.loop.i
+  i = c.loop-i.i
 
   within : i < statements_of (start c).args.file.now
   within = omega (arith, (start c).requires.1.count)
 
-  begins : c.before.loop.row ≡ i * arrays_of (start c).args.file.now
-  begins = c.before.loop.invariant.begins ∙ ap (λ a. i * a) (start c).requires.2
+  begins : c.loop-i.row ≡ i * arrays_of (start c).args.file.now
+  begins = c.loop-i.invariant.begins ∙ ap (λ a. i * a) (start c).requires.2
 
-  ends : c.before.loop.row + (start c).args.arrays ≡ c.before.loop.row + arrays_of (start c).args.file.now
-  ends = ap (λ a. c.before.loop.row + a) (start c).requires.2
+  ends : c.loop-i.row + (start c).args.arrays ≡ c.loop-i.row + arrays_of (start c).args.file.now
+  ends = ap (λ a. c.loop-i.row + a) (start c).requires.2
 
-  row_fits : c.before.loop.row + (start c).args.arrays ≤ length (start c).args.masks.now
-  row_fits = omega (arith, row_within (start c).requires.0 i within c.before.loop.row _ begins ends, (start c).requires.0.masks_room)
+  row_fits : c.loop-i.row + (start c).args.arrays ≤ length (start c).args.masks.now
+  row_fits = omega (arith, row_within (start c).requires.0 i within c.loop-i.row _ begins ends, (start c).requires.0.masks_room)
 
   line-begins : 4 ≤ length (record_part (start c).args.file.now (record_place (start c).args.file.now i))
-  line-begins = line-start (start c).requires.0 i within c.before.loop.row _ begins ends
+  line-begins = line-start (start c).requires.0 i within c.loop-i.row _ begins ends
 
   abbrev row_in : List ℕ
-  row_in = take (c.before.loop.row + (start c).args.arrays - c.before.loop.row) (drop c.before.loop.row (start c).args.masks.now)
+  row_in = take (c.loop-i.row + (start c).args.arrays - c.loop-i.row) (drop c.loop-i.row (start c).args.masks.now)
 
   small-here : Small row_in
-  small-here = row_small (start c).requires.0 i within c.before.loop.row _ begins ends
+  small-here = row_small (start c).requires.0 i within c.loop-i.row _ begins ends
 
   abbrev lineOf-here : ℕ → List ℕ
   lineOf-here = areas_line (start c).args.file.now (start c).args.masks.now (start c).args.live_in.now (start c).args.live_out.now
@@ -71,83 +71,80 @@ module _ (c : tie.In-loop invariant-loop decreases-loop) where
       ∷ hexadecimal (word_in (start c).args.live_out.now i)
       ∷ [])
       ≡ lineOf-here i
-  line-here = line-written (start c).requires.0 i within c.before.loop.row _ begins ends
+  line-here = line-written (start c).requires.0 i within c.loop-i.row _ begins ends
 
-loop-holds : tie.Need-loop-init invariant-loop decreases-loop
+loop-holds : tie.Need-loop-i-init invariant-loop decreases-loop
 loop-holds c = record { passed = omega arith; begins = omega arith; put = rw no_lines (nothing _ _ (omega arith)) }
 
-add-end : tie.Need-overflow-add-end invariant-loop decreases-loop
+add-end : tie.Need-overflow_add-end invariant-loop decreases-loop
 add-end c = omega (arith, row_fits c)
 
 record-requires : tie.Need-record-requires invariant-loop decreases-loop
 record-requires c κs = ((start c).requires.1, omega arith)
 
-record-line-requires : tie.Need-record-line-requires invariant-loop decreases-loop
+record-line-requires : tie.Need-record_line-number-requires invariant-loop decreases-loop
 record-line-requires c κs = subst (λ p. 4 ≤ length p) (sym c.«record».ensures) (line-begins c.before)
 
-sub-line : tie.Need-overflow-sub-line invariant-loop decreases-loop
+sub-line : tie.Need-slice_bounds-line-count invariant-loop decreases-loop
 sub-line c = search rules
 
-part-line-start : tie.Need-slice-bounds-line-start invariant-loop decreases-loop
+part-line-start : tie.Need-slice_bounds-line-start invariant-loop decreases-loop
 part-line-start c = search rules
 
-part-line-end : tie.Need-slice-bounds-line-end invariant-loop decreases-loop
+part-line-end : tie.Need-slice_bounds-line-end invariant-loop decreases-loop
 part-line-end c = omega (arith, row_fits c.before.before.before)
 
-mul-line : tie.Need-overflow-mul-line invariant-loop decreases-loop
+mul-line : tie.Need-offset_bounds-live_in-i invariant-loop decreases-loop
 mul-line c = search rules
 
-shared-slice-read-line : tie.Need-shared-slice-read-line invariant-loop decreases-loop
-shared-slice-read-line c = let l = c.before.before.before.before.before in omega (arith, within l, (start l).requires.0.in_room)
+shared-slice-read-line : tie.Need-bounds-live_in-i invariant-loop decreases-loop
+shared-slice-read-line c = omega (arith, within c.before.before.before.before.before, (start c.before.before.before.before.before).requires.0.in_room)
 
-mul-line-2 : tie.Need-overflow-mul-line-2 invariant-loop decreases-loop
+mul-line-2 : tie.Need-offset_bounds-live_out-i invariant-loop decreases-loop
 mul-line-2 c = search rules
 
-shared-slice-read-line-2 : tie.Need-shared-slice-read-line-2 invariant-loop decreases-loop
-shared-slice-read-line-2 c = let l = c.before.before.before.before.before.before in omega (arith, within l, (start l).requires.0.out_room)
+shared-slice-read-line-2 : tie.Need-bounds-live_out-i invariant-loop decreases-loop
+shared-slice-read-line-2 c = omega (arith, within c.before.before.before.before.before.before, (start c.before.before.before.before.before.before).requires.0.out_room)
 
-line-requires : tie.Need-line-requires invariant-loop decreases-loop
+line-requires : tie.Need-line-at-requires invariant-loop decreases-loop
 line-requires c κs =
-    let number = c.before.before.before.before in
-    let l = number.before.before in (
-      subst (HasRoom l.before.loop.out l.before.loop.at) (sym (line-here l number.record-line.result (number.record-line.ensures ∙ ap (λ p. line_at p 0) number.before.«record».ensures)))
-          (line-has-room (lineOf-here l) (i l) (start l).args.n l.before.loop.invariant.put l.loop-test.true (start l).requires.3),
-      small-here l,
+    let l = c in (
+      subst (HasRoom l.loop-i.out l.loop-i.at) (sym (line-here l.before.before.before.before.before.before c.record_line-number.result (c.record_line-number.ensures ∙ ap (λ p. line_at p 0) c.before.«record».ensures)))
+          (line-has-room (lineOf-here l.before.before.before.before.before.before) (i l.before.before.before.before.before.before) (start l.before.before.before.before.before.before).args.n l.loop-i.invariant.put l.loop-i-test.true (start l.before.before.before.before.before.before).requires.3),
+      small-here l.before.before.before.before.before.before,
     )
 
-add-i : tie.Need-overflow-add-i invariant-loop decreases-loop
+add-i : tie.Need-overflow_add-i invariant-loop decreases-loop
 add-i c = search rules
 
-loop-less : tie.Need-loop-smaller invariant-loop decreases-loop
+loop-less : tie.Need-loop-i-smaller invariant-loop decreases-loop
 loop-less c = search rules
 
-loop-again : tie.Need-loop-preserved invariant-loop decreases-loop
+loop-again : tie.Need-loop-i-preserved invariant-loop decreases-loop
 loop-again c =
-    let put = c.before.before in
-    let number = put.before.before.before.before.before in
-    let l = number.before.before in
+    let number = c in
     record {
       passed = omega arith;
-      begins = rw add-one (omega (arith, suc-mul (i l) (start l).args.arrays, l.before.loop.invariant.begins));
-      put = line_added (lineOf-here l) (i l) (start l).args.n l.before.loop.invariant.put
-          (subst (λ p. Appended l.before.loop.out l.before.loop.at p put.line.new.0 put.line.result)
-          (line-here l number.record-line.result (number.record-line.ensures ∙ ap (λ p. line_at p 0) number.before.«record».ensures))
-          put.line.ensures);
+      begins = rw add-one (omega (arith, suc-mul (i number.before.before.before.before.before.before.before.before.before) (start number.before.before.before.before.before.before.before.before.before).args.arrays, number.loop-i.invariant.begins));
+      put = line_added (lineOf-here number.before.before.before.before.before.before.before.before.before) (i number.before.before.before.before.before.before.before.before.before) (start number.before.before.before.before.before.before.before.before.before).args.n number.loop-i.invariant.put
+          (subst (λ p. Appended number.loop-i.out number.loop-i.at p c.line-at.new.out c.line-at.result)
+          (line-here number.before.before.before.before.before.before.before.before.before number.record_line-number.result (number.record_line-number.ensures ∙ ap (λ p. line_at p 0) number.before.«record».ensures))
+          c.line-at.ensures);
     }
 
-same_length : tie.Need-same-length invariant-loop decreases-loop
+same_length : tie.Need-shape_of-out invariant-loop decreases-loop
 same_length c = search rules
 
 returns : tie.Need-returns invariant-loop decreases-loop
 returns c =
-    let a = c.before.before.before.before.before.before.before.before.args in
-    let l = c.before.loop in
+    let a = c.args in
+    let l = c.loop-i in
     let all : l.i ≡ a.n = omega arith in
     let line = areas_line a.file.now a.masks.now a.live_in.now a.live_out.now in
     subst (λ k. Appended a.out.now a.start (concat_map line (up_to k)) l.out l.at) all l.invariant.put
 
-pub statements-spec : {M : Type 1} → statement M
-statements-spec =
+pub statements_spec : {M : Type 1} → statement M
+statements_spec =
     tie.close
     (tie.spec
     invariant-loop
