@@ -130,6 +130,7 @@ repeated {s} {ws} {vs} {n} {w} {arrays} {d} low some room x same u = record {
 
 -- the row before
 pub row_before : (d arrays : ℕ) → 0 < d → d * arrays - arrays ≡ (d - 1) * arrays
+row_before Prim.Native.Nat.zero arrays l = elim l [ ]
 row_before (suc d) arrays l = let e : d ≡ suc d - 1 = omega arith in let less : suc d * arrays - arrays ≡ d * arrays = omega (arith, suc-mul d arrays) in less ∙ ap (λ (x : ℕ). x * arrays) e
 
 -- The rows one after the other

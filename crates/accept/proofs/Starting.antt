@@ -29,7 +29,7 @@ use Rattle.solve.proofs.Room.{row_from, row_first, row_fits, nodes-within}
 use Rattle.solve.proofs.Masks.{mask-cong}
 use Rattle.solve.proofs.Waiting.{waits-none}
 use Rattle.dataflow.specs.Clauses.Sent.{masks_below, SettledSet, Shared}
-use Rattle.dataflow.specs.Clauses.Solving.{Unused, Begun}
+use Rattle.dataflow.specs.Clauses.Solving.{Unused, RowBegun}
 use Rattle.dataflow.proofs.Kept.{linked-stays}
 use Rattle.dataflow.proofs.Unions.{cond-zero}
 use Rattle.dataflow.proofs.Sharing.{shared-none}
@@ -44,7 +44,7 @@ unfolding boundary
 boundary-lt f a = all-lt (key_effects f a) 1 (lit< tt)
 
 -- the numbers have nothing yet
-pub zero_begun : {f : Flow} {ws us : List ℕ} {n w : ℕ} → Begun f ws us n w (back_row n w) → Unused ws n w → Unloaded us n w 0
+pub zero_begun : {f : Flow} {ws us : List ℕ} {n w : ℕ} → RowBegun f ws us n w (back_row n w) → Unused ws n w → Unloaded us n w 0
 zero_begun {n = n} {w = w} b h x lo hi =
     let least = row_first n w in
     let end = nodes-within n w in
@@ -52,7 +52,7 @@ zero_begun {n = n} {w = w} b h x lo hi =
 
 module _ (f : Flow) (s ws₀ ws₁ ws₂ ws₃ : List ℕ) (n arrays entry : ℕ) (count : arrays ≡ f.arrays) (sized : size f ≡ n) (some : 0 < n) (first : entry ≡ f.entry) (below : entry < n)
     (wide : f.arrays ≤ 64 * set_words arrays) (bytes : Bytes f (proposed f s)) (linked : Linked f ws₀ n) (unused : Unused ws₀ n (set_words arrays))
-    (begun : Begun f ws₀ ws₁ n (set_words arrays) (back_row n (set_words arrays))) (loaded : Loaded s ws₁ ws₂ n arrays (2 * n))
+    (begun : RowBegun f ws₀ ws₁ n (set_words arrays) (back_row n (set_words arrays))) (loaded : Loaded s ws₁ ws₂ n arrays (2 * n))
     (grown : Grown ws₂ ws₃ n (set_words arrays) (back_row n (set_words arrays)) entry) where
   abbrev w : ℕ
   w = set_words arrays

@@ -38,7 +38,7 @@ use Rattle.solve.proofs.Masks.{mask-cong}
 use Rattle.solve.proofs.Waiting.{rest-keeps, waits-none}
 use Rattle.dataflow.specs.Clauses.Transfer.{RowSteps}
 use Rattle.dataflow.specs.Clauses.Sent.{masks_below}
-use Rattle.dataflow.specs.Clauses.Solving.{Underway, VisitsFront, Unused, Begun, RuleResult}
+use Rattle.dataflow.specs.Clauses.Solving.{Underway, VisitsFront, Unused, Begun, RowBegun, RuleResult}
 use Rattle.dataflow.proofs.Acted.{unkeyed-step, key_step}
 use Rattle.dataflow.proofs.Unions.{cond-zero}
 use Rattle.dataflow.proofs.Sharing.{zero-mask, shared-none}
@@ -55,6 +55,14 @@ start_is : (f : Flow) (a : ℕ) → (doubled f).boundary a ≡ boundary f a
 unfolding doubled
 start_is f a = refl
 
+-- the masks of a number are those of its row
+
+pub row_begun : {f : Flow} {ws vs : List ℕ} {n w d : ℕ} → RowBegun f ws vs n w (mask_row_at n w d) → Begun f ws vs n w d
+row_begun b = record { masks = b.masks; size = b.size; elsewhere = b.elsewhere }
+
+pub begun_row : {f : Flow} {ws vs : List ℕ} {n w d : ℕ} → Begun f ws vs n w d → RowBegun f ws vs n w (mask_row_at n w d)
+begun_row b = record { masks = b.masks; size = b.size; elsewhere = b.elsewhere }
+
 -- the masks at the entry: NONE for every array, and then the handler's touched step
 module _ (f : Flow) (n w row : ℕ) {count : ℕ} (ws us : List ℕ) (all : count ≡ f.arrays) (low : back_row n w ≤ row) (high : row + 3 * w ≤ nodes_end n w) (unused : Unused ws n w)
     (reset : RowSteps ws us w (set_row n) row (out_row n w) (λ a. ltb a count) Reset) where
@@ -70,7 +78,7 @@ module _ (f : Flow) (n w row : ℕ) {count : ℕ} (ws us : List ℕ) (all : coun
       let end = nodes-within n w in
       record { size = reset.size; below = λ x l. reset.elsewhere x (λ a b. omega arith) (λ a b. omega arith); above = λ x l. reset.elsewhere x (λ a b. omega arith) (λ a b. omega arith) }
 
-  pub begun_unkeyed : f.handler ≡ none → Begun f ws us n w row
+  pub begun_unkeyed : f.handler ≡ none → RowBegun f ws us n w row
   unfolding boundary masks_below
   begun_unkeyed e = record {
     masks = λ a l. reset-masks a l ∙ ap (λ (v : ℕ). cond (ltb a f.arrays) v 0) (sym (unkeyed-step f a 1 e));
@@ -79,7 +87,7 @@ module _ (f : Flow) (n w row : ℕ) {count : ℕ} (ws us : List ℕ) (all : coun
   }
 
   pub begun_keyed : {vs : List ℕ} → RowIs us vs w row (step_where (member us (key_at n w)) Touched (mask_at us w row)) → ((a : ℕ) → a < 64 * w → member us (key_at n w) a ≡ handler_touches f a)
-      → Begun f ws vs n w row
+      → RowBegun f ws vs n w row
   unfolding boundary masks_below step_where
   begun_keyed y says = record {
     masks = λ a l. y.masks a l ∙ ap₂ (λ (b : Bool) (v : ℕ). cond b (step_of Touched v) v) (says a l) (reset-masks a l) ∙ at a (ltb a f.arrays);
@@ -98,7 +106,7 @@ module _ (f : Flow) (n w row : ℕ) {count : ℕ} (ws us : List ℕ) (all : coun
 abbrev pub nothing : Queue
 nothing = record { head = 0; len = 0 }
 
-module _ (f : Flow) (n w : ℕ) (ws us : List ℕ) (entry : ℕ) (sized : size f ≡ n) (some : 0 < n) (unused : Unused ws n w) (first : entry ≡ f.entry) (below : entry < n) (entered : Begun f ws us n w (mask_row_at n w entry)) where
+module _ (f : Flow) (n w : ℕ) (ws us : List ℕ) (entry : ℕ) (sized : size f ≡ n) (some : 0 < n) (unused : Unused ws n w) (first : entry ≡ f.entry) (below : entry < n) (entered : RowBegun f ws us n w (mask_row_at n w entry)) where
   abbrev g : Graph
   g = doubled f
 

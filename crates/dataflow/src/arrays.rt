@@ -18,7 +18,7 @@ ghost use Rattle.solve.specs.Clauses.Waiting.{Waits};
 ghost use Rattle.solve.specs.Clauses.Pushed.{Source};
 ghost use Rattle.dataflow.specs.Clauses.Sent.{edge_row, Sent, Shared, MembersHold, Goes, statement_arcs, Sends, KeyGrown, KeyJoined};
 ghost use Rattle.dataflow.specs.Clauses.Transfer.{KeySet};
-ghost use Rattle.dataflow.specs.Clauses.Solving.{Underway, VisitsFront, Unused, Begun, RuleResult};
+ghost use Rattle.dataflow.specs.Clauses.Solving.{Underway, VisitsFront, Unused, Begun, RowBegun, RuleResult};
 
 use crate::transfer;
 use calls::edges::Call;
@@ -452,9 +452,9 @@ fn visit(file: &[u8], h: flow::Header, work: &mut [u64], width: usize, first: Qu
 }
 
 // The masks of the row become those at the entry: NONE for all arrays, with the touched step of the handler.
-pub fn begin(file: &[u8], h: flow::Header, work: &mut [u64], width: usize, row: usize)
+pub fn begin_row(file: &[u8], h: flow::Header, work: &mut [u64], width: usize, row: usize)
     requires { (width ≡ set_words h.arrays) × Indexed file.now h work.old × KeySet (flow_of file.now) work.old h.statements width × (0 < h.statements) × (back_row h.statements width ≤ row) × (row + 3 * width ≤ nodes_end h.statements width) × Unused work.old h.statements width }
-    ensures { Begun (flow_of file.now) work.old work.new h.statements width row }
+    ensures { RowBegun (flow_of file.now) work.old work.new h.statements width row }
 {
     let n = h.statements;
     transfer::reset_row(
@@ -472,6 +472,16 @@ pub fn begin(file: &[u8], h: flow::Header, work: &mut [u64], width: usize, row: 
     }
 }
 
+// The masks of d become those of the entry: NONE for all arrays, with the touched step of the handler.
+fn begin(file: &[u8], h: flow::Header, work: &mut [u64], width: usize, d: NodeId)
+    requires { (width ≡ set_words h.arrays) × Indexed file.now h work.old × KeySet (flow_of file.now) work.old h.statements width × (d.0 < 2 * h.statements) × Unused work.old h.statements width }
+    ensures { Begun (flow_of file.now) work.old work.new h.statements width d.0 }
+{
+    let n = h.statements;
+    let row = layout::mask_row(n, width, d);
+    begin_row(file, h, work, width, row);
+}
+
 // The queue rule. The count of visits comes back.
 pub fn array_states(file: &[u8], h: flow::Header, work: &mut [u64]) -> u64
     requires { Indexed file.now h work.old × Linked (flow_of file.now) work.old h.statements × KeySet (flow_of file.now) work.old h.statements (set_words h.arrays) × (0 < h.statements) × Unused work.old h.statements (set_words h.arrays) }
@@ -480,7 +490,7 @@ pub fn array_states(file: &[u8], h: flow::Header, work: &mut [u64]) -> u64
     let n = h.statements;
     let width = set_words(h.arrays);
     let entry = node(n, Base::Zero, h.entry);
-    begin(file, h, work, width, layout::mask_row(n, width, entry));
+    begin(file, h, work, width, entry);
     let mut queue = nodes::enqueue(work, n, width, Queue { head: 0, len: 0 }, entry);
     let mut visits = 0u64;
     while 0 < queue.len {

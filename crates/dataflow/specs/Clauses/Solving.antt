@@ -7,7 +7,7 @@ use Rattle.theory.specs.Queue.{Solver, Course, Over, pulled, changed, visit}
 use Rattle.statements.specs.Clauses.Layout.{queue_at}
 use Rattle.statements.specs.Clauses.Ready.{Keeps}
 use Rattle.solve.specs.declared.Queue.{Queue}
-use Rattle.solve.specs.Clauses.Layout.{set_row, settled_in, area_end}
+use Rattle.solve.specs.Clauses.Layout.{set_row, settled_in, area_end, mask_row_at}
 use Rattle.solve.specs.Clauses.Rows.{mask_at}
 use Rattle.solve.specs.Clauses.Waiting.{Waits}
 use Rattle.solve.specs.Clauses.Pushed.{masks_at}
@@ -37,8 +37,14 @@ pub record VisitsFront (f : Flow) (ws vs : List ℕ) (n w : ℕ) (queue r : Queu
 abbrev pub Unused : List ℕ → ℕ → ℕ → Type 0
 Unused ws n w = (x : ℕ) → queue_at n ≤ x → x < area_end n w → get_or ws x 0 ≡ 0
 
+-- the masks of d are those of the entry; besides them only the set at hand is written
+pub record Begun (f : Flow) (ws vs : List ℕ) (n w d : ℕ) : Type 0 where
+  pub masks : (a : ℕ) → a < 64 * w → masks_at vs n w d a ≡ masks_below f.arrays (boundary f) a
+  pub size : length vs ≡ length ws
+  pub elsewhere : (x : ℕ) → (set_row n ≤ x → x < set_row n + w → ⊥) → (mask_row_at n w d ≤ x → x < mask_row_at n w d + 3 * w → ⊥) → get_or vs x 0 ≡ get_or ws x 0
+
 -- the masks of the row are those at the entry; besides them only the set at hand is written
-pub record Begun (f : Flow) (ws vs : List ℕ) (n w row : ℕ) : Type 0 where
+pub record RowBegun (f : Flow) (ws vs : List ℕ) (n w row : ℕ) : Type 0 where
   pub masks : (a : ℕ) → a < 64 * w → mask_at vs w row a ≡ masks_below f.arrays (boundary f) a
   pub size : length vs ≡ length ws
   pub elsewhere : (x : ℕ) → (set_row n ≤ x → x < set_row n + w → ⊥) → (row ≤ x → x < row + 3 * w → ⊥) → get_or vs x 0 ≡ get_or ws x 0

@@ -20,7 +20,7 @@ use Rattle.solve.specs.Clauses.Layout.{back_row, nodes_end, area_end}
 use Rattle.solve.specs.Clauses.Pushed.{Grown}
 use Rattle.solve.proofs.Room.{row_first, row_from, nodes-room}
 use Rattle.dataflow.specs.Clauses.Transfer.{KeySet}
-use Rattle.dataflow.specs.Clauses.Solving.{Unused, Begun}
+use Rattle.dataflow.specs.Clauses.Solving.{Unused, RowBegun}
 use Rattle.dataflow.proofs.Kept.{indexed_stays, linked-stays, key-stays}
 use Rattle.accept.specs.Clauses.Table.{Bytes, nothing, Passing, Edged}
 use Rattle.accept.proofs.Judging.{table_bytes}
@@ -63,14 +63,14 @@ roomy c ws e = let room = nodes-room c.requires.0.indexed.ready c.requires.0.som
 
 -- the boundary stands in the row behind the edges at hand
 
-begun : (c : tie.After-begin) → let w : ℕ = set_words c.args.h.arrays in Begun (flow_of c.args.file.now) c.args.work.now c.begin.new.work c.args.h.statements w (back_row c.args.h.statements w)
+begun : (c : tie.After-begin_row) → let w : ℕ = set_words c.args.h.arrays in RowBegun (flow_of c.args.file.now) c.args.work.now c.begin_row.new.work c.args.h.statements w (back_row c.args.h.statements w)
 begun c =
     let f = flow_of c.args.file.now in
     let ws : List ℕ = c.args.work.now in
-    let us : List ℕ = c.begin.new.work in
+    let us : List ℕ = c.begin_row.new.work in
     let n : ℕ = c.args.h.statements in
-    subst (λ (w : ℕ). Begun f ws us n w (back_row n w)) c.set_words-width.ensures
-    (subst (λ (row : ℕ). Begun f ws us n c.set_words-width.result row) c.back_row-back.ensures c.begin.ensures)
+    subst (λ (w : ℕ). RowBegun f ws us n w (back_row n w)) c.set_words-width.ensures
+    (subst (λ (row : ℕ). RowBegun f ws us n c.set_words-width.result row) c.back_row-back.ensures c.begin_row.ensures)
 
 -- and is joined to the masks of the entry
 
@@ -113,8 +113,8 @@ set-words-requires c κs = limit c.before.before.before
 back-row-requires : tie.Need-back_row-back-requires
 back-row-requires c κs = (ready-most c.requires.0.indexed.ready, narrow c)
 
-begin-requires : tie.Need-begin-requires
-begin-requires c κs =
+begin-row-requires : tie.Need-begin_row-requires
+begin-row-requires c κs =
     let e = c.set_words-width.ensures in
     let n : ℕ = c.args.h.statements in
     (e, c.requires.0.indexed, subst (KeySet (flow_of c.args.file.now) c.args.work.now n) (sym e) c.requires.0.key, c.requires.0.some, omega (arith, c.back_row-back.ensures), omega (arith, c.back_row-back.ensures, row_from n c.set_words-width.result (2 * n)), subst (Unused c.args.work.now n) (sym e) c.requires.0.zero)
@@ -122,8 +122,8 @@ begin-requires c κs =
 load-rows-requires : tie.Need-load_rows-requires
 load-rows-requires c κs =
     let e = c.set_words-width.ensures in
-    let us : List ℕ = c.begin.new.work in
-    (ready-most c.requires.0.indexed.ready, limit c.before.before.before.before.before.before.before.before.before.before, subst (λ (w : ℕ). nodes_end c.args.h.statements w ≤ length us) e (roomy c.before.before.before.before.before.before us c.begin.ensures.size), c.requires.1, zero_begun (begun c.before.before.before) c.requires.0.zero)
+    let us : List ℕ = c.begin_row.new.work in
+    (ready-most c.requires.0.indexed.ready, limit c.before.before.before.before.before.before.before.before.before.before, subst (λ (w : ℕ). nodes_end c.args.h.statements w ≤ length us) e (roomy c.before.before.before.before.before.before us c.begin_row.ensures.size), c.requires.1, zero_begun (begun c.before.before.before) c.requires.0.zero)
 
 node-requires : tie.Need-node-requires
 node-requires c κs = (ready-most c.requires.0.indexed.ready, within c.before.before.before.before.before.before.before.before.before.before.before.before.before.before.before)
@@ -133,7 +133,7 @@ grow-requires c κs =
     let n : ℕ = c.args.h.statements in
     let w : ℕ = c.set_words-width.result in
     let row = c.back_row-back.ensures in
-    (ready-most c.requires.0.indexed.ready, narrow c.before.before.before.before.before.before.before.before.before.before.before.before, roomy c.before.before.before.before.before.before.before.before.before.before.before.before c.load_rows.new.work (c.load_rows.ensures.keeps.size ∙ c.begin.ensures.size), omega (arith, first c, within c.before.before.before.before.before.before.before.before.before.before.before.before.before.before.before.before), inl (omega arith, omega (arith, row_first n w)))
+    (ready-most c.requires.0.indexed.ready, narrow c.before.before.before.before.before.before.before.before.before.before.before.before, roomy c.before.before.before.before.before.before.before.before.before.before.before.before c.load_rows.new.work (c.load_rows.ensures.keeps.size ∙ c.begin_row.ensures.size), omega (arith, first c, within c.before.before.before.before.before.before.before.before.before.before.before.before.before.before.before.before), inl (omega arith, omega (arith, row_first n w)))
 
 pass-rows-requires : tie.Need-pass_rows-requires
 pass-rows-requires c κs =
@@ -163,7 +163,7 @@ holds_spec =
     (tie.spec
     set-words-requires
     back-row-requires
-    begin-requires
+    begin-row-requires
     load-rows-requires
     node-requires
     grow-requires

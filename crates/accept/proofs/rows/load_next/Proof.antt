@@ -88,7 +88,7 @@ same-length-2 c = search rules
 returns-2 : tie.Need-returns
 returns-2 c =
     let a = c.args in
-    subst (λ (x : ℕ). RowIs a.work.now c.Load-row.new.0 a.width x (masks_below a.arrays (row_of a.s.now a.arrays a.d.0))) c.mask_row-row.ensures c.Load-row.ensures
+    subst (λ (x : ℕ). RowIs a.work.now c.load_row.new.work a.width x (masks_below a.arrays (row_of a.s.now a.arrays a.d.0))) c.mask_row-row.ensures c.load_row.ensures
 
 pub load_next_spec : {M : Type 1} → statement M
 load_next_spec =

@@ -73,14 +73,14 @@ loop-again c =
     let x = c.loop-g in
     let some = c.loop-g-test.true in
     let next : 8 * x.g ≡ 8 * (x.g - 1 + 1) = omega arith in
-    (omega (arith, x.invariant.0), sets-before a.s.now a.at a.count (bytes c.before.before.before.before.before.before.before.before.before.before.before) (x.g - 1) c.u64_at-eight.result x.none x.auto x.dimmed c.gather.result c.gather-in-loop-g.result c.gather-in-loop-g-2.result (omega (arith, x.invariant.0)) (subst (λ (y : ℕ). SetsOf a.s.now a.at a.count y x.none x.auto x.dimmed) next x.invariant.1) c.u64_at-eight.ensures c.gather.ensures c.gather-in-loop-g.ensures c.gather-in-loop-g-2.ensures)
+    (omega (arith, x.invariant.0), sets-before a.s.now a.at a.count (bytes c.before.before.before.before.before.before.before.before.before.before.before) (x.g - 1) c.u64_at-eight.result x.none x.auto' x.dimmed c.gather.result c.gather-in-loop-g.result c.gather-in-loop-g-2.result (omega (arith, x.invariant.0)) (subst (λ (y : ℕ). SetsOf a.s.now a.at a.count y x.none x.auto' x.dimmed) next x.invariant.1) c.u64_at-eight.ensures c.gather.ensures c.gather-in-loop-g.ensures c.gather-in-loop-g-2.ensures)
 
 returns : tie.Need-returns invariant-loop decreases-loop
 returns c =
     let a = c.args in
     let x = c.loop-g in
     let none : 8 * x.g ≡ 0 = omega arith in
-    subst (λ (y : ℕ). SetsOf a.s.now a.at a.count y x.none x.auto x.dimmed) none x.invariant.1
+    subst (λ (y : ℕ). SetsOf a.s.now a.at a.count y x.none x.auto' x.dimmed) none x.invariant.1
 
 pub sets_of_spec : {M : Type 1} → statement M
 sets_of_spec =

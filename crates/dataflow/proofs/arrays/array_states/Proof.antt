@@ -17,10 +17,10 @@ use Rattle.statements.proofs.WellFormed.{well_formed, arrays-is, entry_is}
 use Rattle.solve.specs.Clauses.Layout.{back_row, mask_row_at, nodes_end, area_end}
 use Rattle.solve.proofs.Room.{nodes-within, solver_room, row_from, row_fits}
 use Rattle.dataflow.specs.Clauses.Transfer.{KeySet}
-use Rattle.dataflow.specs.Clauses.Solving.{Unused, Begun, RuleResult}
+use Rattle.dataflow.specs.Clauses.Solving.{Unused, RowBegun, RuleResult}
 use Rattle.dataflow.proofs.Kept.{indexed_stays, linked-stays, key-stays}
 use Rattle.dataflow.proofs.Few.{visits-few}
-use Rattle.dataflow.proofs.Running.{first-waits, starts, starts-keeps, Running, running_on, running_bound, running_ends}
+use Rattle.dataflow.proofs.Running.{first-waits, starts, starts-keeps, Running, running_on, running_bound, running_ends, begun_row}
 use borrow.Author.Rules.{rules}
 use Rattle.dataflow.proofs.arrays.array_states.Statement.{statement}
 use Rattle.dataflow.proofs.arrays.array_states.Tie as tie
@@ -77,47 +77,36 @@ unused c = subst (Unused c.args.work.now c.args.h.statements) (sym c.set_words-w
 keyed : (c : tie.After-set_words-width invariant-loop decreases-loop) → KeySet (flow_of c.args.file.now) c.args.work.now c.args.h.statements c.set_words-width.result
 keyed c = subst (KeySet (flow_of c.args.file.now) c.args.work.now c.args.h.statements) (sym c.set_words-width.ensures) c.requires.2
 
-mask-row-requires : tie.Need-mask_row-requires invariant-loop decreases-loop
-mask-row-requires c κs =
-    (ready-most c.requires.0.ready, narrow c.before.before.before, omega (arith, below c.before))
-
 begin-requires : tie.Need-begin-requires invariant-loop decreases-loop
 begin-requires c κs =
-    let n : ℕ = c.args.h.statements in
-    let w : ℕ = c.set_words-width.result in
-    let d : ℕ = c.node-entry.result.0 in
-    let at : c.mask_row.result ≡ mask_row_at n w d = c.mask_row.ensures in
-    let low : back_row n w ≤ c.mask_row.result = let least = row_from n w d in omega arith in
-    let high : c.mask_row.result + 3 * w ≤ nodes_end n w = let fits = row_fits n w {d = d} (omega (arith, below c.before.before)) in omega arith in
-    (c.set_words-width.ensures, c.requires.0, keyed c.before.before.before.before, c.requires.3, low, high, unused c.before.before.before.before)
+    (c.set_words-width.ensures, c.requires.0, keyed c.before.before.before, omega (arith, below c.before), unused c.before.before.before)
 
 -- the masks of the number where the flow is entered are those at the entry
-entered : (c : tie.After-begin invariant-loop decreases-loop) → Begun (flow_of c.args.file.now) c.args.work.now c.begin.new.work c.args.h.statements c.set_words-width.result (mask_row_at c.args.h.statements c.set_words-width.result c.node-entry.result.0)
-entered c =
-    subst (λ (row : ℕ). Begun (flow_of c.args.file.now) c.args.work.now c.begin.new.work c.args.h.statements c.set_words-width.result row) c.mask_row.ensures c.begin.ensures
+entered : (c : tie.After-begin invariant-loop decreases-loop) → RowBegun (flow_of c.args.file.now) c.args.work.now c.begin.new.work c.args.h.statements c.set_words-width.result (mask_row_at c.args.h.statements c.set_words-width.result c.node-entry.result.0)
+entered c = begun_row c.begin.ensures
 
 enqueue-requires : tie.Need-enqueue-queue-requires invariant-loop decreases-loop
 enqueue-requires c κs =
     let n : ℕ = c.args.h.statements in
-    let room = solver_room c.requires.0.ready c.requires.3 (narrow c.before.before.before.before.before.before.before.before) in
+    let room = solver_room c.requires.0.ready c.requires.3 (narrow c.before.before.before.before.before.before.before) in
     let end = nodes-within n c.set_words-width.result in
     let size = c.begin.ensures.size in (
       ready-most c.requires.0.ready,
-      narrow c.before.before.before.before.before.before.before.before,
+      narrow c.before.before.before.before.before.before.before,
       omega arith,
-      omega (arith, below c.before.before.before.before.before.before),
-      ([], first-waits (flow_of c.args.file.now) n c.set_words-width.result _ _ c.node-entry.result.0 (ready-size c.requires.0.ready) c.requires.3 (unused c.before.before.before.before.before.before.before.before) (entry c.before.before.before.before.before.before) (below c.before.before.before.before.before.before) (entered c.before.before.before)),
+      omega (arith, below c.before.before.before.before.before),
+      ([], first-waits (flow_of c.args.file.now) n c.set_words-width.result _ _ c.node-entry.result.0 (ready-size c.requires.0.ready) c.requires.3 (unused c.before.before.before.before.before.before.before) (entry c.before.before.before.before.before) (below c.before.before.before.before.before) (entered c.before.before.before)),
     )
 
 -- the area where the visits begin
 
 beside : (c : tie.After-enqueue-queue invariant-loop decreases-loop) → let a = c.args in Keeps (queue_at a.h.statements) (area_end a.h.statements c.set_words-width.result) a.work.now c.enqueue-queue.new.work
 beside c =
-    starts-keeps (flow_of c.args.file.now) c.args.h.statements c.set_words-width.result _ _ c.node-entry.result.0 (ready-size c.requires.0.ready) c.requires.3 (unused c.before.before.before.before.before.before.before.before.before) (entry c.before.before.before.before.before.before.before) (below c.before.before.before.before.before.before.before) (entered c.before.before.before.before) _ _ c.enqueue-queue.ensures
+    starts-keeps (flow_of c.args.file.now) c.args.h.statements c.set_words-width.result _ _ c.node-entry.result.0 (ready-size c.requires.0.ready) c.requires.3 (unused c.before.before.before.before.before.before.before.before) (entry c.before.before.before.before.before.before) (below c.before.before.before.before.before.before) (entered c.before.before.before.before) _ _ c.enqueue-queue.ensures
 
 begins : (c : tie.After-enqueue-queue invariant-loop decreases-loop) → let a = c.args in Running (flow_of a.file.now) a.h.statements c.set_words-width.result c.enqueue-queue.new.work c.enqueue-queue.new.work c.enqueue-queue.result 0
 begins c =
-    starts (flow_of c.args.file.now) c.args.h.statements c.set_words-width.result _ _ c.node-entry.result.0 (ready-size c.requires.0.ready) c.requires.3 (unused c.before.before.before.before.before.before.before.before.before) (entry c.before.before.before.before.before.before.before) (below c.before.before.before.before.before.before.before) (entered c.before.before.before.before) _ _ c.enqueue-queue.ensures
+    starts (flow_of c.args.file.now) c.args.h.statements c.set_words-width.result _ _ c.node-entry.result.0 (ready-size c.requires.0.ready) c.requires.3 (unused c.before.before.before.before.before.before.before.before) (entry c.before.before.before.before.before.before) (below c.before.before.before.before.before.before) (entered c.before.before.before.before) _ _ c.enqueue-queue.ensures
     (linked-stays (beside c) c.requires.1)
 
 loop-holds : tie.Need-loop-queue-init invariant-loop decreases-loop
@@ -127,7 +116,7 @@ visit-requires : tie.Need-visit-queue-requires invariant-loop decreases-loop
 visit-requires c κs =
     let x = c.loop-queue.invariant in
     let keeps = keeps-trans (beside c.before.before.before.before.before.before) x.keeps in
-    (c.set_words-width.ensures, indexed_stays keeps c.requires.0, linked-stays keeps c.requires.1, key-stays keeps (keyed c.before.before.before.before.before.before.before.before.before.before.before.before.before.before.before), c.requires.3, c.loop-queue-test.true, x.underway)
+    (c.set_words-width.ensures, indexed_stays keeps c.requires.0, linked-stays keeps c.requires.1, key-stays keeps (keyed c.before.before.before.before.before.before.before.before.before.before.before.before.before.before), c.requires.3, c.loop-queue-test.true, x.underway)
 
 -- every array of the flow has its place in a set of that width
 wide : (c : tie.After-set_words-width invariant-loop decreases-loop) → (flow_of c.args.file.now).arrays ≤ 64 * c.set_words-width.result
@@ -135,7 +124,7 @@ wide c = let all = few c.before.before.before in omega (arith, c.set_words-width
 
 bound : (c : tie.In-loop-queue invariant-loop decreases-loop) → c.loop-queue.visits < visit_bound (doubled (flow_of c.args.file.now))
 bound c =
-    let h = running_bound (well_formed c.requires.0.ready.fit) (ready-size c.requires.0.ready) c.requires.3 (wide c.before.before.before.before.before.before.before.before.before.before.before.before.before.before) c.loop-queue.visits c.loop-queue.invariant in
+    let h = running_bound (well_formed c.requires.0.ready.fit) (ready-size c.requires.0.ready) c.requires.3 (wide c.before.before.before.before.before.before.before.before.before.before.before.before.before) c.loop-queue.visits c.loop-queue.invariant in
     let some = c.loop-queue-test.true in
     omega (arith, h, some)
 
@@ -159,7 +148,7 @@ same_length c = c.loop-queue.invariant.keeps.size ∙ (beside c.before.before.be
 returns : tie.Need-returns invariant-loop decreases-loop
 returns c =
     let none = c.loop-queue-test.false in
-    let x = running_ends (well_formed c.requires.0.ready.fit) (ready-size c.requires.0.ready) c.requires.3 (wide c.before.before.before.before.before.before.before.before.before.before.before.before.before.before) c.loop-queue.visits c.loop-queue.invariant (omega (arith, none)) in
+    let x = running_ends (well_formed c.requires.0.ready.fit) (ready-size c.requires.0.ready) c.requires.3 (wide c.before.before.before.before.before.before.before.before.before.before.before.before.before) c.loop-queue.visits c.loop-queue.invariant (omega (arith, none)) in
     subst (λ (w : ℕ). RuleResult (flow_of c.args.file.now) c.args.work.now c.loop-queue.work c.args.h.statements w c.loop-queue.visits) c.set_words-width.ensures
     (record { left = x.left; over = x.over; masks = x.masks; keeps = keeps-trans (beside c.before.before.before.before.before) x.keeps })
 
@@ -171,7 +160,6 @@ array_states_spec =
     decreases-loop
     set-words-requires
     node-requires
-    mask-row-requires
     begin-requires
     enqueue-requires
     loop-holds

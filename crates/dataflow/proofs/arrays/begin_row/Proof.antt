@@ -1,4 +1,4 @@
--- `dataflow::arrays::begin` meets its contract: the arrays are reset, and step where there is a handler.
+-- `dataflow::arrays::begin_row` meets its contract: the arrays are reset, and step where there is a handler.
 -- By what the masks at the entry are.
 use Prim.Native.Nat.{ℕ, ◌+◌, ◌*◌, ◌≤◌, ◌<◌}
 use mathlib.Core.List.{List}
@@ -22,8 +22,8 @@ use Rattle.dataflow.proofs.Sets.{steps-at, entry-apart}
 use Rattle.dataflow.proofs.Kept.{key-stays, key_says}
 use Rattle.dataflow.proofs.Running.{reset-keeps, begun_unkeyed, begun_keyed}
 use borrow.Author.Rules.{rules}
-use Rattle.dataflow.proofs.arrays.begin.Statement.{statement}
-use Rattle.dataflow.proofs.arrays.begin.Tie as tie
+use Rattle.dataflow.proofs.arrays.begin_row.Statement.{statement}
+use Rattle.dataflow.proofs.arrays.begin_row.Tie as tie
 
 -- the width is that of the flow
 
@@ -87,8 +87,8 @@ returns-2 c =
     c.step_key.ensures
     (key_says (key-stays (reset-keeps f n w c.args.row c.args.work.now us (count c.before.before.before.before.before.before.before.before.before.before.before.before.before) c.requires.4 c.requires.5 c.requires.6 (entered c.before.before.before.before.before.before.before)) c.requires.2) handled)
 
-pub begin_spec : {M : Type 1} → statement M
-begin_spec =
+pub begin_row_spec : {M : Type 1} → statement M
+begin_row_spec =
     tie.close
     (tie.spec
     set-row-requires
