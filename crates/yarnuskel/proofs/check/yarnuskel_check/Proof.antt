@@ -8,13 +8,13 @@ use Rattle.flow.proofs.Reading.{fit-answer, unfit-answer}
 use Rattle.yarnuskel.proofs.check.yarnuskel_check.Statement.{statement}
 use Rattle.yarnuskel.proofs.check.yarnuskel_check.Tie as tie
 
-check-file-requires : tie.Need-check-file-requires
+check-file-requires : tie.Need-check_file-requires
 check-file-requires c κs = search rules
 
-enum_told : tie.Need-enum-told
+enum_told : tie.Need-enum_told-1
 enum_told c = search rules
 
-enum-known-refusal : tie.Need-enum-known-refusal
+enum-known-refusal : tie.Need-enum_known-refusal
 enum-known-refusal c = search rules
 
 place-requires : tie.Need-place-requires
@@ -23,20 +23,20 @@ place-requires c κs = search rules
 number-requires : tie.Need-number-requires
 number-requires c κs = search rules
 
-returns : tie.Need-returns
+returns : tie.Need-returns-in-Fit
 returns c =
-    let s = c.before.before.before.before.args.file.now in
-    let v = fit-answer (verdict (file_checks s)) (header_of s) _ (sym c.before.before.check-file.ensures ∙ c.enum_told.given.1) in
+    let s = c.args.file.now in
+    let v = fit-answer (verdict (file_checks s)) (header_of s) _ (sym c.check_file.ensures ∙ c.in-Fit.is) in
     (ap verdict_number (sym v), ap verdict_place (sym v))
 
-returns-2 : tie.Need-returns-2
+returns-2 : tie.Need-returns-in-Unfit
 returns-2 c =
-    let s = c.before.before.before.before.before.before.before.args.file.now in
-    let v = unfit-answer (verdict (file_checks s)) (header_of s) (sym c.before.before.before.before.before.check-file.ensures ∙ c.before.before.before.refusal.given.1) in
-    (c.number.ensures ∙ ap verdict_number (sym v), c.before.place.ensures ∙ ap verdict_place (sym v))
+    let s = c.args.file.now in
+    let v = unfit-answer (verdict (file_checks s)) (header_of s) (sym c.check_file.ensures ∙ c.in-Unfit.is) in
+    (c.number.ensures ∙ ap verdict_number (sym v), c.place.ensures ∙ ap verdict_place (sym v))
 
-pub yarnuskel-check-spec : {M : Type 1} → statement M
-yarnuskel-check-spec =
+pub yarnuskel_check_spec : {M : Type 1} → statement M
+yarnuskel_check_spec =
     tie.close
     (tie.spec
     check-file-requires
