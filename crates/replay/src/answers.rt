@@ -48,10 +48,10 @@ fn written(
     if !same_bytes(masks, sizes.masks, s, masks_at) {
         return false;
     }
-    if !same_words(live_in, sizes.statements, s, in_at, sizes.width) {
+    if !same_words(live_in, sizes.statements, s, in_at) {
         return false;
     }
-    same_words(live_out, sizes.statements, s, out_at, sizes.width)
+    same_words(live_out, sizes.statements, s, out_at)
 }
 
 // What lies behind the written bytes is as it was.

@@ -69,8 +69,8 @@ pub fn same_bytes(masks: &[u8], n: usize, s: &[u8], from: usize) -> bool
     true
 }
 
-// The first n words are those stored at `from`, each in width bytes.
-pub fn same_words(ws: &[u64], n: usize, s: &[u8], from: usize, width: usize) -> bool
+// The first n words are those stored at `from`.
+pub fn same_words(ws: &[u64], n: usize, s: &[u8], from: usize) -> bool
     requires { from ≤ length s.now }
 {
     let mut at = from;
@@ -79,10 +79,10 @@ pub fn same_words(ws: &[u64], n: usize, s: &[u8], from: usize, width: usize) -> 
         if ws.len() <= k {
             return false;
         }
-        if ws[k] != number(s, at, width) {
+        if ws[k] != number(s, at, 8) {
             return false;
         }
-        at = skip(s, at, width);
+        at = skip(s, at, 8);
         k += 1;
     }
     true

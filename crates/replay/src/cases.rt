@@ -1,7 +1,7 @@
 // Every stored case in turn.
 ghost use Rattle.std.specs.Prelude.{◌≤◌, length};
 
-use crate::{answers, conflicts, data, names, proposals};
+use crate::{answers, conflicts, data, names};
 
 #[derive(Clone, Copy)]
 pub struct Counts {
@@ -22,7 +22,7 @@ fn told(case: u64, same: bool) -> u64
     1
 }
 
-// Whether every call on the file alone answers the case as it must.
+// Whether every call answers the case as it must.
 fn answered(
     s: &[u8],
     file: &[u8],
@@ -43,33 +43,6 @@ fn answered(
     states & certain & interference
 }
 
-// Whether these and the call on its proposals do, and where the next case stands.
-fn judged(
-    s: &[u8],
-    file: &[u8],
-    case: data::Case,
-    masks: &mut [u8],
-    live_in: &mut [u64],
-    live_out: &mut [u64],
-    rows: &mut [u64],
-    proposal: &mut [u8],
-    work: &mut [u64],
-) -> proposals::Judged
-    requires { (case.answers ≤ length s.now) × (case.size ≤ length file.now) }
-    ensures { (case.answers ≤ result.next) × (result.next ≤ length s.now) }
-{
-    let sizes = data::answer_sizes(file);
-    let places = data::find_places(s, case, sizes);
-    let same = answered(
-        s, file, case, sizes, places, masks, live_in, live_out, rows, work,
-    );
-    let accepts = proposals::lend(s, places.proposals, file, case, proposal, work);
-    proposals::Judged {
-        next: accepts.next,
-        same: same & accepts.same,
-    }
-}
-
 // How a case was answered, and where the next one stands.
 #[derive(Clone, Copy)]
 struct Replayed {
@@ -86,19 +59,20 @@ fn replay_case(
     live_in: &mut [u64],
     live_out: &mut [u64],
     rows: &mut [u64],
-    proposal: &mut [u8],
     work: &mut [u64],
 ) -> Replayed
     requires { at ≤ length s.now }
     ensures { (at ≤ result.next) × (result.next ≤ length s.now) × (result.different ≤ 1) }
 {
     let case = data::read_case(s, at, file);
-    let found = judged(
-        s, file, case, masks, live_in, live_out, rows, proposal, work,
+    let sizes = data::answer_sizes(file);
+    let places = data::find_places(s, case, sizes);
+    let same = answered(
+        s, file, case, sizes, places, masks, live_in, live_out, rows, work,
     );
     Replayed {
-        next: found.next,
-        different: told(number, found.same),
+        next: places.next,
+        different: told(number, same),
     }
 }
 
@@ -109,7 +83,6 @@ pub fn replay(
     live_in: &mut [u64],
     live_out: &mut [u64],
     rows: &mut [u64],
-    proposal: &mut [u8],
     work: &mut [u64],
 ) -> Counts {
     let mut p = 0;
@@ -120,18 +93,7 @@ pub fn replay(
         if data::byte(s, p) != 1 {
             break;
         }
-        let replayed = replay_case(
-            s,
-            p + 1,
-            cases,
-            file,
-            masks,
-            live_in,
-            live_out,
-            rows,
-            proposal,
-            work,
-        );
+        let replayed = replay_case(s, p + 1, cases, file, masks, live_in, live_out, rows, work);
         p = replayed.next;
         different += replayed.different;
         cases += 1;

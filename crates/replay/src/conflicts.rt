@@ -14,20 +14,20 @@ fn untouched(rows: &[u64], work: &[u64]) -> bool {
 }
 
 // A word a name, those that stand at `at`; behind them the rows are as they were, and the work area is zero.
-fn written(s: &[u8], at: usize, sizes: Sizes, rows: &[u64], work: &[u64]) -> bool
+fn written(s: &[u8], at: usize, names: usize, rows: &[u64], work: &[u64]) -> bool
     requires { at ≤ length s.now }
 {
     if !words_zero(work) {
         return false;
     }
-    if !words_kept(rows, sizes.names) {
+    if !words_kept(rows, names) {
         return false;
     }
-    same_words(rows, sizes.names, s, at, sizes.width)
+    same_words(rows, names, s, at)
 }
 
 // The areas are as long as the case says. The words stand after the answer at `at`.
-fn same(s: &[u8], at: usize, file: &[u8], sizes: Sizes, rows: &mut [u64], work: &mut [u64]) -> bool
+fn same(s: &[u8], at: usize, file: &[u8], names: usize, rows: &mut [u64], work: &mut [u64]) -> bool
     requires { at ≤ length s.now }
 {
     fill_words(rows);
@@ -41,7 +41,7 @@ fn same(s: &[u8], at: usize, file: &[u8], sizes: Sizes, rows: &mut [u64], work: 
             }
         }
         dataflow::Answer::Accepted(most) => {
-            if written(s, skip(s, at, 13), sizes, rows, work) {
+            if written(s, skip(s, at, 13), names, rows, work) {
                 told(s, at, 0, 0, most)
             } else {
                 false
@@ -69,7 +69,7 @@ pub fn lend(
         s,
         skip(s, at, 4),
         &file[..size],
-        sizes,
+        sizes.names,
         &mut rows[..r],
         &mut work[..w],
     )

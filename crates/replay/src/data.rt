@@ -17,30 +17,28 @@ pub struct Case {
     pub answers: usize,
 }
 
-// How far the blocks of a file or of a proposal were read, and how long they are together.
+// How far the blocks of a case's file were read, and how long they are together.
 #[derive(Clone, Copy)]
 pub struct Blocks {
     pub next: usize,
     pub size: usize,
 }
 
-// How much the answer to an accepted file takes: the words of a live area and of the names, the stored bytes of such a word, and those of the masks, of a live area and of all words of the names.
+// How much the answer to an accepted file takes: the words of a live area, the stored bytes of the masks and of a live area, and the words of the names.
 #[derive(Clone, Copy)]
 pub struct Sizes {
     pub statements: usize,
-    pub names: usize,
-    pub width: usize,
     pub masks: usize,
     pub live: usize,
-    pub rows: usize,
+    pub names: usize,
 }
 
-// Where the answers after the first stand.
+// Where the answers after the first stand, and where the next case does.
 #[derive(Clone, Copy)]
 pub struct Places {
     pub names: usize,
     pub conflicts: usize,
-    pub proposals: usize,
+    pub next: usize,
 }
 
 pub fn least(a: usize, b: usize) -> usize
@@ -103,8 +101,8 @@ fn repeat(s: &[u8], at: usize, k: usize, times: u64, file: &mut [u8], end: usize
     q
 }
 
-// Puts the file of a case, or a proposal, together from its blocks at `at`, each with how often it stands, up to a count of 0.
-pub fn expand(s: &[u8], at: usize, file: &mut [u8]) -> Blocks
+// Puts the file of a case together from its blocks at `at`, each with how often it stands, up to a count of 0.
+fn expand(s: &[u8], at: usize, file: &mut [u8]) -> Blocks
     requires { at ≤ length s.now }
     ensures { (at ≤ result.next) × (result.next ≤ length s.now) × (result.size ≤ length file.new) }
 {
@@ -145,40 +143,28 @@ pub fn read_case(s: &[u8], at: usize, file: &mut [u8]) -> Case
     }
 }
 
-fn bytes_of(n: u64, each: u64) -> usize
-    requires { (n ≤ 65535) × (each ≤ 255) }
+fn mask_bytes(n: u64, arrays: u64) -> usize
+    requires { (n ≤ 65535) × (arrays ≤ 255) }
     ensures { result ≤ 16711425 }
 {
-    (n * each) as usize
-}
-
-// A word that has a bit a name is stored in as many bytes as these bits take.
-fn word_bytes(names: u64) -> u64
-    requires { names < 256 }
-    ensures { result ≤ 32 }
-{
-    (names + 7) / 8
+    (n * arrays) as usize
 }
 
 pub fn answer_sizes(file: &[u8]) -> Sizes
-    ensures { (result.masks ≤ 16711425) × (result.live ≤ 16711425) × (result.rows ≤ 16711425) }
+    ensures { (result.masks ≤ 16711425) × (result.live ≤ 524280) × (result.names ≤ 255) }
 {
     let n = byte(file, 2) + 256 * byte(file, 3);
-    let names = byte(file, 5);
-    let width = word_bytes(names);
     Sizes {
         statements: n as usize,
-        names: names as usize,
-        width: width as usize,
-        masks: bytes_of(n, byte(file, 4)),
-        live: bytes_of(n, width),
-        rows: bytes_of(names, width),
+        masks: mask_bytes(n, byte(file, 4)),
+        live: 8 * n as usize,
+        names: byte(file, 5) as usize,
     }
 }
 
 // The place after the first answer of a case. An accepted one has visits, masks, live-in and live-out words too.
 fn end(s: &[u8], case: Case, sizes: Sizes) -> usize
-    requires { (case.answers ≤ length s.now) × (sizes.masks ≤ 16711425) × (sizes.live ≤ 16711425) }
+    requires { (case.answers ≤ length s.now) × (sizes.masks ≤ 16711425) × (sizes.live ≤ 524280) }
     ensures { (case.answers ≤ result) × (result ≤ length s.now) }
 {
     if case.number != 0 {
@@ -197,24 +183,24 @@ fn after_names(s: &[u8], at: usize) -> usize
 
 // The place after the answer about names that interfere at `at`, which every case has: the length of the rows and 13 bytes. An accepted one has a word a name too.
 fn after_conflicts(s: &[u8], at: usize, sizes: Sizes) -> usize
-    requires { (at ≤ length s.now) × (sizes.rows ≤ 16711425) }
+    requires { (at ≤ length s.now) × (sizes.names ≤ 255) }
     ensures { (at ≤ result) × (result ≤ length s.now) }
 {
     if number(s, skip(s, at, 4), 1) != 0 {
         return skip(s, at, 17);
     }
-    skip(s, at, 17 + sizes.rows)
+    skip(s, at, 17 + 8 * sizes.names)
 }
 
 pub fn find_places(s: &[u8], case: Case, sizes: Sizes) -> Places
-    requires { (case.answers ≤ length s.now) × (sizes.masks ≤ 16711425) × (sizes.live ≤ 16711425) × (sizes.rows ≤ 16711425) }
-    ensures { (result.names ≤ length s.now) × (result.conflicts ≤ length s.now) × (case.answers ≤ result.proposals) × (result.proposals ≤ length s.now) }
+    requires { (case.answers ≤ length s.now) × (sizes.masks ≤ 16711425) × (sizes.live ≤ 524280) × (sizes.names ≤ 255) }
+    ensures { (result.names ≤ length s.now) × (result.conflicts ≤ length s.now) × (case.answers ≤ result.next) × (result.next ≤ length s.now) }
 {
     let names = end(s, case, sizes);
     let conflicts = after_names(s, names);
     Places {
         names,
         conflicts,
-        proposals: after_conflicts(s, conflicts, sizes),
+        next: after_conflicts(s, conflicts, sizes),
     }
 }

@@ -83,7 +83,7 @@ pub listing_spec : {M : Type 1} → statement M
 listing_spec =
     tie.close
     (tie.spec
-        field-requires
+    field-requires
     returns
     slice-aggregate-states
     slice-aggregate-states-2

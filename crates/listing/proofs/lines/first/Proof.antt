@@ -40,7 +40,7 @@ pub first_spec : {M : Type 1} → statement M
 first_spec =
     tie.close
     (tie.spec
-        field-requires
+    field-requires
     decimal-requires
     decimal-requires-2
     decimal-requires-3

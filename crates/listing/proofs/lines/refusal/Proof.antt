@@ -38,7 +38,7 @@ pub refusal_spec : {M : Type 1} → statement M
 refusal_spec =
     tie.close
     (tie.spec
-        field-requires
+    field-requires
     decimal-requires
     decimal-requires-2
     same_length

@@ -68,7 +68,7 @@ pub masks_spec : {M : Type 1} → statement M
 masks_spec =
     tie.close
     (tie.spec
-        field-requires
+    field-requires
     same_length
     returns
     digits-requires

@@ -11,55 +11,55 @@ use Rattle.replay.proofs.answers.same.Reads as same_Reads
 use Rattle.replay.proofs.data.least.Reads as least-reads
 
 -- src/answers.rt:129:9
-least-requires : tie.Need-least-requires
+least-requires : tie.Need-least-m-requires
 least-requires c κs = search rules
 
 -- src/answers.rt:130:9
-least-requires-2 : tie.Need-least-requires-2
+least-requires-2 : tie.Need-least-i-requires
 least-requires-2 c κs = search rules
 
 -- src/answers.rt:131:9
-least-requires-3 : tie.Need-least-requires-3
+least-requires-3 : tie.Need-least-o-requires
 least-requires-3 c κs = search rules
 
 -- src/answers.rt:132:9
-least-requires-4 : tie.Need-least-requires-4
+least-requires-4 : tie.Need-least-w-requires
 least-requires-4 c κs = search rules
 
 -- src/answers.rt:133:13
-slice-aggregate-same : tie.Need-slice-aggregate-same
+slice-aggregate-same : tie.Need-slice_bounds-same-end
 slice-aggregate-same c = rw length-take (omega arith)
 
 -- src/answers.rt:133:41
-slice-relend-prefix-same : tie.Need-slice-relend-prefix-same
+slice-relend-prefix-same : tie.Need-slice_bounds-same-end-2
 slice-relend-prefix-same c = search rules
 
 -- src/answers.rt:133:41
-slice-aggregate-same-2 : tie.Need-slice-aggregate-same-2
+slice-aggregate-same-2 : tie.Need-slice_bounds-same-end-3
 slice-aggregate-same-2 c = rw length-take (omega arith)
 
 -- src/answers.rt:133:58
-slice-relend-prefix-same-2 : tie.Need-slice-relend-prefix-same-2
+slice-relend-prefix-same-2 : tie.Need-slice_bounds-same-end-4
 slice-relend-prefix-same-2 c = search rules
 
 -- src/answers.rt:133:58
-slice-aggregate-same-3 : tie.Need-slice-aggregate-same-3
+slice-aggregate-same-3 : tie.Need-slice_bounds-same-end-5
 slice-aggregate-same-3 c = rw length-take (omega arith)
 
 -- src/answers.rt:133:77
-slice-relend-prefix-same-3 : tie.Need-slice-relend-prefix-same-3
+slice-relend-prefix-same-3 : tie.Need-slice_bounds-same-end-6
 slice-relend-prefix-same-3 c = search rules
 
 -- src/answers.rt:133:77
-slice-aggregate-same-4 : tie.Need-slice-aggregate-same-4
+slice-aggregate-same-4 : tie.Need-slice_bounds-same-end-7
 slice-aggregate-same-4 c = rw length-take (omega arith)
 
 -- src/answers.rt:133:97
-slice-relend-prefix-same-4 : tie.Need-slice-relend-prefix-same-4
+slice-relend-prefix-same-4 : tie.Need-slice_bounds-same-end-8
 slice-relend-prefix-same-4 c = search rules
 
 -- src/answers.rt:133:97
-slice-aggregate-same-5 : tie.Need-slice-aggregate-same-5
+slice-aggregate-same-5 : tie.Need-slice_bounds-same-end-9
 slice-aggregate-same-5 c = rw length-take (omega arith)
 
 -- src/answers.rt:133:5
@@ -67,19 +67,19 @@ same-requires : tie.Need-same-requires
 same-requires c κs = search rules
 
 -- src/answers.rt:116:1
-same_length : tie.Need-same-length
+same_length : tie.Need-shape_of-masks
 same_length c = search rules
 
 -- src/answers.rt:116:1
-same-length-2 : tie.Need-same-length-2
+same-length-2 : tie.Need-shape_of-live_in
 same-length-2 c = search rules
 
 -- src/answers.rt:116:1
-same-length-3 : tie.Need-same-length-3
+same-length-3 : tie.Need-shape_of-live_out
 same-length-3 c = search rules
 
 -- src/answers.rt:116:1
-same-length-4 : tie.Need-same-length-4
+same-length-4 : tie.Need-shape_of-work
 same-length-4 c = search rules
 
 -- src/answers.rt:116:1

@@ -8,42 +8,42 @@ use Rattle.replay.proofs.areas.bytes_kept.Tie as tie
 use Rattle.replay.proofs.areas.bytes_kept.Reads as reads
 use Rattle.replay.proofs.areas.bytes_kept.Lts as lts
 
-abbrev invariant-loop : tie.invariant-loop
+abbrev invariant-loop : tie.invariant-loop-k
 invariant-loop s from k₀ k = k₀ ≤ k
 
-abbrev decreases-loop : tie.decreases-loop
+abbrev decreases-loop : tie.decreases-loop-k
 decreases-loop s from k₀ k = length s - k
 
 -- src/areas.rt:30:5
-loop-holds : tie.Need-loop-init invariant-loop decreases-loop
+loop-holds : tie.Need-loop-k-init invariant-loop decreases-loop
 loop-holds c = search rules
 
 -- src/areas.rt:31:12
-shared-slice-read-if1 : tie.Need-shared-slice-read-if1 invariant-loop decreases-loop
+shared-slice-read-if1 : tie.Need-bounds-s-k invariant-loop decreases-loop
 shared-slice-read-if1 c = search rules
 
 -- src/areas.rt:32:13
-returns : tie.Need-returns invariant-loop decreases-loop
+returns : tie.Need-returns-then-s-k invariant-loop decreases-loop
 returns c = search rules
 
 -- src/areas.rt:34:9
-add-k : tie.Need-overflow-add-k invariant-loop decreases-loop
+add-k : tie.Need-overflow_add-k invariant-loop decreases-loop
 add-k c = search rules
 
 -- src/areas.rt:30:5
-loop-less : tie.Need-loop-smaller invariant-loop decreases-loop
+loop-less : tie.Need-loop-k-smaller invariant-loop decreases-loop
 loop-less c = search rules
 
 -- src/areas.rt:30:5
-loop-again : tie.Need-loop-preserved invariant-loop decreases-loop
+loop-again : tie.Need-loop-k-preserved invariant-loop decreases-loop
 loop-again c = search rules
 
 -- src/areas.rt:28:1
-returns-2 : tie.Need-returns-2 invariant-loop decreases-loop
+returns-2 : tie.Need-returns invariant-loop decreases-loop
 returns-2 c = search rules
 
-pub bytes-kept-spec : {M : Type 1} → statement M
-bytes-kept-spec =
+pub bytes_kept_spec : {M : Type 1} → statement M
+bytes_kept_spec =
     tie.close
     (tie.spec
     invariant-loop

@@ -9,37 +9,37 @@ use Rattle.replay.proofs.conflicts.lend.Tie as tie
 number-requires : tie.Need-number-requires
 number-requires c κs = search rules
 
-least-requires : tie.Need-least-requires
+least-requires : tie.Need-least-r-requires
 least-requires c κs = search rules
 
-least-requires-2 : tie.Need-least-requires-2
+least-requires-2 : tie.Need-least-w-requires
 least-requires-2 c κs = search rules
 
 skip-requires : tie.Need-skip-requires
 skip-requires c κs = search rules
 
-slice-aggregate-same : tie.Need-slice-aggregate-same
+slice-aggregate-same : tie.Need-slice_bounds-same-end
 slice-aggregate-same c = rw length-take (omega arith)
 
-slice-relend-prefix-same : tie.Need-slice-relend-prefix-same
+slice-relend-prefix-same : tie.Need-slice_bounds-same-end-2
 slice-relend-prefix-same c = search rules
 
-slice-aggregate-same-2 : tie.Need-slice-aggregate-same-2
+slice-aggregate-same-2 : tie.Need-slice_bounds-same-end-3
 slice-aggregate-same-2 c = rw length-take (omega arith)
 
-slice-relend-prefix-same-2 : tie.Need-slice-relend-prefix-same-2
+slice-relend-prefix-same-2 : tie.Need-slice_bounds-same-end-4
 slice-relend-prefix-same-2 c = search rules
 
-slice-aggregate-same-3 : tie.Need-slice-aggregate-same-3
+slice-aggregate-same-3 : tie.Need-slice_bounds-same-end-5
 slice-aggregate-same-3 c = rw length-take (omega arith)
 
 same-requires : tie.Need-same-requires
 same-requires c κs = search rules
 
-same_length : tie.Need-same-length
+same_length : tie.Need-shape_of-rows
 same_length c = search rules
 
-same-length-2 : tie.Need-same-length-2
+same-length-2 : tie.Need-shape_of-work
 same-length-2 c = search rules
 
 returns : tie.Need-returns

@@ -7,53 +7,53 @@ use borrow.Author.Rules.{rules}
 use Rattle.replay.proofs.data.append.Statement.{statement}
 use Rattle.replay.proofs.data.append.Tie as tie
 
-abbrev invariant-loop : tie.invariant-loop
+abbrev invariant-loop : tie.invariant-loop-i
 invariant-loop s at k file₀ end n i₀ file i = (i ≤ n) × (length file ≡ length file₀)
 
-abbrev decreases-loop : tie.decreases-loop
+abbrev decreases-loop : tie.decreases-loop-i
 decreases-loop s at k file₀ end n i₀ file i = n - i
 
-sub-least : tie.Need-overflow-sub-least invariant-loop decreases-loop
+sub-least : tie.Need-overflow_sub-file invariant-loop decreases-loop
 sub-least c = search rules
 
-least-requires : tie.Need-least-requires invariant-loop decreases-loop
+least-requires : tie.Need-least-n-requires invariant-loop decreases-loop
 least-requires c κs = search rules
 
-loop-holds : tie.Need-loop-init invariant-loop decreases-loop
+loop-holds : tie.Need-loop-i-init invariant-loop decreases-loop
 loop-holds c = search rules
 
-add-file : tie.Need-overflow-add-file invariant-loop decreases-loop
+add-file : tie.Need-overflow_add-file invariant-loop decreases-loop
 add-file c = search rules
 
-shared-slice-read-file : tie.Need-shared-slice-read-file invariant-loop decreases-loop
+shared-slice-read-file : tie.Need-bounds-s-at invariant-loop decreases-loop
 shared-slice-read-file c = search rules
 
-add-file-2 : tie.Need-overflow-add-file-2 invariant-loop decreases-loop
+add-file-2 : tie.Need-overflow_add-file-in-loop-i invariant-loop decreases-loop
 add-file-2 c = search rules
 
-slice-write-file : tie.Need-slice-write-file invariant-loop decreases-loop
+slice-write-file : tie.Need-bounds-file-end invariant-loop decreases-loop
 slice-write-file c = search rules
 
-add-i : tie.Need-overflow-add-i invariant-loop decreases-loop
+add-i : tie.Need-overflow_add-i invariant-loop decreases-loop
 add-i c = search rules
 
-loop-less : tie.Need-loop-smaller invariant-loop decreases-loop
+loop-less : tie.Need-loop-i-smaller invariant-loop decreases-loop
 loop-less c = search rules
 
-loop-again : tie.Need-loop-preserved invariant-loop decreases-loop
+loop-again : tie.Need-loop-i-preserved invariant-loop decreases-loop
 loop-again c = search rules
 
-add-result : tie.Need-overflow-add-result invariant-loop decreases-loop
+add-result : tie.Need-overflow_add-result invariant-loop decreases-loop
 add-result c = search rules
 
-same_length : tie.Need-same-length invariant-loop decreases-loop
+same_length : tie.Need-shape_of-file invariant-loop decreases-loop
 same_length c = search rules
 
 returns : tie.Need-returns invariant-loop decreases-loop
 returns c = search rules
 
-pub append-spec : {M : Type 1} → statement M
-append-spec =
+pub append_spec : {M : Type 1} → statement M
+append_spec =
     tie.close
     (tie.spec
     invariant-loop

@@ -6,22 +6,22 @@ use borrow.Author.Rules.{rules}
 use Rattle.replay.proofs.names.lend.Statement.{statement}
 use Rattle.replay.proofs.names.lend.Tie as tie
 
-least-requires : tie.Need-least-requires
+least-requires : tie.Need-least-w-requires
 least-requires c κs = search rules
 
-slice-aggregate-same : tie.Need-slice-aggregate-same
+slice-aggregate-same : tie.Need-slice_bounds-same-end
 slice-aggregate-same c = rw length-take (omega arith)
 
-slice-relend-prefix-same : tie.Need-slice-relend-prefix-same
+slice-relend-prefix-same : tie.Need-slice_bounds-same-end-2
 slice-relend-prefix-same c = search rules
 
-slice-aggregate-same-2 : tie.Need-slice-aggregate-same-2
+slice-aggregate-same-2 : tie.Need-slice_bounds-same-end-3
 slice-aggregate-same-2 c = rw length-take (omega arith)
 
 same-requires : tie.Need-same-requires
 same-requires c κs = search rules
 
-same_length : tie.Need-same-length
+same_length : tie.Need-shape_of-work
 same_length c = search rules
 
 returns : tie.Need-returns
