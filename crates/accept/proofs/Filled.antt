@@ -1,5 +1,5 @@
 -- Whether a row of masks is all zero, by its words: a word of one of the three sets that is not zero has a bit, and so an array whose mask is not zero. And tests of every number below a bound, one number more.
-use Prim.Native.Nat.{ℕ, zero, suc, ◌+◌, ◌*◌, ◌/◌, ◌%◌, ◌^◌, ◌≤◌, ◌<◌, max}
+use Prim.Native.Nat.{ℕ, zero, suc, ◌+◌, ◌*◌, ◌%◌, ◌^◌, ◌≤◌, ◌<◌, max}
 use mathlib.Core.Bool.{Bool, true, false, not, ◌&&◌}
 use mathlib.Core.List.{List}
 use mathlib.Core.Logic.{◌≢◌}
@@ -12,8 +12,8 @@ use lib.Bits.{bit_or, or_lt, or_add_and, and_le_l, and_le_r}
 use lib.Count.{count_trailing_zeros}
 use lib.Dec.{eqb}
 use lib.ListN.{get_or}
-use Rattle.words.specs.Clauses.Row.{bit, has}
-use Rattle.words.proofs.Bit.{bit-or, bit_of_zero, bit-lt, trailing_one, trailing_lt}
+use Rattle.words.specs.Clauses.Row.{bit}
+use Rattle.words.proofs.Bit.{bit-or, bit_of_zero, trailing_one, trailing_lt}
 use Rattle.words.proofs.Row.{has_word}
 use Rattle.theory.specs.Lists.{all_below}
 use Rattle.theory.specs.Queue.{union_below}

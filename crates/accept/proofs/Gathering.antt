@@ -1,9 +1,9 @@
 -- A word that is made of bytes has their bits eight apart, and `gather` puts the lowest bit of each side by side: place j of the result takes from the eight shifts by multiples of 7 the one that brings bit 8 j. So the word of a set is
 -- made eight arrays at a time. By the laws of bits, and a test of the mask of ones that antt computes.
 use Prim.Native.Nat.{ℕ, zero, suc, ◌+◌, ◌-◌, ◌*◌, ◌/◌, ◌%◌, ◌^◌, ◌≤◌, ◌<◌, min, max}
-use mathlib.Core.Bool.{Bool, true, false, cond}
+use mathlib.Core.Bool.{Bool, cond}
 use mathlib.Core.List.{List}
-use mathlib.Core.Path.{◌≡◌, refl, sym, ap, ap₂, subst, ◌∙◌}
+use mathlib.Core.Path.{◌≡◌, sym, ap, ap₂, subst, ◌∙◌}
 use native.Mathlib.Decide.{dec_lt, ℕ_discrete}
 use native.Mathlib.Nat.{mul-suc, pow-suc, div-one}
 use native.Mathlib.Numerals.{add-one}

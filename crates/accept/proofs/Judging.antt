@@ -24,15 +24,14 @@ use Rattle.theory.specs.Lists.{all_below}
 use Rattle.theory.specs.Masks.{any_state}
 use Rattle.theory.specs.Accept.{proposed, proposal_bytes, mask_checks, Accepted, is_all_any, accepted}
 use Rattle.theory.specs.Clauses.WellFormed.{WellFormed}
-use Rattle.theory.proofs.Lists.{clash, same_test}
+use Rattle.theory.proofs.Lists.{same_test}
 use Rattle.theory.proofs.Below.{all_below-at, all_below-all}
-use Rattle.theory.proofs.Accept.{accepted-sound, accepted-complete, accepted-none}
+use Rattle.theory.proofs.Accept.{accepted-sound, accepted-complete}
 use Rattle.theory.proofs.Accepted.{accepted-runs, own-accepted}
 use Rattle.statements.proofs.WellFormed.{arrays-is, well_formed}
 use Rattle.dataflow.proofs.Judging.{not_both}
-use Rattle.accept.specs.declared.Answer.{Answer}
 use Rattle.accept.specs.declared.Answer.TheVariants.{Yes, No, Refused}
-use Rattle.accept.specs.Promise.{judged_proposal, Judged, AcceptPromise}
+use Rattle.accept.specs.Promise.{judged_proposal, AcceptPromise}
 use Rattle.accept.specs.Clauses.Bytes.{FirstOver, Masks}
 use Rattle.accept.specs.Clauses.Table.{Bytes}
 

@@ -1,7 +1,7 @@
 -- The rows of a proposal as the solver's rows of masks: a row is loaded a word of its three sets at a time, or joined from the row before it where the bytes are the same, and the rows one after the other. A mask below 8 is that of its
 -- three bits.
 use Prim.Native.Nat.{ℕ, suc, ◌+◌, ◌-◌, ◌*◌, ◌/◌, ◌%◌, ◌≤◌, ◌<◌, min, zero-le}
-use mathlib.Core.Bool.{Bool, true, false, cond}
+use mathlib.Core.Bool.{Bool, cond}
 use mathlib.Core.List.{List}
 use mathlib.Core.Logic.{◌≢◌, inr}
 use mathlib.Core.Path.{◌≡◌, refl, sym, ap, ap₂, subst, ◌∙◌}
@@ -20,10 +20,10 @@ use Rattle.masks.proofs.Sets as sets
 use Rattle.statements.specs.Clauses.Layout.{set_words}
 use Rattle.statements.specs.Clauses.Ready.{Keeps}
 use Rattle.statements.proofs.Keeps.{keeps-refl, keeps-trans, keeps_widen, keeps-set, keeps-unioned}
-use Rattle.solve.specs.Clauses.Layout.{mask_row_at, mask_rows_end, state_at, waits_in, settled_in, nodes_end}
+use Rattle.solve.specs.Clauses.Layout.{mask_row_at, state_at, waits_in, settled_in, nodes_end}
 use Rattle.solve.specs.Clauses.Rows.{mask_at, RowIs}
 use Rattle.solve.specs.Clauses.Pushed.{masks_at}
-use Rattle.solve.proofs.Room.{rows_apart, row_first}
+use Rattle.solve.proofs.Room.{rows_apart}
 use Rattle.solve.proofs.Masks.{mask-cong, unioned-mask}
 use Rattle.solve.proofs.Growing.{source_first}
 use Rattle.dataflow.specs.Clauses.Sent.{masks_below}

@@ -3,13 +3,13 @@
 use Prim.Native.Nat.{ℕ, ◌+◌, ◌*◌, ◌≤◌, ◌<◌}
 use mathlib.Core.Bool.{Bool, true, false, cond, not, ◌&&◌}
 use mathlib.Core.List.{List}
-use mathlib.Core.Path.{◌≡◌, refl, sym, ap, ap₂, subst, ◌∙◌}
+use mathlib.Core.Path.{◌≡◌, refl, sym, ap, ap₂, ◌∙◌}
 use native.Mathlib.Decide.{dec_lt}
 use native.Mathlib.Numerals.{add-one}
 use native.Mathlib.Omega.{arith}
 use borrow.Author.Tests.{eq-eqb, eqb-true, le-ltb}
-use lib.Bits.{bit_or, or_lt}
-use lib.Dec.{eqb, ltb}
+use lib.Bits.{bit_or}
+use lib.Dec.{eqb}
 use Rattle.flow.specs.Flow.{Flow, size}
 use Rattle.theory.specs.Lists.{all_below, differ}
 use Rattle.theory.specs.Doubled.{arcs_of, doubled}
@@ -21,15 +21,12 @@ use Rattle.theory.proofs.Below.{all_below-at, all_below-all}
 use Rattle.theory.proofs.Push.{alike}
 use Rattle.theory.proofs.Accept.{mask_held-or, row_held-empty, row_held-brings}
 use Rattle.theory.proofs.Pulls.{brings-lt}
-use Rattle.statements.specs.Clauses.Layout.{queue_at}
-use Rattle.statements.specs.Clauses.Ready.{Keeps}
-use Rattle.statements.proofs.Keeps.{keeps-refl}
 use Rattle.solve.specs.declared.Queue.{Queue}
-use Rattle.solve.specs.Clauses.Layout.{settled_in, area_end}
+use Rattle.solve.specs.Clauses.Layout.{settled_in}
 use Rattle.solve.specs.Clauses.Pushed.{masks_at}
 use Rattle.dataflow.specs.Clauses.Sent.{masks_below, SettledSet, Sends}
 use Rattle.dataflow.proofs.Visiting.{below_at}
-use Rattle.accept.specs.Clauses.Table.{Bytes, all_settled, Passing, Passed}
+use Rattle.accept.specs.Clauses.Table.{Bytes, all_settled, Passing}
 
 -- a test that passes from n on
 pub below_cut : (m n : ℕ) (p q : ℕ → Bool) → n ≤ m → ((a : ℕ) → a < n → p a ≡ q a) → ((a : ℕ) → n ≤ a → a < m → p a ≡ true) → all_below m p ≡ all_below n q

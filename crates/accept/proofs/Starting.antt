@@ -2,7 +2,7 @@
 use Prim.Native.Nat.{ℕ, ◌+◌, ◌*◌, ◌%◌, ◌≤◌, ◌<◌}
 use mathlib.Core.Bool.{Bool, true, false, cond, ◌&&◌}
 use mathlib.Core.List.{List, []}
-use mathlib.Core.Path.{◌≡◌, refl, sym, ap, ap₂, subst, ◌∙◌}
+use mathlib.Core.Path.{◌≡◌, refl, sym, ap, ap₂, ◌∙◌}
 use native.Mathlib.Decide.{ℕ_discrete}
 use native.Mathlib.Nat.{zero-add}
 use native.Mathlib.Omega.{arith}
@@ -13,7 +13,7 @@ use lib.ListN.{get_or}
 use Rattle.flow.specs.Flow.{Flow, size}
 use Rattle.theory.specs.Lists.{all_below}
 use Rattle.theory.specs.Doubled.{key_effects, boundary}
-use Rattle.theory.specs.Accept.{proposed, mask_held, row_held, entry_held}
+use Rattle.theory.specs.Accept.{proposed, mask_held, entry_held}
 use Rattle.theory.proofs.Lists.{same_test}
 use Rattle.theory.proofs.Below.{all_below-at, all_below-all}
 use Rattle.theory.proofs.MaskLaws.{all-lt}
@@ -21,7 +21,7 @@ use Rattle.statements.specs.Clauses.Layout.{queue_at, set_words}
 use Rattle.statements.specs.Clauses.Ready.{Keeps}
 use Rattle.statements.proofs.Keeps.{keeps-trans, keeps_widen}
 use Rattle.calls.specs.Clauses.Held.{Linked}
-use Rattle.solve.specs.Clauses.Layout.{set_row, back_row, mask_row_at, state_at, waits_in, nodes_end, area_end}
+use Rattle.solve.specs.Clauses.Layout.{back_row, state_at, area_end}
 use Rattle.solve.specs.Clauses.Rows.{mask_at}
 use Rattle.solve.specs.Clauses.Waiting.{Waits}
 use Rattle.solve.specs.Clauses.Pushed.{masks_at, Grown}

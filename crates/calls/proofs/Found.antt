@@ -1,7 +1,7 @@
 -- The slots from one on, by the list that they are made from: the edge in the first of them, and those behind it. The slots of a RETURN are the members of its row.
 -- By the list that the slots are made from.
 use Prim.Native.Nat.{ℕ, zero, suc, ◌+◌, ◌-◌, ◌≤◌, ◌<◌}
-use mathlib.Core.Bool.{Bool, true, false, cond, not, ◌||◌, or_comm}
+use mathlib.Core.Bool.{Bool, true, false, cond, ◌||◌, or_comm}
 use mathlib.Core.List.{List, [], ◌∷◌, ◌++◌, map}
 use mathlib.Core.Option.{Option, none, some}
 use mathlib.Core.Path.{◌≡◌, refl, sym, ◌∙◌, ap}
@@ -18,7 +18,7 @@ use Rattle.flow.specs.declared.Base.TheVariants.{Zero, N}
 use Rattle.flow.specs.Flow.{Flow, size}
 use Rattle.theory.specs.Lists.{any, elem, concat_map, option_list, up_to}
 use Rattle.theory.specs.Body.{kind, successors, call_lines, entered}
-use Rattle.theory.specs.Doubled.{Node, Edge, at, plain, number_in, same_node, returns_to}
+use Rattle.theory.specs.Doubled.{Edge, at, plain, number_in, same_node, returns_to}
 use Rattle.theory.proofs.Lists.{same_test, or-second, says_one, length-up_to}
 use Rattle.calls.specs.Clauses.Slots.{line_slot, line_slots, other_slot, other_slots, return_slots, listed_slots, present}
 use Rattle.calls.specs.Clauses.Class.{CallOf}

@@ -16,12 +16,12 @@ use Rattle.words.proofs.Row.{has-lt}
 use Rattle.words.proofs.Inserted.{inserted-other, insert_same, insert_other, insert_again}
 use Rattle.theory.specs.Lists.{elem, option_list}
 use Rattle.theory.specs.Queue.{join}
-use Rattle.theory.proofs.Lists.{clash, not_so, elem-last, elem-before}
+use Rattle.theory.proofs.Lists.{not_so, elem-last, elem-before}
 use Rattle.theory.proofs.Enqueue.{join-length}
 use Rattle.statements.specs.Clauses.Layout.{row_words, queue_at, entered_row_at, solver_at}
 use Rattle.statements.specs.Clauses.Ready.{Keeps}
 use Rattle.statements.proofs.WorkArea.{member-word, row-words-le, area-fits}
-use Rattle.statements.proofs.Keeps.{keeps-refl, keeps-trans, keeps_widen, keeps-word, keeps-has, keeps-inserted}
+use Rattle.statements.proofs.Keeps.{keeps-refl, keeps-trans, keeps_widen, keeps-has, keeps-inserted}
 use Rattle.calls.specs.Clauses.Held.{Area, Empty}
 use Rattle.calls.specs.Clauses.Orders.{firsts, entry_at, list_end, Entries, Put, Listing}
 

@@ -2,15 +2,15 @@
 use Prim.Native.Nat.{ℕ}
 use mathlib.Core.Bool.{Bool, true, false, cond}
 use mathlib.Core.List.Memᴰ
-use mathlib.Core.List.{List, [], ◌∷◌, map}
+use mathlib.Core.List.{List, map}
 use mathlib.Core.Option.{Option, none, some}
-use mathlib.Core.Path.{◌≡◌, refl, sym, ap, subst}
+use mathlib.Core.Path.{◌≡◌, refl, ap}
 use Rattle.flow.specs.declared.Base.{Base}
 use Rattle.flow.specs.declared.Base.TheVariants.{Zero, N}
 use Rattle.flow.specs.Flow.{Flow, size}
-use Rattle.theory.specs.Lists.{In, any, concat_map, option_list, select, up_to}
+use Rattle.theory.specs.Lists.{In, any, select, up_to}
 use Rattle.theory.specs.Body.{kind, successors, continuation_of, is_return, opaque_call}
-use Rattle.theory.specs.Doubled.{Node, Edge, at, plain, offset, returns_to, return_edges, listed_edges, edges_of, edges}
+use Rattle.theory.specs.Doubled.{Node, Edge, at, plain, returns_to, return_edges, listed_edges, edges_of, edges}
 use Rattle.theory.proofs.Lists.{In-map}
 
 -- a statement that is no call, and an opaque call, have no edge that carries the touched step

@@ -1,3 +1,5 @@
+#![tactic(auto)]
+
 // Body walks, call summaries and the edges of the doubled graph, kept in the work area.
 // The states of a body and of a call. An open body is being walked: whoever calls it then lies on a cycle of calls with it.
 pub const UNENTERED: u64 = 0;

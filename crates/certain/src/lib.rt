@@ -1,5 +1,7 @@
 // Names certainly written, forward over the listed graph: for each statement the names that may be unwritten when it starts, from the entry on, by a worklist in file
 // order; and from them the names that no statement reads too early.
+#![tactic(auto)]
+
 ghost use Rattle.std.specs.Prelude.{◌≡◌, [], ◌∷◌, ◌<◌, ◌≤◌, length};
 ghost use Rattle.flow.specs.Limits.{max_statements};
 ghost use Rattle.flow.specs.Format.{flow_of};

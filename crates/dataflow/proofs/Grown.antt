@@ -1,6 +1,6 @@
 -- A row of masks joined to those of the number x: what every number's masks are then, that a number is settled no more where they grew, and that what waits and what was sent by RETURNs is as before.
-use Prim.Native.Nat.{ℕ, ◌+◌, ◌*◌, ◌/◌, ◌<◌}
-use mathlib.Core.Bool.{Bool, true, false, cond}
+use Prim.Native.Nat.{ℕ, ◌*◌, ◌/◌, ◌<◌}
+use mathlib.Core.Bool.{Bool, cond}
 use mathlib.Core.List.{List}
 use mathlib.Core.Logic.{◌≢◌}
 use mathlib.Core.Path.{◌≡◌, refl, sym, ap, ap₂, subst, ◌∙◌}

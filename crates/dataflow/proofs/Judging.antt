@@ -1,12 +1,12 @@
 -- How the call answers: a file that is refused, areas that are too short, or an accepted flow, each gives the promise from what is known where the call returns.
 -- By the laws of verdicts: the areas' checks come after the file's.
-use Prim.Native.Nat.{ℕ, ◌+◌, ◌*◌, ◌≤◌, ◌<◌}
+use Prim.Native.Nat.{ℕ, ◌*◌, ◌≤◌}
 use native.Mathlib.Omega.{arith}
 use mathlib.Core.Bool.{Bool, true, false, cond, ◌&&◌}
 use mathlib.Core.List.{List}
 use mathlib.Core.Path.{◌≡◌, refl, ap, sym, ◌∙◌, subst}
 use lib.Dec.{leb}
-use lib.ListN.{length, get_or, replicate}
+use lib.ListN.{length, replicate}
 use borrow.Author.Tests.{leb-true}
 use Rattle.words.specs.Clauses.Change.{zeroed}
 use Rattle.words.proofs.Zeroed.{zeroed-all}

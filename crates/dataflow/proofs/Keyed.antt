@@ -1,6 +1,6 @@
 -- The key's edge: the masks of a number go to n + the handler as they are. They are joined there before the statement's edges are gone through, and that number waits after them. So what is sent is what
 -- all edges bring, and no edge of the number to itself changes what the key's edge carries.
-use Prim.Native.Nat.{ℕ, ◌+◌, ◌*◌, ◌/◌, ◌<◌}
+use Prim.Native.Nat.{ℕ, ◌*◌, ◌<◌}
 use mathlib.Core.Bool.{Bool, true, false, cond}
 use mathlib.Core.List.{List, [], ◌∷◌, ◌++◌, append-nil}
 use mathlib.Core.Option.{Option, none, some, none-ne-some, some-injective}
@@ -11,7 +11,6 @@ use lib.Dec.{eqb, ltb}
 use Rattle.flow.specs.declared.Base.TheVariants.{N}
 use Rattle.flow.specs.Flow.{Flow, size}
 use Rattle.theory.specs.Key.{on_handler}
-use Rattle.theory.specs.Lists.{differ}
 use Rattle.theory.specs.Doubled.{at, number, key_arcs, arcs_of, doubled}
 use Rattle.theory.specs.Queue.{Arc, brings, enqueue, step_all}
 use Rattle.theory.specs.Clauses.WellFormed.{WellFormed}
@@ -24,12 +23,12 @@ use Rattle.solve.specs.declared.Queue.{Queue}
 use Rattle.solve.specs.Clauses.Layout.{mask_row_at, settled_in, nodes_end, area_end}
 use Rattle.solve.specs.Clauses.Waiting.{Waits, Enqueued}
 use Rattle.solve.specs.Clauses.Pushed.{masks_at, Grown}
-use Rattle.solve.proofs.Room.{row_from, row_fits, nodes-within, not-state}
+use Rattle.solve.proofs.Room.{row_from, nodes-within, not-state}
 use Rattle.solve.proofs.Masks.{mask-cong, differ_as}
 use Rattle.solve.proofs.Waiting.{rest-keeps}
 use Rattle.dataflow.specs.Clauses.Sent.{masks_below, SettledSet, Grows, Shared, statement_arcs, Sends, KeyGrown, KeyJoined}
 use Rattle.dataflow.proofs.Unions.{differ_self}
-use Rattle.dataflow.proofs.Sending.{enqueue-append, joined-grows, grows_then, settled-then}
+use Rattle.dataflow.proofs.Sending.{enqueue-append, grows_then, settled-then}
 use Rattle.dataflow.proofs.Sharing.{shared-stays}
 use Rattle.dataflow.proofs.Grown.{grown-masks, grown-settled, grown_grows, grown-keeps, grown-shared, grown-waits}
 use Rattle.dataflow.proofs.Visiting.{below_or}

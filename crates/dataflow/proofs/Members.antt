@@ -1,11 +1,11 @@
 -- Where a RETURN goes on from: the next member of its row is the next continuation, and the slots between are empty.
 -- By what the rows of RETURNs hold.
-use Prim.Native.Nat.{ℕ, ◌+◌, ◌≤◌, ◌<◌}
+use Prim.Native.Nat.{ℕ, ◌≤◌, ◌<◌}
 use mathlib.Core.Bool.{Bool, true, false, cond}
 use mathlib.Core.List.{List}
 use mathlib.Core.Path.{◌≡◌, refl, sym, subst, ◌∙◌}
 use native.Mathlib.Omega.{arith}
-use Rattle.words.specs.Clauses.Row.{has, next_member, First}
+use Rattle.words.specs.Clauses.Row.{next_member, First}
 use Rattle.words.proofs.NextMember.{first}
 use Rattle.flow.specs.declared.Base.TheVariants.{Zero}
 use Rattle.flow.specs.Flow.{Flow, size}

@@ -25,7 +25,7 @@ use Rattle.theory.specs.Key.{opaque_handler}
 use Rattle.theory.specs.Masks.{any_state, mask_left}
 use Rattle.theory.specs.Live.{live_in_word, live_out_word}
 use Rattle.theory.proofs.Lists.{clash}
-use Rattle.statements.specs.Clauses.Layout.{sure_at, row_words, lines_at, bodies_at, matrix_at, queue_at, entered_row_at, returns_row_at, set_words}
+use Rattle.statements.specs.Clauses.Layout.{sure_at, lines_at, bodies_at, matrix_at, queue_at, entered_row_at, set_words}
 use Rattle.statements.specs.Clauses.Ready.{Ready, Indexed, Keeps}
 use Rattle.statements.proofs.Noted.{ready-noted}
 use Rattle.statements.proofs.Keeps.{keeps-zeroed, keeps_widen, ready-keeps, ready-room, indexed-keeps}

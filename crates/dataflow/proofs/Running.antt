@@ -19,7 +19,6 @@ use Rattle.theory.specs.Key.{handler_touches}
 use Rattle.theory.specs.Doubled.{doubled, key_effects, boundary}
 use Rattle.theory.specs.Queue.{Graph, begins, next_visit, Over, step_all, pulled, initial, visit, visit_bound}
 use Rattle.theory.specs.Clauses.WellFormed.{WellFormed}
-use Rattle.theory.proofs.Lists.{clash}
 use Rattle.theory.proofs.Terms.{doubled_well_formed}
 use Rattle.theory.proofs.Ends.{course-keeps, course-bound, potential}
 use Rattle.theory.proofs.Exact.{pulled-held}

@@ -3,7 +3,7 @@
 use Prim.Native.Nat.{ℕ, ◌+◌, ◌*◌, ◌≤◌, ◌<◌}
 use mathlib.Core.Bool.{Bool, true, false, cond}
 use mathlib.Core.List.{List, [], ◌∷◌, ◌++◌, map, map-append, append-nil, append_assoc}
-use mathlib.Core.Logic.{◌≢◌, ◌⊎◌, inl, inr}
+use mathlib.Core.Logic.{inl, inr}
 use mathlib.Core.Path.{◌≡◌, refl, sym, ap, ap₂, subst, ◌∙◌}
 use native.Mathlib.Decide.{ℕ_discrete}
 use native.Mathlib.Omega.{arith}
@@ -18,15 +18,14 @@ use Rattle.theory.specs.Lists.{differ}
 use Rattle.theory.specs.Queue.{Arc, join, enqueue}
 use Rattle.theory.specs.Doubled.{Edge, at, number, number_in}
 use Rattle.theory.proofs.Push.{differ_chain}
-use Rattle.statements.specs.Clauses.Layout.{queue_at}
-use Rattle.statements.specs.Clauses.Ready.{Ready, Keeps}
+use Rattle.statements.specs.Clauses.Ready.{Ready}
 use Rattle.statements.proofs.Keeps.{keeps-refl, keeps-trans, ready_formed, ready-below}
 use Rattle.calls.specs.declared.edges.Call.{Call}
 use Rattle.calls.specs.Clauses.Class.{CallOf}
 use Rattle.calls.specs.Clauses.Slots.{to_arc}
 use Rattle.calls.proofs.Slots.{or_assoc}
 use Rattle.solve.specs.declared.Queue.{Queue}
-use Rattle.solve.specs.Clauses.Layout.{set_row, out_row, back_row, mask_row_at, settled_in, nodes_end}
+use Rattle.solve.specs.Clauses.Layout.{out_row, mask_row_at, settled_in}
 use Rattle.solve.specs.Clauses.Rows.{mask_at}
 use Rattle.solve.specs.Clauses.Waiting.{Waits, Enqueued}
 use Rattle.solve.specs.Clauses.Pushed.{masks_at, Source, Pushed}

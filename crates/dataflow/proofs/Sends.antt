@@ -1,6 +1,6 @@
 -- One number sends its masks on: its edges' rows are made and pushed along the edges. The rows stand beside the solver's state, so what was pushed is what the
 -- doubled graph's edges bring.
-use Prim.Native.Nat.{ℕ, ◌+◌, ◌-◌, ◌*◌, ◌/◌, ◌%◌, ◌≤◌, ◌<◌}
+use Prim.Native.Nat.{ℕ, ◌+◌, ◌*◌, ◌/◌, ◌%◌, ◌≤◌, ◌<◌}
 use mathlib.Core.Bool.{Bool, true, false, cond, not, ◌&&◌, ◌||◌, and-true}
 use mathlib.Core.List.{List, [], ◌∷◌}
 use mathlib.Core.Option.{none, some}
@@ -17,12 +17,12 @@ use Rattle.masks.specs.Step.{step_of}
 use Rattle.flow.specs.declared.Base.{Base}
 use Rattle.flow.specs.declared.Base.TheVariants.{Zero, N}
 use Rattle.flow.specs.Flow.{Flow, size}
-use Rattle.theory.specs.Lists.{In, any, elem, differ}
+use Rattle.theory.specs.Lists.{In, any, elem}
 use Rattle.theory.specs.Body.{kind, continuation_of, entered, opaque_call, call_touches}
 use Rattle.theory.specs.Key.{handler_touches}
 use Rattle.theory.specs.Sure.{sure}
 use Rattle.theory.specs.Doubled.{Node, Edge, at, same_base, same_node, node, edges, statement_effects, entering, own_effects, key_effects, edge_effects}
-use Rattle.theory.specs.Queue.{step_all, brings, enqueue}
+use Rattle.theory.specs.Queue.{step_all, brings}
 use Rattle.theory.proofs.Lists.{says_one}
 use Rattle.theory.proofs.Edges.{same-node, continues-at}
 use Rattle.statements.specs.Clauses.Layout.{sure_at, calls_at, call_touched_at, max_width}

@@ -15,19 +15,18 @@ use lib.Bits.{bit_or, or_self, or_comm, or_zero_r}
 use lib.Dec.{eqb}
 use lib.ListN.{length, get_or, drop}
 use Rattle.words.specs.Clauses.Row.{has}
-use Rattle.words.specs.Clauses.Change.{unioned, Unioned, ReadFirst}
-use Rattle.words.proofs.Unioned.{length-unioned, unioned-other, union_same}
+use Rattle.words.specs.Clauses.Change.{Unioned, ReadFirst}
 use Rattle.flow.specs.declared.Base.TheVariants.{Zero}
 use Rattle.flow.specs.Flow.{Flow, size}
 use Rattle.theory.specs.Lists.{In, any, up_to, concat_map, option_list}
 use Rattle.theory.specs.Body.{kind, is_return}
 use Rattle.theory.specs.Doubled.{Edge, at, plain, number, returns_to}
-use Rattle.statements.specs.Clauses.Layout.{bodies_at, row_at, queue_at, solver_at}
+use Rattle.statements.specs.Clauses.Layout.{bodies_at, row_at, queue_at}
 use Rattle.statements.specs.Clauses.Ready.{Keeps}
 use Rattle.statements.proofs.WorkArea as area
 use Rattle.statements.proofs.Keeps.{keeps-has, keeps-unioned, keeps_widen, keeps-trans}
 use Rattle.statements.proofs.Members.{zero_has}
-use Rattle.calls.specs.Clauses.Held.{Leads, Linked}
+use Rattle.calls.specs.Clauses.Held.{Linked}
 use Rattle.calls.specs.Clauses.Slots.{return_slots, present}
 use Rattle.calls.proofs.Slots.{or_assoc}
 use Rattle.calls.proofs.Found.{member-here}
@@ -36,7 +35,7 @@ use Rattle.solve.specs.Clauses.Layout.{mask_row_at, state_at, nodes_end, sent_ro
 use Rattle.solve.specs.Clauses.Rows.{mask_at}
 use Rattle.solve.specs.Clauses.Waiting.{Waits}
 use Rattle.solve.specs.Clauses.Pushed.{masks_at, Source}
-use Rattle.solve.proofs.Room.{row_from, row_first, row_fits, nodes-within, sent-apart, sent-from}
+use Rattle.solve.proofs.Room.{row_from, row_fits, nodes-within, sent-apart, sent-from}
 use Rattle.solve.proofs.Masks.{mask-cong, unioned-mask, differ_as}
 use Rattle.solve.proofs.Waiting.{waits_kept}
 use Rattle.solve.proofs.Growing.{source_fits}

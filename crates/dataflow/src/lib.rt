@@ -1,4 +1,6 @@
 // `array_states`, live names, names certainly written and names that get in each other's way: the answers to a flow file.
+#![tactic(auto)]
+
 pub mod arrays;
 pub mod conflicts;
 pub mod door;

@@ -1,4 +1,5 @@
 // The flow file: what it may hold, which file is refused and why, and the fields of a statement's record.
+#![tactic(auto)]
 
 // The limits of a flow file.
 pub const MAX_FILE: usize = 262144;

@@ -1,4 +1,6 @@
 // Names that get in each other's way: a word a name, from the live sets of all statements and their writes; and how many names are live at once.
+#![tactic(auto)]
+
 ghost use Rattle.std.proofs.Math.Option.{none, some};
 ghost use Rattle.std.specs.Prelude.{◌≡◌, ℕ, ◌^◌, ◌<◌, ◌≤◌, length, get_or};
 ghost use Rattle.std.specs.Int.Count.{ones};

@@ -12,7 +12,7 @@ use mir.Syntax.{w8}
 use Rattle.flow.specs.Limits.{max_arrays, work_words}
 use Rattle.flow.specs.declared.Refusal.{Refusal}
 use Rattle.flow.specs.Refusals.{number_of, place_of}
-use Rattle.flow.specs.Format.{Verdict, fit, flow_of, statements_of, arrays_of, record_place}
+use Rattle.flow.specs.Format.{Verdict, flow_of, statements_of, arrays_of, record_place}
 use Rattle.flow.proofs.Numbers.{le_at-lt}
 use Rattle.records.proofs.Files.{limited}
 use Rattle.records.proofs.Statements.{says, size_is}

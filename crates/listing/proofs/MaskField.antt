@@ -1,6 +1,6 @@
 -- The field of masks is a dash without arrays, else one digit an array; the text depends only on the masks and words of statements and arrays that there are.
 -- By the cases of the definitions, field by field.
-use Prim.Native.Nat.{ℕ, zero, suc, ◌+◌, ◌<◌}
+use Prim.Native.Nat.{ℕ, zero, suc, ◌<◌}
 use native.Mathlib.Omega.{arith}
 use mathlib.Core.List.{List, [], ◌∷◌, ◌++◌}
 use mathlib.Core.Path.{◌≡◌, refl, sym, ap, ap₂, ◌∙◌}

@@ -1,4 +1,6 @@
 // The listing program: reads a flow file from standard input, and prints each statement with its masks and its live names.
+#![tactic(auto)]
+
 ghost use Rattle.listing.specs.Text.{HoldsText};
 
 mod lines;

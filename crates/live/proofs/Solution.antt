@@ -8,7 +8,6 @@ use mathlib.Core.Path.{◌≡◌, sym, subst}
 use native.Mathlib.Omega.{arith}
 use lib.ListN.{get_or}
 use Rattle.words.specs.Clauses.Row.{bit}
-use Rattle.flow.specs.Flow.{size}
 use Rattle.flow.specs.Format.{flow_of, names_of}
 use Rattle.theory.specs.Live.{member, LiveIn, is_live_in, is_live_out, live_in_word, live_out_word}
 use Rattle.theory.proofs.Lists.{same_test}

@@ -1,5 +1,7 @@
 // Live names, backward over the listed graph: by sweeps, and where these do not settle, by a worklist that pushes what is live at a statement's start
 // to its predecessors.
+#![tactic(auto)]
+
 ghost use Rattle.std.specs.Prelude.{List, [], ◌≡◌, ℕ, ◌-◌, ◌<◌, ◌≤◌, length};
 ghost use Rattle.flow.specs.Limits.{max_statements};
 ghost use Rattle.flow.specs.Format.{flow_of};

@@ -1,4 +1,6 @@
 // The states of an array, masks of them, and the one place where a mask is stepped.
+#![tactic(auto)]
+
 ghost use Rattle.std.specs.Prelude.{◌≡◌, ◌+◌, ◌*◌, ◌<◌};
 ghost use Rattle.words.specs.Clauses.Row.{bit};
 ghost use Rattle.masks.specs.Step.{step_of};

@@ -1,6 +1,6 @@
 -- The parts that the lines fall into: a line's part is one of them, the noting of one record keeps what their words say, and a line stands among the records of its part.
 -- By the cases whether a part was met before.
-use Prim.Native.Nat.{ℕ, ◌+◌, ◌*◌, ◌/◌, ◌%◌, ◌≤◌, ◌<◌}
+use Prim.Native.Nat.{ℕ, ◌+◌, ◌*◌, ◌%◌, ◌≤◌, ◌<◌}
 use native.Mathlib.Omega.{arith}
 use native.Mathlib.Decide.{ℕ_discrete}
 use native.Mathlib.Nat.{mul-le-mul_right, eq-or-lt_of_le, pos_of_ne-zero}
@@ -17,7 +17,7 @@ use mir.Val.{Fits}
 use Rattle.flow.specs.Format.{line_count, line_place, line_number}
 use Rattle.flow.specs.Clauses.Answers.{FitFile}
 use Rattle.flow.proofs.Numbers.{le_at-lt}
-use Rattle.records.specs.Clauses.Fields.{part_of, LinePart, LineParts, PartsNoted}
+use Rattle.records.specs.Clauses.Fields.{part_of, LinePart, PartsNoted}
 use Rattle.records.proofs.Files.{limited}
 use Rattle.records.proofs.LineSearch.{lines_end}
 

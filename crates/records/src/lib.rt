@@ -1,4 +1,6 @@
 // Fields of a statement's record at p, which was found fit.
+#![tactic(auto)]
+
 ghost use Rattle.std.specs.Prelude.{◌≡◌, ◌+◌, ◌≤◌, ◌<◌, length};
 ghost use Rattle.flow.specs.Format.{line_at, kind_at, successor_count, successor_at, references_place, reference_count, reference_at, names_place, written_at, read_at, data_place, item_at, record_end};
 ghost use Rattle.flow.specs.Clauses.Answers.{FitRecord};

@@ -1,5 +1,7 @@
 // Replays the stored answers: each case is a flow file, the lengths of the lent areas, and what they must be answered.
 // It prints the number of each case that is answered otherwise, and how many cases there are.
+#![tactic(auto)]
+
 ghost use Rattle.std.specs.Prelude.{◌^◌, ◌<◌};
 
 mod answers;

@@ -3,7 +3,7 @@
 use Prim.Native.Nat.{ℕ, ◌+◌, ◌*◌, ◌/◌, ◌%◌, ◌≤◌, ◌<◌}
 use mathlib.Core.Bool.{Bool, true, false, cond}
 use mathlib.Core.List.{List}
-use mathlib.Core.Logic.{◌≢◌, ◌⊎◌, inl, inr}
+use mathlib.Core.Logic.{◌≢◌, inl, inr}
 use mathlib.Core.Path.{◌≡◌, refl, sym, ap, subst, ◌∙◌}
 use native.Mathlib.Decide.{dec_lt, ℕ_discrete}
 use native.Mathlib.Omega.{arith}
@@ -12,14 +12,12 @@ use lib.ListN.{length, get_or, set}
 use lib.Seq.{get_or-set_same, get_or-set_other}
 use Rattle.words.specs.Clauses.Row.{Words}
 use Rattle.words.specs.Clauses.Change.{unioned, Unioned, ReadFirst}
-use Rattle.words.proofs.Unioned.{words-unioned, length-unioned, union_same}
+use Rattle.words.proofs.Unioned.{words-unioned, union_same}
 use Rattle.theory.specs.Lists.{differ}
-use Rattle.theory.specs.Queue.{join}
-use Rattle.statements.specs.Clauses.Layout.{queue_at, solver_at}
 use Rattle.statements.specs.Clauses.Ready.{Keeps}
 use Rattle.statements.proofs.Keeps.{keeps-set, keeps-unioned, keeps-trans, keeps-refl, keeps_widen}
 use Rattle.solve.specs.declared.Queue.{Queue}
-use Rattle.solve.specs.Clauses.Layout.{set_row, mask_row_at, state_at, waits_in, settled_in, nodes_end}
+use Rattle.solve.specs.Clauses.Layout.{mask_row_at, state_at, waits_in, settled_in, nodes_end}
 use Rattle.solve.specs.Clauses.Rows.{mask_at}
 use Rattle.solve.specs.Clauses.Waiting.{Waits, Enqueued, unsettled}
 use Rattle.solve.specs.Clauses.Pushed.{masks_at, Source, Grown, Pushed}

@@ -9,7 +9,7 @@ use mathlib.Core.Logic.{◌≢◌}
 use mathlib.Core.Path.{◌≡◌}
 use lib.ListN.{length}
 use Rattle.flow.specs.Limits.{max_statements, work_words}
-use Rattle.statements.specs.Clauses.Layout.{max_width, queue_at}
+use Rattle.statements.specs.Clauses.Layout.{max_width}
 use Rattle.statements.specs.Clauses.Ready.{Ready}
 use Rattle.statements.proofs.Keeps.{ready-most}
 use Rattle.statements.proofs.WorkArea.{queue-place, queue-below}

@@ -1,5 +1,7 @@
 // The worklist, and what a solver's step does with it, over rows of sets in the work area. It knows nothing of
 // flow files: a row is pushed along an edge to a doubled number.
+#![tactic(auto)]
+
 ghost use Rattle.std.specs.Prelude.{◌≡◌, ◌*◌, ◌<◌, ◌≤◌};
 ghost use Rattle.flow.specs.Limits.{max_statements};
 ghost use Rattle.solve.specs.Clauses.Waiting.{wrapped, ring_words, rest_of};

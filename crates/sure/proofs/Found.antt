@@ -16,11 +16,11 @@ use Rattle.words.specs.Clauses.Row.{Words, bit, has}
 use Rattle.words.proofs.Bit.{bit-lt, bit_not, bit_of_zero, bits_below}
 use Rattle.words.proofs.Row.{has-cong}
 use Rattle.words.proofs.Pair.{set-low, set-high}
-use Rattle.flow.specs.Flow.{Flow, Kind, size}
+use Rattle.flow.specs.Flow.{Flow, Kind}
 use Rattle.flow.specs.Format.{flow_of}
 use Rattle.theory.specs.Lists.{In, any, select}
 use Rattle.theory.specs.Reach.{Reach}
-use Rattle.theory.specs.Body.{kind, callees, is_return, walk_next, Walks, opaque_call}
+use Rattle.theory.specs.Body.{kind, is_return, walk_next, Walks, opaque_call}
 use Rattle.theory.specs.Sure.{is_gosub, gosub_body, Returns, can_return, returning, Missed, missed, sure}
 use Rattle.theory.proofs.Lists.{clash, not_so, any_find}
 use Rattle.theory.proofs.Reach.{reach_first}
@@ -33,7 +33,7 @@ use Rattle.statements.proofs.Names.{no_array}
 use Rattle.statements.proofs.WorkArea.{row_from, row_fits, member-word}
 use Rattle.solve.specs.Clauses.Sets.{Comes, Due, Within}
 use Rattle.sure.specs.Clauses.Layout.{set_at, first_at, elements, mirror}
-use Rattle.sure.specs.Clauses.Noting.{body_word, Asks, FollowsFrom, Noted, Followers, Waits, StatementsNoted}
+use Rattle.sure.specs.Clauses.Noting.{body_word, Asks, FollowsFrom, Followers, Waits, StatementsNoted}
 use Rattle.sure.specs.Clauses.Missing.{backward, sets, ReturnsAskNone, Held, Exact}
 use Rattle.sure.specs.Clauses.SureArrays.{opened, unmissed, WordsBecome, Opened, SureWords}
 use Rattle.sure.proofs.Followers.{noted-same}

@@ -1,5 +1,7 @@
 // The arrays that are sure for a plain GOSUB, for all bodies at once: which statements miss an array follows backward along the body walks. At a plain GOSUB a walk misses only what its
 // body misses; and what that is follows in the same way. A body without a RETURN is not asked, but which have none is known only afterwards: their GOSUBs are then visited again.
+#![tactic(auto)]
+
 ghost use Rattle.std.specs.Prelude.{◌≡◌, ℕ, ◌+◌, ◌<◌, ◌≤◌, length, get_or};
 ghost use Rattle.flow.specs.Limits.{max_statements};
 ghost use Rattle.flow.specs.Format.{flow_of};

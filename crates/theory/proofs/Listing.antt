@@ -1,6 +1,6 @@
 -- The listing's decimal is the number that `io::decimal` writes: `places n` is the fewest digits that hold n, and there is only one such number.
 -- By the recursion of `places`, a digit at a time; two numbers of digits that differ would have a power of ten between them. Assumes nothing.
-use Prim.Native.Nat.{ℕ, zero, suc, ◌-◌, ◌*◌, ◌/◌, ◌^◌, ◌≤◌, ◌<◌}
+use Prim.Native.Nat.{ℕ, zero, suc, ◌*◌, ◌/◌, ◌^◌, ◌≤◌, ◌<◌}
 use mathlib.Core.Bool.{Bool, true, false, cond}
 use mathlib.Core.Path.{◌≡◌, refl}
 use native.Mathlib.Nat.{pow-le-pow_right}

@@ -1,6 +1,6 @@
 -- Reachability over lists of next numbers: body walks and calls between bodies are instances of it. `Reach` is the definition; `reached`
 -- is the list that decides it for numbers below n.
-use Rattle.std.specs.Prelude.{ℕ, zero, suc, ◌+◌, true, false, List, [], ◌∷◌, ◌++◌, length}
+use Rattle.std.specs.Prelude.{ℕ, zero, suc, true, false, List, [], ◌∷◌, ◌++◌, length}
 use Rattle.theory.specs.Lists.{In, elem, sum_below}
 
 -- a walk of any length from e to i

@@ -1,5 +1,7 @@
 // Bit sets kept in rows of 64-bit words of a lent slice. A row starts at word `base`; number i is
 // bit i % 64 of word base + i / 64.
+#![tactic(auto)]
+
 ghost use Rattle.std.specs.Prelude.{◌≡◌, ◌+◌, ◌-◌, ◌*◌, ◌/◌, ◌^◌, ◌≤◌, ◌<◌, min, eqb, length};
 ghost use Rattle.words.specs.Clauses.Row.{has, members, next_member, SomeMember};
 ghost use Rattle.words.specs.Clauses.Change.{Joined, PairJoined, Inserted, removed, Unioned, zeroed, without, Chosen};

@@ -1,4 +1,6 @@
 // The doors of the library for other languages: each says the answer of a proved call as numbers, and does nothing else.
+#![tactic(auto)]
+
 pub mod check;
 pub mod conflicts;
 pub mod names;

@@ -2,7 +2,6 @@
 -- wait satisfies its equation. The measure: the numbers that wait and the bits that no live_out word has yet. Assumes nothing.
 use Prim.Native.Nat.{◌+◌}
 use native.Mathlib.Omega.{arith}
-use borrow.Author.Tests.{not-true}
 use Rattle.flow.specs.Format.{flow_of}
 use Rattle.statements.proofs.Keeps.{keeps-refl}
 use Rattle.live.specs.Clauses.Spread.{missing}

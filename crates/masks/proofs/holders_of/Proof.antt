@@ -1,6 +1,5 @@
 -- `masks::holders_of` meets its contract: the set of DIMMED chooses between the words of masks with DIMMED and without, which makes the whole mask. Assumes nothing.
 use native.Mathlib.Omega.{arith}
-use Prim.Native.Nat.{ℕ}
 use borrow.Author.Rules.{rules}
 use Rattle.words.specs.Clauses.Row.{bit}
 use Rattle.masks.specs.Clauses.Sets.{mask_of, StepBits}

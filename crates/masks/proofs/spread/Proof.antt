@@ -1,11 +1,10 @@
 -- `masks::spread` meets its contract: the branch says what the bit is, and every bit of the word is that.
 -- Assumes nothing.
 use borrow.Author.Rules.{rules}
-use mathlib.Core.Path.{◌∙◌, sym}
-use Prim.Native.Nat.{◌<◌}
+use mathlib.Core.Path.{◌∙◌}
 use native.Mathlib.Omega.{arith}
 use Rattle.words.specs.Clauses.Row.{bit}
-use Rattle.words.proofs.Bit.{bit-lt, bit_not, bit_of_zero}
+use Rattle.words.proofs.Bit.{bit_not, bit_of_zero}
 use Rattle.masks.proofs.spread.Statement.{statement}
 use Rattle.masks.proofs.spread.Tie as tie
 

@@ -2,12 +2,12 @@
 -- Assumes nothing.
 use borrow.Author.Rules.{rules}
 use mathlib.Core.Bool.{◌||◌}
-use mathlib.Core.Logic.{⊎_elim, inl, inr}
+use mathlib.Core.Logic.{⊎_elim}
 use mathlib.Core.Path.{◌≡◌}
 use native.Mathlib.Omega.{arith}
 use borrow.Author.Tests.{ne_eqb, lt-ltb, le-ltb}
 use lib.Dec.{ltb}
-use Rattle.flow.specs.Format.{kind_at, reference_count}
+use Rattle.flow.specs.Format.{reference_count}
 use Rattle.records.specs.Clauses.Fields.{item_count, acts_at}
 use Rattle.records.proofs.acts.Statement.{statement}
 use Rattle.records.proofs.acts.Tie as tie

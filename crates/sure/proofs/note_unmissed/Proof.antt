@@ -1,10 +1,10 @@
 -- `note_unmissed` meets its contract. The invariant: the first c words have become what they shall.
 -- Assumes nothing.
 use Prim.Native.Nat.{ℕ, ◌+◌, ◌-◌, ◌≤◌}
-use mathlib.Core.Path.{◌≡◌, refl, ap, ◌∙◌, subst}
+use mathlib.Core.Path.{◌≡◌, ap, ◌∙◌, subst}
 use native.Mathlib.Nat.{le_refl}
 use native.Mathlib.Omega.{arith}
-use lib.ListN.{length, get_or}
+use lib.ListN.{get_or}
 use Rattle.statements.specs.Clauses.Layout.{sure_at}
 use Rattle.statements.proofs.WorkArea.{row_from}
 use Rattle.sure.specs.Clauses.SureArrays.{unmissed}

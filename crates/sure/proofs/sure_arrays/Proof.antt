@@ -1,6 +1,5 @@
 -- `sure_arrays` meets its contract: each phase finds what it needs, and in the end the words are those of the sure arrays.
 -- Assumes nothing.
-use borrow.Author.Tests.{not-true}
 use Rattle.statements.proofs.Keeps.{ready-most}
 use Rattle.sure.proofs.Kept.{only-room}
 use Rattle.sure.proofs.Course.{words-room, ready-bodies, none-sure, ready-noted, bodies-noted, bodies-solved, ready-opened, firsts_opened, bodies_opened, bodies_again, all_noted}

@@ -3,12 +3,11 @@
 use borrow.Author.Rules.{rules}
 use mathlib.Core.Bool.{cond}
 use mathlib.Core.Path.{◌≡◌, ap, ap₂, ◌∙◌}
-use Prim.Native.Nat.{ℕ, zero, suc, ◌-◌, ◌^◌, ◌<◌, min, max}
+use Prim.Native.Nat.{ℕ, zero, suc, ◌-◌, ◌<◌, min, max}
 use native.Mathlib.Omega.{arith}
 use lib.Bits.{bit_and}
 use lib.Dec.{eqb}
 use Rattle.words.specs.Clauses.Row.{bit}
-use Rattle.words.specs.Clauses.Change.{without}
 use Rattle.words.proofs.Bit.{bit-lt, bit-or, bit-and, bit-without}
 use Rattle.words.proofs.choose.Statement.{statement}
 use Rattle.words.proofs.choose.Tie as tie

@@ -6,7 +6,7 @@ use native.Mathlib.Omega.{arith}
 use mathlib.Core.Path.{sym, subst}
 use lib.ListN.{get_or}
 use Rattle.words.specs.Clauses.Change.{Joined}
-use Rattle.words.proofs.Unioned.{Joining, joining_none, joining_more}
+use Rattle.words.proofs.Unioned.{joining_none, joining_more}
 use borrow.Author.Rules.{rules}
 use Rattle.words.proofs.union_three.Statement.{statement}
 use Rattle.words.proofs.union_three.Tie as tie

@@ -1,8 +1,8 @@
 -- `accept::door::accept` meets its promise: at each return the reader's answer, the tests of the areas and of the bytes and what was found say which part of the promise holds.
 -- Assumes nothing.
-use borrow.Author.Tests.{not-true, not-false, leb-true}
+use borrow.Author.Tests.{leb-true}
 use native.Mathlib.Nat.{pos_of_ne-zero, mul-le-mul_left}
-use Prim.Native.Nat.{ℕ, ◌*◌, ◌<◌, ◌≤◌}
+use Prim.Native.Nat.{◌*◌, ◌<◌, ◌≤◌}
 use mathlib.Core.Bool.{Bool, true, false}
 use mathlib.Core.Path.{◌≡◌, refl, ap, sym, ◌∙◌, subst}
 use lib.Dec.{leb}

@@ -1,7 +1,5 @@
 -- `accept::rows::gather` meets its contract, by the law of its shifts.
 use Rattle.accept.proofs.Gathering.{gathers}
-use borrow.Author.Rules.{rules}
-use native.Mathlib.Omega.{arith}
 use Rattle.accept.proofs.rows.gather.Statement.{statement}
 use Rattle.accept.proofs.rows.gather.Tie as tie
 

@@ -4,7 +4,6 @@ use Prim.Native.Nat.{ℕ, ◌+◌, ◌-◌, ◌*◌, ◌≤◌}
 use mathlib.Core.List.{List}
 use mathlib.Core.Path.{◌≡◌, sym, ap, subst, ◌∙◌}
 use lib.ListN.{length, set}
-use Rattle.statements.specs.Clauses.Layout.{max_width}
 use Rattle.solve.specs.Clauses.Layout.{mask_row_at, state_at, waits_in, nodes_end}
 use Rattle.solve.specs.Clauses.Rows.{RowIs}
 use Rattle.dataflow.specs.Clauses.Sent.{masks_below}

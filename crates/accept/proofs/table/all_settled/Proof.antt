@@ -13,7 +13,6 @@ use borrow.Author.Rules.{rules}
 use native.Mathlib.Omega.{arith}
 use Rattle.accept.proofs.table.all_settled.Statement.{statement}
 use Rattle.accept.proofs.table.all_settled.Tie as tie
-use Rattle.solve.proofs.layout.state.Reads as state-reads
 
 abbrev invariant-loop : tie.invariant-loop-d
 invariant-loop work n width d₀ d = (d ≤ 2 * n) × ((x : ℕ) → x < d → settled_in work n width x ≡ 1)

@@ -12,7 +12,6 @@ use borrow.Author.Rules.{rules}
 use native.Mathlib.Omega.{arith}
 use Rattle.accept.proofs.table.is_filled.Statement.{statement}
 use Rattle.accept.proofs.table.is_filled.Tie as tie
-use Rattle.solve.proofs.layout.mask_row.Reads as mask-row-reads
 
 abbrev invariant-loop : tie.invariant-loop-k
 invariant-loop work n width row k₀ k = (k ≤ width) × ((a : ℕ) → a < 64 * k → mask_at work width row a ≡ 0)

@@ -1,7 +1,6 @@
 -- `accept::table::pass_row` meets its contract: a row that is all zero is passed by, and of any other the masks go along the edges.
-use Prim.Native.Nat.{ℕ, ◌*◌, ◌≤◌}
-use mathlib.Core.Path.{◌≡◌, sym, ap, subst, ◌∙◌}
-use Rattle.flow.specs.Flow.{Flow}
+use Prim.Native.Nat.{◌*◌, ◌≤◌}
+use mathlib.Core.Path.{sym, ap, subst, ◌∙◌}
 use Rattle.flow.specs.Format.{flow_of}
 use Rattle.records.proofs.Files.{limited}
 use Rattle.statements.specs.Clauses.Layout.{max_width}

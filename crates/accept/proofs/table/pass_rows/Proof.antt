@@ -2,7 +2,7 @@
 -- The measure is what is left of them.
 use Prim.Native.Nat.{ℕ, ◌-◌, ◌*◌, ◌≤◌}
 use mathlib.Core.Bool.{◌&&◌}
-use mathlib.Core.Path.{◌≡◌, sym, ap, subst, ◌∙◌}
+use mathlib.Core.Path.{◌≡◌, ap, subst, ◌∙◌}
 use Rattle.flow.specs.Format.{flow_of}
 use Rattle.theory.specs.Lists.{all_below}
 use Rattle.theory.specs.Accept.{Proposal, entry_held, row_held}

@@ -1,6 +1,6 @@
 -- `note_leaders` meets its contract. The invariant, `Leading`: the RETURNs before r have their leaders. The measure is what is left of the statements.
 -- Assumes nothing.
-use Prim.Native.Nat.{ℕ, ◌+◌, ◌-◌}
+use Prim.Native.Nat.{◌+◌, ◌-◌}
 use native.Mathlib.Omega.{arith}
 use lib.ListN.{set, length-set}
 use Rattle.flow.specs.Format.{flow_of}

@@ -4,7 +4,7 @@ use Prim.Native.Nat.{ℕ, ◌-◌, ◌≤◌}
 use mathlib.Core.List.{List, []}
 use mathlib.Core.Path.{subst}
 use native.Mathlib.Omega.{arith}
-use lib.ListN.{length, get_or, take}
+use lib.ListN.{get_or, take}
 use Rattle.flow.specs.Flow.{enters}
 use Rattle.flow.specs.Format.{flow_of}
 use Rattle.theory.specs.Lists.{concat_map, option_list}

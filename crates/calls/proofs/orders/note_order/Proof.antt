@@ -1,7 +1,7 @@
 -- `note_order` meets its contract: nothing is asked of a statement that is no transparent call of several lines, and where there is no room the call's word says so.
 -- By what noting one order changes. Assumes nothing.
 use Prim.Native.Nat.{ℕ, ◌+◌, ◌<◌}
-use mathlib.Core.Bool.{Bool, true, false, ◌&&◌, and-false}
+use mathlib.Core.Bool.{Bool, true, ◌&&◌, and-false}
 use mathlib.Core.Path.{◌≡◌, sym, ap, subst, ◌∙◌}
 use native.Mathlib.Omega.{arith}
 use borrow.Author.Tests.{eq-eqb, ne_eqb, lt-ltb, le-ltb}
@@ -10,12 +10,12 @@ use lib.ListN.{length, get_or, set}
 use Rattle.flow.specs.Format.{flow_of}
 use Rattle.theory.specs.Body.{kind, call_lines}
 use Rattle.theory.proofs.Lists.{and-true}
-use Rattle.statements.specs.Clauses.Layout.{calls_at, touched_at}
+use Rattle.statements.specs.Clauses.Layout.{touched_at}
 use Rattle.statements.proofs.WorkArea.{row_from, queue-below}
 use Rattle.statements.proofs.Keeps.{ready-most, ready-room}
 use Rattle.calls.specs.Clauses.Held.{transparent}
 use Rattle.calls.specs.Clauses.Class.{transparent_call}
-use Rattle.calls.specs.Clauses.Orders.{several, OrderNoted}
+use Rattle.calls.specs.Clauses.Orders.{OrderNoted}
 use Rattle.calls.proofs.Checked.{lines-few}
 use Rattle.calls.proofs.Classes.{call-state}
 use Rattle.calls.proofs.Ordering.{unasked, roomless}

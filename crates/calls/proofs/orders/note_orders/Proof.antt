@@ -1,6 +1,6 @@
 -- `note_orders` meets its contract. The invariant: the orders of the calls before c are noted, and the next list may stand where theirs end.
 -- The measure is how many statements are left. Assumes nothing.
-use Prim.Native.Nat.{ℕ, ◌-◌, ◌≤◌}
+use Prim.Native.Nat.{◌-◌, ◌≤◌}
 use mathlib.Core.Path.{◌≡◌, subst}
 use native.Mathlib.Omega.{arith}
 use Rattle.flow.specs.Format.{flow_of}

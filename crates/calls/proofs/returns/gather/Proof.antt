@@ -8,7 +8,6 @@ use mathlib.Core.Option.{some}
 use mathlib.Core.Path.{◌≡◌, sym, ap, ◌∙◌, subst}
 use native.Mathlib.Omega.{arith}
 use borrow.Author.Rules.{rules}
-use borrow.Author.Tests.{not-true}
 use lib.ListN.{length, get_or}
 use Rattle.words.specs.Clauses.Row.{has}
 use Rattle.flow.specs.Flow.{enters}

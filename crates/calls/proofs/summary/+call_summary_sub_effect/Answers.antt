@@ -1,18 +1,16 @@
 -- The cycle of calls {call_summary, sub_effect}. What each step makes of the summaries is in the laws of bodies and of calls; here they are put together.
-use Rattle.std.proofs.Common.{ℕ, ◌≡◌, ◌+◌, ◌*◌, ◌<◌, ◌≤◌, Bool, true, false, ◌||◌, List, length, get_or, set, arith, sym, ap, ◌∙◌, subst}
+use Rattle.std.proofs.Common.{ℕ, ◌≡◌, ◌+◌, ◌*◌, ◌<◌, ◌≤◌, Bool, ◌||◌, List, length, set, arith, sym, ap, ◌∙◌, subst}
 use Prim.Native.Nat.{zero-le}
 use mathlib.Core.Path.{subst₂}
-use Rattle.flow.specs.Flow.{enters}
 use Rattle.flow.specs.Format.{flow_of, statements_of}
 use Rattle.theory.specs.Lists as lists
-use Rattle.theory.specs.Body.{kind, call_lines, callees, Walks}
+use Rattle.theory.specs.Body.{kind, call_lines, callees}
 use Rattle.statements.specs.Clauses.Layout.{matrix_at, calls_at, bodies_at}
-use Rattle.statements.specs.Clauses.Ready.{Ready}
-use Rattle.statements.proofs.Keeps.{ready-keeps, ready-most, ready-size, ready_formed}
-use Rattle.calls.specs.Clauses.Summing.{OnwardBut, Leads, Located, Awaits, Opened, Entered, BodySummed, CallSummed}
-use Rattle.calls.proofs.Checked.{enters-at, enters-nothing, ready-again, located_keeps}
-use Rattle.calls.proofs.Summing.{onward-refl, onward-trans, onward_but, callee_low}
-use Rattle.calls.proofs.BodySummary.{BodyLoop, PassedBelow, body-next, passed_none, body_turn, body_done, body_leads, next_low}
+use Rattle.statements.proofs.Keeps.{ready-keeps, ready-size, ready_formed}
+use Rattle.calls.specs.Clauses.Summing.{OnwardBut, Awaits, Opened, Entered, BodySummed, CallSummed}
+use Rattle.calls.proofs.Checked.{enters-at, enters-nothing, located_keeps}
+use Rattle.calls.proofs.Summing.{onward-trans, onward_but, callee_low}
+use Rattle.calls.proofs.BodySummary.{PassedBelow, body-next, passed_none, body_turn, body_done, body_leads, next_low}
 use Rattle.calls.proofs.CallSummary.{CallLoop, call-first, call-nothing, call_line, call-done, leads_onward, line_callee}
 use Rattle.calls.proofs.Summaries.{unentered_count, unentered-le, unentered-falls}
 use Rattle.calls.proofs.summary.+call_summary_sub_effect.Goals as goal

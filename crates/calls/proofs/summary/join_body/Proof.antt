@@ -1,7 +1,7 @@
 -- `calls::summary::join_body` meets its contract: the word of the call is joined with that of the body.
 -- By what joining a word ensures.
 use borrow.Author.Rules.{rules}
-use Prim.Native.Nat.{ℕ, ◌+◌, ◌*◌}
+use Prim.Native.Nat.{ℕ, ◌+◌}
 use mathlib.Core.Bool.{not}
 use mathlib.Core.Path.{ap, ap₂, ◌∙◌}
 use lib.Dec.{eqb}

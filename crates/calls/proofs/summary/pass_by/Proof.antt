@@ -1,6 +1,6 @@
 -- `pass_by` meets its contract: what is joined is the references and what the call touches, and the test is of the call's state and of the kind.
 -- By what joining a word ensures. Assumes nothing.
-use Prim.Native.Nat.{ℕ, ◌+◌, ◌*◌}
+use Prim.Native.Nat.{ℕ, ◌+◌}
 use mathlib.Core.Bool.{Bool, ◌||◌}
 use mathlib.Core.Path.{ap, ap₂, ◌∙◌}
 use borrow.Author.Rules.{rules}

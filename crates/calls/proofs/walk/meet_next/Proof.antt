@@ -1,7 +1,7 @@
 -- `calls::walk::meet_next` meets its contract: nothing at RETURN, the continuation of a call with one, else the successors.
 -- By cases, as the walk's next statements are defined.
 use mathlib.Core.Bool.{false}
-use mathlib.Core.Option.{none, some}
+use mathlib.Core.Option.{some}
 use mathlib.Core.Path.{◌≡◌, sym, ◌∙◌}
 use borrow.Author.Rules.{rules}
 use Rattle.flow.specs.Format.{flow_of}

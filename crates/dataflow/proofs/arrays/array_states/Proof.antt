@@ -1,6 +1,6 @@
 -- `dataflow::arrays::array_states` meets its contract. The invariant: the area is a state that the queue rule comes to, after so many visits.
 -- The measure is what is left of Term 1's bound.
-use Prim.Native.Nat.{ℕ, ◌+◌, ◌-◌, ◌*◌, ◌<◌, ◌≤◌}
+use Prim.Native.Nat.{ℕ, ◌-◌, ◌*◌, ◌<◌, ◌≤◌}
 use mathlib.Core.List.{[]}
 use mathlib.Core.Path.{◌≡◌, sym, ap, subst, ◌∙◌}
 use native.Mathlib.Nat.{zero-add}
@@ -14,14 +14,13 @@ use Rattle.statements.specs.Clauses.Layout.{queue_at, set_words, max_width}
 use Rattle.statements.specs.Clauses.Ready.{Keeps}
 use Rattle.statements.proofs.Keeps.{ready-most, keeps-trans, ready-size}
 use Rattle.statements.proofs.WellFormed.{well_formed, arrays-is, entry_is}
-use Rattle.solve.specs.Clauses.Layout.{back_row, mask_row_at, nodes_end, area_end}
-use Rattle.solve.proofs.Room.{nodes-within, solver_room, row_from, row_fits}
+use Rattle.solve.specs.Clauses.Layout.{mask_row_at, area_end}
+use Rattle.solve.proofs.Room.{nodes-within, solver_room}
 use Rattle.dataflow.specs.Clauses.Transfer.{KeySet}
 use Rattle.dataflow.specs.Clauses.Solving.{Unused, RowBegun, RuleResult}
 use Rattle.dataflow.proofs.Kept.{indexed_stays, linked-stays, key-stays}
 use Rattle.dataflow.proofs.Few.{visits-few}
 use Rattle.dataflow.proofs.Running.{first-waits, starts, starts-keeps, Running, running_on, running_bound, running_ends, begun_row}
-use borrow.Author.Rules.{rules}
 use Rattle.dataflow.proofs.arrays.array_states.Statement.{statement}
 use Rattle.dataflow.proofs.arrays.array_states.Tie as tie
 

@@ -1,13 +1,12 @@
 -- `dataflow::arrays::begin` meets its contract: the row of d lies among the rows, and its masks are those of d.
 -- Assumes nothing.
-use Rattle.std.proofs.Common.{ℕ, ◌*◌, ◌+◌, ◌≤◌, ◌<◌, ◌≡◌, arith, ap, sym, subst}
+use Rattle.std.proofs.Common.{ℕ, ◌*◌, ◌+◌, ◌≤◌, ◌<◌, ◌≡◌, arith, ap, subst}
 use Rattle.flow.specs.Format.{flow_of}
 use Rattle.records.proofs.Files.{limited}
-use Rattle.statements.specs.Clauses.Layout.{max_width}
 use Rattle.statements.proofs.Keeps.{ready-most}
 use Rattle.solve.specs.Clauses.Layout.{back_row, mask_row_at, nodes_end}
 use Rattle.solve.proofs.Room.{row_from, row_fits}
-use Rattle.dataflow.specs.Clauses.Solving.{Begun, RowBegun}
+use Rattle.dataflow.specs.Clauses.Solving.{RowBegun}
 use Rattle.dataflow.proofs.Running.{row_begun}
 use Rattle.dataflow.proofs.arrays.begin.Goals as goal
 

@@ -1,12 +1,12 @@
 -- `dataflow::arrays::begin_row` meets its contract: the arrays are reset, and step where there is a handler.
 -- By what the masks at the entry are.
-use Prim.Native.Nat.{ℕ, ◌+◌, ◌*◌, ◌≤◌, ◌<◌}
+use Prim.Native.Nat.{ℕ, ◌≤◌}
 use mathlib.Core.List.{List}
 use mathlib.Core.Logic.{inr}
-use mathlib.Core.Path.{◌≡◌, refl, sym, ap, subst, ◌∙◌}
+use mathlib.Core.Path.{◌≡◌, refl, sym, ap, ◌∙◌}
 use native.Mathlib.Omega.{arith}
 use lib.Dec.{ltb}
-use Rattle.masks.specs.declared.Effect.TheVariants.{Reset, Touched}
+use Rattle.masks.specs.declared.Effect.TheVariants.{Reset}
 use Rattle.flow.specs.Format.{flow_of}
 use Rattle.flow.specs.Limits.{max_arrays}
 use Rattle.records.proofs.Files.{limited}
@@ -14,9 +14,8 @@ use Rattle.statements.specs.Clauses.Layout.{max_width}
 use Rattle.statements.proofs.Keeps.{ready-most}
 use Rattle.statements.proofs.WellFormed.{arrays-is}
 use Rattle.calls.proofs.Checked.{handler-at, handler-none}
-use Rattle.solve.specs.Clauses.Layout.{set_row, out_row, mask_row_at, key_at}
-use Rattle.solve.specs.Clauses.Rows.{RowIs, mask_at, step_where, member}
-use Rattle.solve.proofs.Room.{key-room, solver_room, row_fits, nodes-within}
+use Rattle.solve.specs.Clauses.Layout.{set_row, out_row}
+use Rattle.solve.proofs.Room.{key-room, solver_room, nodes-within}
 use Rattle.dataflow.specs.Clauses.Transfer.{RowSteps}
 use Rattle.dataflow.proofs.Sets.{steps-at, entry-apart}
 use Rattle.dataflow.proofs.Kept.{key-stays, key_says}

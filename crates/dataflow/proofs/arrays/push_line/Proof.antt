@@ -1,6 +1,6 @@
 -- `dataflow::arrays::push_line` meets its contract: the slot of the line has an edge where the line enters a statement.
 -- By what the line enters.
-use Prim.Native.Nat.{ℕ, ◌*◌, ◌<◌}
+use Prim.Native.Nat.{ℕ, ◌<◌}
 use mathlib.Core.Option.{Option, some}
 use mathlib.Core.Path.{◌≡◌, sym, ap, ap₂, subst, ◌∙◌}
 use native.Mathlib.Omega.{arith}

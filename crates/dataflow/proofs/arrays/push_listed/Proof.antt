@@ -1,6 +1,6 @@
 -- `dataflow::arrays::push_listed` meets its contract. The invariant: the row went to the successors before k, and those from there on are left.
 -- The measure is how many are left.
-use Prim.Native.Nat.{ℕ, ◌-◌, ◌*◌, ◌<◌}
+use Prim.Native.Nat.{ℕ, ◌-◌, ◌<◌}
 use mathlib.Core.Path.{◌≡◌, refl, sym, ap, ◌∙◌}
 use native.Mathlib.Omega.{arith}
 use lib.ListN.{length, get_or}

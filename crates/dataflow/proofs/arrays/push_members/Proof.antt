@@ -1,6 +1,6 @@
 -- `dataflow::arrays::push_members` meets its contract. The invariant: the row went to the continuations before k, which is the next one.
 -- The measure is how many statements are left.
-use Prim.Native.Nat.{ℕ, ◌+◌, ◌-◌, ◌*◌, ◌<◌}
+use Prim.Native.Nat.{ℕ, ◌+◌, ◌-◌}
 use mathlib.Core.Path.{refl}
 use native.Mathlib.Omega.{arith}
 use Rattle.flow.specs.declared.Base.TheVariants.{Zero}

@@ -1,6 +1,6 @@
 -- `dataflow::arrays::push_other` meets its contract: the slot of the successor has an edge where it is not left out.
 -- By what is left out.
-use Prim.Native.Nat.{ℕ, ◌*◌, ◌<◌}
+use Prim.Native.Nat.{ℕ, ◌<◌}
 use mathlib.Core.Bool.{Bool, false, cond, not, ◌||◌}
 use mathlib.Core.Option.{Option, none, some}
 use mathlib.Core.Path.{◌≡◌, sym, ap, subst, ◌∙◌}

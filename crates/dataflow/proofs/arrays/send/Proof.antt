@@ -1,6 +1,5 @@
 -- `dataflow::arrays::send` meets its contract: what the key's edge brings is joined first, then the statement's edges are gone through, and the key's number waits last.
 -- By the laws of the key's edge.
-use Prim.Native.Nat.{ℕ, ◌<◌}
 use mathlib.Core.Path.{◌≡◌}
 use Rattle.flow.specs.Flow.{size}
 use Rattle.flow.specs.Format.{flow_of}

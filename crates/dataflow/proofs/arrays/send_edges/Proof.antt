@@ -1,7 +1,6 @@
 -- `dataflow::arrays::send_edges` meets its contract: a call that is not opaque has a row for each kind of edge; any other statement has one row for all.
 -- What is pushed is what the doubled graph's edges bring.
-use Prim.Native.Nat.{ℕ, ◌*◌, ◌<◌, ◌≤◌}
-use mathlib.Core.Bool.{Bool}
+use Prim.Native.Nat.{ℕ, ◌<◌}
 use mathlib.Core.Logic.{◌⊎◌, inl, inr}
 use mathlib.Core.Path.{◌≡◌, refl, sym, ap, subst, ◌∙◌}
 use native.Mathlib.Omega.{arith}
@@ -9,7 +8,7 @@ use Rattle.flow.specs.Format.{flow_of}
 use Rattle.records.proofs.Files.{limited}
 use Rattle.theory.specs.Doubled.{Node, node, node_in, at}
 use Rattle.theory.proofs.Copies.{node-below}
-use Rattle.statements.specs.Clauses.Layout.{queue_at, max_width}
+use Rattle.statements.specs.Clauses.Layout.{queue_at}
 use Rattle.statements.specs.Clauses.Ready.{Keeps}
 use Rattle.statements.proofs.Keeps.{ready-size, keeps_widen}
 use Rattle.calls.proofs.Classes.{Plain, plain_says}

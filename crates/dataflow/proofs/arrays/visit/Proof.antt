@@ -1,7 +1,7 @@
 -- `dataflow::arrays::visit` meets its contract: the front is taken and settled, and where it was settled before nothing more is done; else its masks go on.
 -- By what one visit of the queue rule is.
 use Prim.Native.Nat.{ℕ, ◌*◌, ◌<◌, ◌≤◌}
-use mathlib.Core.Path.{◌≡◌, sym, ap, subst, ◌∙◌}
+use mathlib.Core.Path.{sym, ap, subst, ◌∙◌}
 use native.Mathlib.Omega.{arith}
 use borrow.Author.Tests.{not-true, not-false}
 use lib.ListN.{length}
@@ -20,7 +20,6 @@ use Rattle.dataflow.specs.Clauses.Sent.{Sends}
 use Rattle.dataflow.specs.Clauses.Solving.{VisitsFront}
 use Rattle.dataflow.proofs.Kept.{indexed_stays, linked-stays, key-stays}
 use Rattle.dataflow.proofs.Visiting.{underway-front, is_front, front_in, settled_at, note_keeps, noted-waits, noted-shared, visits-settled, visits-sent}
-use borrow.Author.Rules.{rules}
 use Rattle.dataflow.proofs.arrays.visit.Statement.{statement}
 use Rattle.dataflow.proofs.arrays.visit.Tie as tie
 

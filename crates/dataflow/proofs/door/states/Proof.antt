@@ -1,21 +1,17 @@
 -- `states` meets its promise: at each return the reader's answer, the areas' verdict and what the phases left say which part of the promise holds.
 -- Assumes nothing.
 use borrow.Author.Rules.{rules}
-use borrow.Author.Tests.{not-true, not-false}
 use native.Mathlib.Nat.{pos_of_ne-zero}
-use native.Mathlib.Omega.{arith}
-use Prim.Native.Nat.{ℕ, ◌<◌, ◌≤◌}
+use Prim.Native.Nat.{◌<◌, ◌≤◌}
 use mathlib.Core.Bool.{Bool, true, false}
 use mathlib.Core.Path.{◌≡◌, refl, ap, sym, ◌∙◌, subst}
-use lib.ListN.{length, get_or}
+use lib.ListN.{length}
 use Rattle.flow.specs.declared.Header.{Header}
-use Rattle.flow.specs.Limits.{work_words, max_statements, max_arrays}
+use Rattle.flow.specs.Limits.{max_statements, max_arrays}
 use Rattle.flow.specs.Format.{verdict, area_checks, statements_of, arrays_of}
 use Rattle.flow.specs.Clauses.Answers.{FitFile, is_fit}
 use Rattle.flow.specs.Clauses.Answers.{header_of}
 use Rattle.records.proofs.Files.{limited}
-use Rattle.statements.specs.Clauses.Layout.{set_words}
-use Rattle.solve.proofs.Room.{solver_fits}
 use Rattle.dataflow.proofs.Judging as judging
 use Rattle.dataflow.proofs.door.states.Statement.{statement}
 use Rattle.dataflow.proofs.door.states.Tie as tie

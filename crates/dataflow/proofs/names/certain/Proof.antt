@@ -1,7 +1,7 @@
 -- `certain` meets its promise: at each return the reader's answer, the area's test and what was found say which part of the promise holds.
 -- Assumes nothing.
 use borrow.Author.Rules.{rules}
-use borrow.Author.Tests.{not-true, not-false, leb-true}
+use borrow.Author.Tests.{leb-true}
 use native.Mathlib.Nat.{pos_of_ne-zero}
 use Prim.Native.Nat.{◌<◌, ◌≤◌}
 use mathlib.Core.Bool.{Bool, true, false}

@@ -8,7 +8,6 @@ use Rattle.records.proofs.Files.{limited}
 use Rattle.statements.specs.Clauses.Layout.{max_width}
 use Rattle.statements.proofs.Keeps.{ready-most, keeps_widen}
 use Rattle.calls.proofs.Checked.{handler-at, handler-none}
-use Rattle.solve.specs.Clauses.Layout.{mask_row_at, key_at}
 use Rattle.solve.proofs.Room.{key-room, row_from, row_first, nodes-within}
 use Rattle.dataflow.proofs.Kept.{key-stays, key_says}
 use Rattle.dataflow.proofs.Sends.{prepared_keyed, prepared_unkeyed}

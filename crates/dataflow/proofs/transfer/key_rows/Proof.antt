@@ -1,14 +1,14 @@
 -- `dataflow::transfer::key_rows` meets its contract: each row steps in place, and the other stays.
 -- Assumes nothing.
-use Prim.Native.Nat.{ℕ, ◌+◌, ◌*◌, ◌≤◌}
+use Prim.Native.Nat.{ℕ, ◌*◌}
 use mathlib.Core.List.{List}
 use mathlib.Core.Logic.{inr}
-use mathlib.Core.Path.{◌≡◌, refl, sym, ap, ap₂, subst, ◌∙◌}
+use mathlib.Core.Path.{refl, subst}
 use native.Mathlib.Omega.{arith}
 use Rattle.masks.specs.declared.Effect.TheVariants.{Touched}
-use Rattle.solve.specs.Clauses.Layout.{out_row, back_row, mask_row_at, key_at}
+use Rattle.solve.specs.Clauses.Layout.{key_at}
 use Rattle.solve.specs.Clauses.Rows.{RowIs, mask_at, step_where, member}
-use Rattle.solve.proofs.Room.{row_first, row_from, nodes-within}
+use Rattle.solve.proofs.Room.{row_from, nodes-within}
 use Rattle.dataflow.proofs.Sends.{key-stepped}
 use borrow.Author.Rules.{rules}
 use Rattle.dataflow.proofs.transfer.key_rows.Statement.{statement}

@@ -1,6 +1,6 @@
 -- `dataflow::transfer::note_all` meets its contract. The invariant: the first k words are noted.
 -- The measure is what is left of the width.
-use Prim.Native.Nat.{ℕ, ◌-◌}
+use Prim.Native.Nat.{◌-◌}
 use mathlib.Core.Path.{◌≡◌}
 use native.Mathlib.Omega.{arith}
 use lib.Dec.{ltb}

@@ -1,12 +1,11 @@
 -- `dataflow::transfer::plain_row` meets its contract: the row of the act, and where there is a handler that row with its touched step.
 -- By the laws of the act of a statement.
-use Prim.Native.Nat.{ℕ, ◌+◌, ◌*◌, ◌≤◌, ◌<◌}
+use Prim.Native.Nat.{ℕ, ◌+◌, ◌*◌, ◌≤◌}
 use mathlib.Core.List.{List}
 use mathlib.Core.Logic.{◌⊎◌, inl, inr}
-use mathlib.Core.Path.{◌≡◌, refl, sym, ap, subst, ◌∙◌}
+use mathlib.Core.Path.{◌≡◌, sym, ap, subst, ◌∙◌}
 use native.Mathlib.Nat.{le_refl}
 use native.Mathlib.Omega.{arith}
-use lib.ListN.{length}
 use Rattle.masks.specs.declared.Effect.TheVariants.{Touched}
 use Rattle.flow.specs.Format.{flow_of}
 use Rattle.records.proofs.Files.{limited}

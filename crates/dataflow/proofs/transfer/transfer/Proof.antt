@@ -1,28 +1,20 @@
 -- `dataflow::transfer::transfer` meets its contract: by the statement's kind, the row for its edges is the number's row with its references, its items or all arrays stepped.
 -- By the laws of the act of a statement.
-use Prim.Native.Nat.{ℕ, ◌+◌, ◌*◌, ◌≤◌, ◌<◌}
-use mathlib.Core.Bool.{true, false}
+use Prim.Native.Nat.{◌≤◌}
 use mathlib.Core.List.{List, [], ◌∷◌}
-use mathlib.Core.Logic.{inl, inr}
-use mathlib.Core.Path.{◌≡◌, refl, sym, ap, subst, ◌∙◌}
+use mathlib.Core.Path.{◌≡◌, refl, sym, ap, ◌∙◌}
 use native.Mathlib.Omega.{arith}
-use lib.Dec.{ltb}
 use lib.ListN.{length}
-use Rattle.masks.specs.declared.Effect.{Effect}
-use Rattle.masks.specs.declared.Effect.TheVariants.{Reference, Dim, Reset}
 use Rattle.flow.specs.Flow.{Item, items}
 use Rattle.flow.specs.Format.{flow_of}
 use Rattle.flow.specs.Limits.{max_arrays}
 use Rattle.records.proofs.Files.{limited}
-use Rattle.theory.specs.Lists.{any, elem}
-use Rattle.theory.specs.Body.{kind, references}
-use Rattle.theory.specs.Doubled.{dims, resets}
+use Rattle.theory.specs.Body.{kind}
 use Rattle.statements.specs.Clauses.Layout.{set_words, max_width}
 use Rattle.statements.proofs.Keeps.{ready-most}
 use Rattle.statements.proofs.WellFormed.{well_formed, arrays-is}
-use Rattle.solve.specs.Clauses.Layout.{set_row, out_row, back_row, mask_row_at, area_end}
-use Rattle.solve.proofs.Room.{row_from, row_fits, solver_room}
-use Rattle.dataflow.specs.Clauses.Transfer.{RowsApart, RowSteps}
+use Rattle.solve.specs.Clauses.Layout.{area_end}
+use Rattle.solve.proofs.Room.{solver_room}
 use Rattle.dataflow.proofs.Acted.{acts_plain, acts_resets, acts_dims}
 use Rattle.dataflow.proofs.Sets.{apart-again, steps-at, hand_apart, edges-apart}
 use borrow.Author.Rules.{rules}

@@ -5,7 +5,7 @@ use native.Mathlib.Nat.{zero-add}
 use Prim.Native.Nat.{ℕ, ◌+◌, ◌*◌, ◌≤◌, ◌<◌}
 use mathlib.Core.Path.{◌≡◌, ap, ap₂, ◌∙◌}
 use lib.Bits.{bit_or}
-use lib.ListN.{length, get_or}
+use lib.ListN.{get_or}
 use Rattle.solve.specs.Clauses.Layout.{mask_row_at, area_end}
 use Rattle.solve.proofs.Room.{row_fits}
 use Rattle.dataflow.specs.Clauses.Bytes.{both_words}

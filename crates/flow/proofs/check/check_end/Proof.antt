@@ -5,7 +5,6 @@ use mathlib.Core.List.{List}
 use Prim.Native.Nat.{◌+◌}
 use mathlib.Core.Path.{◌≡◌, sym, ◌∙◌, ap}
 use borrow.Author.Rules.{rules}
-use borrow.Author.Tests.{not-true, not-false}
 use Rattle.flow.specs.Format.{Check, end_checks, letter_e, end_place}
 use Rattle.flow.proofs.Tests.{tests}
 use Rattle.flow.proofs.Answers.{refused_as, passed_to}

@@ -1,6 +1,6 @@
 -- `check_file` meets its contract: the parts are judged one after the other, each where the reader stands, and the last answer with those places is what `checked` asks.
 -- Assumes nothing.
-use Rattle.std.proofs.Common.{◌≡◌, refl, ap, ◌∙◌, sym, subst, List, ℕ, Bor}
+use Rattle.std.proofs.Common.{◌≡◌, refl, ap, ◌∙◌, List, ℕ, Bor}
 use Rattle.flow.specs.declared.Part.{Part}
 use Rattle.flow.specs.declared.Part.TheVariants.{Header, Statements, Lines, Key, End}
 use Rattle.flow.specs.declared.Passed.{Passed}

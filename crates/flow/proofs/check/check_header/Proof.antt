@@ -5,7 +5,6 @@ use mathlib.Core.List.{List}
 use mathlib.Core.Path.{◌≡◌, sym, ◌∙◌}
 use mathlib.Core.Bool.{true}
 use borrow.Author.Rules.{rules}
-use borrow.Author.Tests.{not-true, not-false}
 use Rattle.flow.specs.Format.{Check, header_checks, letter_h}
 use Rattle.flow.proofs.Tests.{tests}
 use Rattle.flow.proofs.Answers.{refused, passed}

@@ -6,7 +6,6 @@ use mathlib.Core.Bool.{true}
 use mathlib.Core.List.{List}
 use mathlib.Core.Path.{◌≡◌, sym, ◌∙◌, ap, subst}
 use borrow.Author.Rules.{rules}
-use borrow.Author.Tests.{not-true, not-false}
 use Rattle.flow.specs.declared.Refusal.TheVariants.{Record, Target}
 use Rattle.flow.specs.Format as format
 use Rattle.flow.specs.Format.{verdict, letter_k, u16_at, has_key, handler_at, key_checks, end_place}

@@ -5,7 +5,6 @@ use Prim.Native.Nat.{◌+◌, ◌^◌}
 use mathlib.Core.List.{List}
 use mathlib.Core.Path.{◌≡◌, sym, ◌∙◌, ap, ap₂}
 use borrow.Author.Rules.{rules}
-use borrow.Author.Tests.{not-true, not-false}
 use lib.Dec.{ltb}
 use Rattle.flow.specs.Format.{Check, name_checks, names_fit, u64_at, written_at, read_at}
 use Rattle.flow.proofs.Tests.{tests}

@@ -8,7 +8,6 @@ use mathlib.Core.Bool.{true}
 use Prim.Native.Nat.{◌+◌}
 use borrow.Author.Rules.{rules}
 use lib.ListN.{length}
-use borrow.Author.Tests.{not-true, not-false}
 use Rattle.flow.specs.Format.{Check, start_checks, letter_n}
 use Rattle.flow.proofs.Tests.{tests, lt-or-le}
 use Rattle.flow.proofs.Answers.{refused, passed}

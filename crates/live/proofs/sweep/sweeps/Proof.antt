@@ -3,7 +3,6 @@
 use mathlib.Core.Bool.{true}
 use mathlib.Core.Path.{◌∙◌, refl}
 use native.Mathlib.Omega.{arith}
-use borrow.Author.Tests.{not-true, not-false}
 use Rattle.flow.specs.Format.{flow_of}
 use Rattle.statements.proofs.Keeps.{keeps-refl}
 use Rattle.live.specs.Clauses.Sweeping.{Swept}

@@ -5,10 +5,6 @@ use lib.ListN.{length-take}
 use borrow.Author.Rules.{rules}
 use Rattle.replay.proofs.answers.lend.Statement.{statement}
 use Rattle.replay.proofs.answers.lend.Tie as tie
-use Rattle.replay.proofs.answers.lend.Reads as reads
-use Rattle.replay.proofs.answers.lend.Lts as lts
-use Rattle.replay.proofs.answers.same.Reads as same_Reads
-use Rattle.replay.proofs.data.least.Reads as least-reads
 
 -- src/answers.rt:129:9
 least-requires : tie.Need-least-m-requires

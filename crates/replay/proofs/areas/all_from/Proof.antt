@@ -5,8 +5,6 @@ use lib.ListN.{length}
 use borrow.Author.Rules.{rules}
 use Rattle.replay.proofs.areas.all_from.Statement.{statement}
 use Rattle.replay.proofs.areas.all_from.Tie as tie
-use Rattle.replay.proofs.areas.all_from.Reads as reads
-use Rattle.replay.proofs.areas.all_from.Lts as lts
 
 abbrev invariant-loop : tie.invariant-loop-k
 invariant-loop ws from value k₀ k = k₀ ≤ k

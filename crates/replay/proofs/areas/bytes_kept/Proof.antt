@@ -5,8 +5,6 @@ use lib.ListN.{length}
 use borrow.Author.Rules.{rules}
 use Rattle.replay.proofs.areas.bytes_kept.Statement.{statement}
 use Rattle.replay.proofs.areas.bytes_kept.Tie as tie
-use Rattle.replay.proofs.areas.bytes_kept.Reads as reads
-use Rattle.replay.proofs.areas.bytes_kept.Lts as lts
 
 abbrev invariant-loop : tie.invariant-loop-k
 invariant-loop s from k₀ k = k₀ ≤ k

@@ -6,8 +6,6 @@ use lib.ListN.{length}
 use borrow.Author.Rules.{rules}
 use Rattle.replay.proofs.areas.fill_bytes.Statement.{statement}
 use Rattle.replay.proofs.areas.fill_bytes.Tie as tie
-use Rattle.replay.proofs.areas.fill_bytes.Reads as reads
-use Rattle.replay.proofs.areas.fill_bytes.Lts as lts
 
 abbrev invariant-loop : tie.invariant-loop-k
 invariant-loop s₀ k₀ s k = length s ≡ length s₀

@@ -6,8 +6,6 @@ use lib.ListN.{length}
 use borrow.Author.Rules.{rules}
 use Rattle.replay.proofs.areas.fill_words.Statement.{statement}
 use Rattle.replay.proofs.areas.fill_words.Tie as tie
-use Rattle.replay.proofs.areas.fill_words.Reads as reads
-use Rattle.replay.proofs.areas.fill_words.Lts as lts
 
 abbrev invariant-loop : tie.invariant-loop-k
 invariant-loop ws₀ k₀ ws k = length ws ≡ length ws₀

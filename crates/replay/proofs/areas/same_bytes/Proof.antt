@@ -5,10 +5,6 @@ use lib.ListN.{length}
 use borrow.Author.Rules.{rules}
 use Rattle.replay.proofs.areas.same_bytes.Statement.{statement}
 use Rattle.replay.proofs.areas.same_bytes.Tie as tie
-use Rattle.replay.proofs.areas.same_bytes.Reads as reads
-use Rattle.replay.proofs.areas.same_bytes.Lts as lts
-use Rattle.replay.proofs.data.byte.Reads as byte-Reads
-use Rattle.replay.proofs.data.skip.Reads as skip-reads
 
 abbrev invariant-loop : tie.invariant-loop-k
 invariant-loop masks n s from at₀ k₀ at k = at ≤ length s

@@ -5,10 +5,6 @@ use lib.ListN.{length}
 use borrow.Author.Rules.{rules}
 use Rattle.replay.proofs.areas.same_words.Statement.{statement}
 use Rattle.replay.proofs.areas.same_words.Tie as tie
-use Rattle.replay.proofs.areas.same_words.Reads as reads
-use Rattle.replay.proofs.areas.same_words.Lts as lts
-use Rattle.replay.proofs.data.number.Reads as number-reads
-use Rattle.replay.proofs.data.skip.Reads as skip-reads
 
 abbrev invariant-loop : tie.invariant-loop-k
 invariant-loop ws n s from at₀ k₀ at k = at ≤ length s

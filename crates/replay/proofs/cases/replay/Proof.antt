@@ -6,10 +6,6 @@ use lib.ListN.{length}
 use borrow.Author.Rules.{rules}
 use Rattle.replay.proofs.cases.replay.Statement.{statement}
 use Rattle.replay.proofs.cases.replay.Tie as tie
-use Rattle.replay.proofs.cases.replay.Reads as reads
-use Rattle.replay.proofs.cases.replay.Lts as lts
-use Rattle.replay.proofs.cases.replay_case.Reads as replay-case-reads
-use Rattle.replay.proofs.data.byte.Reads as byte-Reads
 
 abbrev invariant-loop : tie.invariant-loop-p
 invariant-loop s file₀ masks₀ live-in₀ live-out₀ rows₀ work₀ p₀ cases₀ different₀ file masks live_in live_out rows work p cases different =

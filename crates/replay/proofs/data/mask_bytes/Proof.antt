@@ -4,8 +4,6 @@ use native.Mathlib.Omega.{arith}
 use native.Mathlib.Nat.{mul-le-mul}
 use Rattle.replay.proofs.data.mask_bytes.Statement.{statement}
 use Rattle.replay.proofs.data.mask_bytes.Tie as tie
-use Rattle.replay.proofs.data.mask_bytes.Reads as reads
-use Rattle.replay.proofs.data.mask_bytes.Lts as lts
 
 -- src/data.rt:139:6
 mul-result : tie.Need-overflow_mul-result

@@ -1,6 +1,6 @@
 -- `solve::ring::take` meets its contract: the front's word is a number below 2 n, whose state says that it waits no more and is else as it was.
 -- Assumes nothing.
-use Prim.Native.Nat.{ℕ, ◌+◌, ◌*◌, ◌<◌}
+use Prim.Native.Nat.{◌+◌, ◌*◌, ◌<◌}
 use mathlib.Core.Path.{subst, sym}
 use native.Mathlib.Nat.{le_of_lt}
 use native.Mathlib.Omega.{arith}

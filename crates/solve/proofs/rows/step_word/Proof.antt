@@ -1,7 +1,6 @@
 -- `solve::rows::step_word` meets its contract: the three words are read before one is written, and each is what the step of the chosen arrays makes of them.
 -- By the laws of sets that step together.
-use mathlib.Core.Path.{◌≡◌, refl}
-use native.Mathlib.Omega.{arith}
+use mathlib.Core.Path.{refl}
 use lib.ListN.{length-set}
 use Rattle.solve.proofs.Stepping.{word-masks}
 use borrow.Author.Rules.{rules}

@@ -4,7 +4,6 @@ use mathlib.Core.Bool.{true}
 use mathlib.Core.Path.{◌≡◌, sym, ◌∙◌, ap}
 use native.Mathlib.Omega.{arith}
 use borrow.Author.Rules.{rules}
-use borrow.Author.Tests.{not-false, not-true}
 use Rattle.flow.specs.Format.{flow_of}
 use Rattle.records.specs.Clauses.Fields.{line_entry_of}
 use Rattle.theory.specs.Body.{kind}
