@@ -2,7 +2,6 @@
 //! original. It follows the definitions one by one, and can be given one fault at a time.
 
 use std::collections::{BTreeMap, BTreeSet, VecDeque};
-use std::fmt;
 
 use crate::flow::{self, Flow, Kind, MAX_NAMES, Refusal, WORK_WORDS};
 use crate::interference::Interference;
@@ -24,8 +23,7 @@ pub struct Areas {
 }
 
 /// The answer to a file by one of the calls: number 0 where the flow is accepted. What is found is the count of
-/// visits, the word of certain names, how many names are live at once, or 1 where a proposed table is accepted and 0
-/// where it is not; and 0 where the file is refused.
+/// visits, the word of certain names or how many names are live at once, and 0 where the file is refused.
 #[derive(Clone, Copy, Debug, Default, PartialEq, Eq)]
 pub struct Answer {
     pub number: u64,
@@ -146,57 +144,10 @@ pub enum Fault {
     RowsKeptWithoutStatements,
     RowsOfRefused,
     InterferenceWorkKept,
-    TableZerosPassedOver,
-    TableDimSparesZeros,
-    TableClearSparesZeros,
-    TableReferenceFills,
-    TableTouchedFills,
-    TableEmptyRows,
-    TableReachedRows,
-    TableBaseZeroRows,
-    TableActLeftOut,
-    TableContinuationPlain,
-    TableSureTouched,
-    TableKeyEdgeLeftOut,
-    TableKeyAfterAct,
-    TableKeyStepLeftOut,
-    TableEntryUnstepped,
-    TableEntryLeftOut,
-    TableEntryMustEqual,
-    TableEntryInBody,
-    TableEitherCopy,
-    TableUnionLeaves,
-    TableMustEqual,
-    TableByStatement,
-    TableByArray,
-    TableOpaqueByEdges,
-    TableOpaqueEitherCopy,
-    TableOpaqueAccepted,
-    TableOpaqueFirst,
-    TableNoStatementsDeclined,
-    TableNoArraysDeclined,
-    TableOwnOnly,
-    TableOwnWithin,
-    TableAccepted,
-    TableOverSevenBehind,
-    TableOverSevenFirst,
-    TableOverSevenLast,
-    TableOverSevenRow,
-    TableOverSevenNoPlace,
-    TableOverSevenCut,
-    TableOverSevenDeclined,
-    TableHalfLength,
-    TableOneShort,
-    TableExactLength,
-    TableWorkUnjudged,
-    TableWorkKeptAfterYes,
-    TableWorkKeptAfterNo,
-    TableWorkOfRefused,
-    TableNoIsRefusal,
 }
 
 impl Fault {
-    pub const ALL: [Fault; 137] = [
+    pub const ALL: [Fault; 90] = [
         Fault::EveryMaskSeven,
         Fault::FirstVisitOnly,
         Fault::AreasUntouched,
@@ -287,59 +238,7 @@ impl Fault {
         Fault::RowsKeptWithoutStatements,
         Fault::RowsOfRefused,
         Fault::InterferenceWorkKept,
-        Fault::TableZerosPassedOver,
-        Fault::TableDimSparesZeros,
-        Fault::TableClearSparesZeros,
-        Fault::TableReferenceFills,
-        Fault::TableTouchedFills,
-        Fault::TableEmptyRows,
-        Fault::TableReachedRows,
-        Fault::TableBaseZeroRows,
-        Fault::TableActLeftOut,
-        Fault::TableContinuationPlain,
-        Fault::TableSureTouched,
-        Fault::TableKeyEdgeLeftOut,
-        Fault::TableKeyAfterAct,
-        Fault::TableKeyStepLeftOut,
-        Fault::TableEntryUnstepped,
-        Fault::TableEntryLeftOut,
-        Fault::TableEntryMustEqual,
-        Fault::TableEntryInBody,
-        Fault::TableEitherCopy,
-        Fault::TableUnionLeaves,
-        Fault::TableMustEqual,
-        Fault::TableByStatement,
-        Fault::TableByArray,
-        Fault::TableOpaqueByEdges,
-        Fault::TableOpaqueEitherCopy,
-        Fault::TableOpaqueAccepted,
-        Fault::TableOpaqueFirst,
-        Fault::TableNoStatementsDeclined,
-        Fault::TableNoArraysDeclined,
-        Fault::TableOwnOnly,
-        Fault::TableOwnWithin,
-        Fault::TableAccepted,
-        Fault::TableOverSevenBehind,
-        Fault::TableOverSevenFirst,
-        Fault::TableOverSevenLast,
-        Fault::TableOverSevenRow,
-        Fault::TableOverSevenNoPlace,
-        Fault::TableOverSevenCut,
-        Fault::TableOverSevenDeclined,
-        Fault::TableHalfLength,
-        Fault::TableOneShort,
-        Fault::TableExactLength,
-        Fault::TableWorkUnjudged,
-        Fault::TableWorkKeptAfterYes,
-        Fault::TableWorkKeptAfterNo,
-        Fault::TableWorkOfRefused,
-        Fault::TableNoIsRefusal,
     ];
-
-    /// Whether only the acceptor goes astray by it: these stand last.
-    pub fn is_of_acceptor(self) -> bool {
-        self as usize >= Fault::TableZerosPassedOver as usize
-    }
 
     pub fn text(self) -> &'static str {
         match self {
@@ -435,53 +334,6 @@ impl Fault {
             Fault::RowsKeptWithoutStatements => "interference: without statements the rows stay as they were",
             Fault::RowsOfRefused => "interference: a refusal makes the rows zero",
             Fault::InterferenceWorkKept => "interference: the work area is left as it was",
-            Fault::TableZerosPassedOver => "acceptor: zero bytes of a row that has others are passed over",
-            Fault::TableDimSparesZeros => "acceptor: a DIM leaves the zero bytes of a row",
-            Fault::TableClearSparesZeros => "acceptor: CLR and RUN leave the zero bytes of a row",
-            Fault::TableReferenceFills => "acceptor: a reference makes a zero byte AUTO",
-            Fault::TableTouchedFills => "acceptor: the touched step makes a zero byte AUTO",
-            Fault::TableEmptyRows => "acceptor: rows that are all zero are looked at too",
-            Fault::TableReachedRows => "acceptor: only rows that walks come to are looked at",
-            Fault::TableBaseZeroRows => "acceptor: only the rows of base 0 are looked at",
-            Fault::TableActLeftOut => "acceptor: the statement's own act is left out",
-            Fault::TableContinuationPlain => "acceptor: the continuation edge takes no step",
-            Fault::TableSureTouched => "acceptor: sure arrays take the touched step",
-            Fault::TableKeyEdgeLeftOut => "acceptor: the key's edges ask for nothing",
-            Fault::TableKeyAfterAct => "acceptor: the key's edges carry what the act leaves",
-            Fault::TableKeyStepLeftOut => "acceptor: the other edges without the handler's step",
-            Fault::TableEntryUnstepped => "acceptor: the entry without the handler's step",
-            Fault::TableEntryLeftOut => "acceptor: the entry asks for nothing",
-            Fault::TableEntryMustEqual => "acceptor: the entry's masks must be what comes in there",
-            Fault::TableEntryInBody => "acceptor: the entry's row of base n is asked too",
-            Fault::TableEitherCopy => "acceptor: the target's two rows hold the mask together",
-            Fault::TableUnionLeaves => "acceptor: edges carry the union of a statement's two rows",
-            Fault::TableMustEqual => "acceptor: the target's masks must be those of the edge",
-            Fault::TableByStatement => "acceptor: a statement's two rows stand together",
-            Fault::TableByArray => "acceptor: the table stands array by array",
-            Fault::TableOpaqueByEdges => "acceptor: an opaque handler is judged by the edges",
-            Fault::TableOpaqueEitherCopy => "acceptor: opaque handler, a statement's two rows are 7 together",
-            Fault::TableOpaqueAccepted => "acceptor: opaque handler, every table is accepted",
-            Fault::TableOpaqueFirst => "acceptor: opaque handler, a byte over 7 is a no",
-            Fault::TableNoStatementsDeclined => "acceptor: without statements the answer is no",
-            Fault::TableNoArraysDeclined => "acceptor: without arrays the answer is no",
-            Fault::TableOwnOnly => "acceptor: our own table alone is accepted",
-            Fault::TableOwnWithin => "acceptor: what holds our own table is accepted",
-            Fault::TableAccepted => "acceptor: every table is accepted",
-            Fault::TableOverSevenBehind => "acceptor: bytes behind the table are judged too",
-            Fault::TableOverSevenFirst => "acceptor: a byte over 7 is judged before the lengths",
-            Fault::TableOverSevenLast => "acceptor: the place of the last byte over 7",
-            Fault::TableOverSevenRow => "acceptor: the place of a byte over 7 is its row",
-            Fault::TableOverSevenNoPlace => "acceptor: a byte over 7 has place 0",
-            Fault::TableOverSevenCut => "acceptor: of a byte over 7 the low bits count",
-            Fault::TableOverSevenDeclined => "acceptor: a byte over 7 is a no",
-            Fault::TableHalfLength => "acceptor: the proposal needs one row a statement",
-            Fault::TableOneShort => "acceptor: one byte may be missing of the proposal",
-            Fault::TableExactLength => "acceptor: a longer proposal is refused",
-            Fault::TableWorkUnjudged => "acceptor: the work area is not judged",
-            Fault::TableWorkKeptAfterYes => "acceptor: a yes leaves the work area as it was",
-            Fault::TableWorkKeptAfterNo => "acceptor: a no leaves the work area as it was",
-            Fault::TableWorkOfRefused => "acceptor: refusal 11 makes the work area zero",
-            Fault::TableNoIsRefusal => "acceptor: a no is refused at the byte that lacks a state",
         }
     }
 }
@@ -621,12 +473,6 @@ impl<'a> Subroutines<'a> {
     /// The body that the key calls.
     fn handler_body(&self) -> Option<&Body> {
         self.handler().map(|h| &self.bodies[&h])
-    }
-
-    /// Whether the key calls an opaque body, so that nothing is known of any array.
-    fn opaque_handler(&self) -> bool {
-        let solved = self.fault == Some(Fault::OpaqueHandlerSolved);
-        !solved && self.handler_body().is_some_and(|body| body.opaque)
     }
 
     fn opaque_call(&self, call: usize) -> bool {
@@ -863,7 +709,14 @@ pub fn sure_parts(flow: &Flow) -> SureParts {
     if sure.iter().all(|&set| set == 0) {
         return SureParts::default();
     }
-    let reached = reached_numbers(&doubled_edges(&subroutines), flow.entry.into());
+    let edges = doubled_edges(&subroutines);
+    let mut reached = vec![false; edges.len()];
+    let mut waiting = vec![usize::from(flow.entry)];
+    while let Some(number) = waiting.pop() {
+        if !std::mem::replace(&mut reached[number], true) {
+            waiting.extend(edges[number].iter().map(|edge| edge.to));
+        }
+    }
     let n = flow.statements.len();
     let goes_on_where_it_enters = |i: usize| {
         let k = flow.statements[i].continuation();
@@ -927,18 +780,6 @@ fn doubled_edges(subroutines: &Subroutines) -> Vec<Vec<Edge>> {
     }
     add_key(subroutines, &mut edges);
     edges
-}
-
-/// The doubled numbers that walks from the entry come to.
-fn reached_numbers(edges: &[Vec<Edge>], entry: usize) -> Vec<bool> {
-    let mut reached = vec![false; edges.len()];
-    let mut waiting = vec![entry];
-    while let Some(number) = waiting.pop() {
-        if !std::mem::replace(&mut reached[number], true) {
-            waiting.extend(edges[number].iter().map(|edge| edge.to));
-        }
-    }
-    reached
 }
 
 /// With a handler, every edge ends with the step of what it touches, and every number has one edge more.
@@ -1041,20 +882,33 @@ fn referred(mask: u8) -> u8 {
     if mask & NONE == 0 { mask } else { mask & !NONE | AUTO }
 }
 
-/// The doubled graph, with what statements and edges do to masks.
-struct Doubled<'a> {
+struct Queue<'a> {
     flow: &'a Flow,
     fault: Option<Fault>,
     /// The arrays that the handler touches.
     by_handler: u64,
     edges: Vec<Vec<Edge>>,
+    /// Edges by the number they lead to; `to` is the number they come from.
+    back: Vec<Vec<Edge>>,
+    masks: Vec<Vec<u8>>,
+    /// Masks after the statement's act, at its last visit.
+    acted: Vec<Option<Vec<u8>>>,
 }
 
-impl<'a> Doubled<'a> {
+impl<'a> Queue<'a> {
     fn new(subroutines: &Subroutines<'a>) -> Self {
         let Subroutines { flow, fault, .. } = *subroutines;
         let by_handler = subroutines.handler_body().map_or(0, |body| body.touched);
-        Doubled { flow, fault, by_handler, edges: doubled_edges(subroutines) }
+        let edges = doubled_edges(subroutines);
+        let mut back = vec![Vec::new(); edges.len()];
+        for (from, list) in edges.iter().enumerate() {
+            for edge in list {
+                back[edge.to].push(Edge { to: from, ..*edge });
+            }
+        }
+        let masks = vec![vec![0; flow.arrays.into()]; edges.len()];
+        let acted = vec![None; edges.len()];
+        Queue { flow, fault, by_handler, edges, back, masks, acted }
     }
 
     /// What statement `i` makes of the masks it starts with.
@@ -1118,9 +972,9 @@ impl<'a> Doubled<'a> {
         if self.fault == Some(Fault::KeyEntryUnstepped) { none } else { self.after_handler(&none) }
     }
 
-    /// What the key's edge of a number carries: the masks that its statement starts with.
-    fn interrupted(&self, number: usize, starts: &[u8], acted: &[u8]) -> Vec<u8> {
-        let mut masks = starts.to_vec();
+    /// What the key's edge of a number visited before carries: the masks that its statement starts with.
+    fn interrupted(&self, number: usize, acted: &[u8]) -> Vec<u8> {
+        let mut masks = self.masks[number].clone();
         match self.fault {
             Some(Fault::KeyAfterAct) => return acted.to_vec(),
             Some(Fault::KeyAfterOwnLoop) => {
@@ -1140,50 +994,14 @@ impl<'a> Doubled<'a> {
         }
     }
 
-    /// What an edge that leaves a number brings, by the masks there and what its statement makes of them.
-    fn brought(&self, number: usize, edge: Edge, masks: &[u8], acted: &[u8]) -> Vec<u8> {
-        let from = if edge.key { &self.interrupted(number, masks, acted)[..] } else { acted };
-        let mut brought = vec![0; masks.len()];
-        self.join(&mut brought, edge, from);
-        brought
-    }
-}
-
-struct Queue<'a> {
-    graph: Doubled<'a>,
-    /// Edges by the number they lead to; `to` is the number they come from.
-    back: Vec<Vec<Edge>>,
-    masks: Vec<Vec<u8>>,
-    /// Masks after the statement's act, at its last visit.
-    acted: Vec<Option<Vec<u8>>>,
-}
-
-impl<'a> Queue<'a> {
-    fn new(subroutines: &Subroutines<'a>) -> Self {
-        let graph = Doubled::new(subroutines);
-        let numbers = graph.edges.len();
-        let mut back = vec![Vec::new(); numbers];
-        for (from, list) in graph.edges.iter().enumerate() {
-            for edge in list {
-                back[edge.to].push(Edge { to: from, ..*edge });
-            }
-        }
-        let masks = vec![vec![0; graph.flow.arrays.into()]; numbers];
-        Queue { graph, back, masks, acted: vec![None; numbers] }
-    }
-
     /// The union over edges from numbers visited before, with what comes in at the entry.
     fn union(&self, number: usize) -> Vec<u8> {
-        let graph = &self.graph;
-        let is_entry = number == usize::from(graph.flow.entry);
-        let mut masks = if is_entry { graph.at_entry() } else { vec![0; graph.flow.arrays.into()] };
+        let is_entry = number == usize::from(self.flow.entry);
+        let mut masks = if is_entry { self.at_entry() } else { vec![0; self.flow.arrays.into()] };
         for edge in &self.back[number] {
-            let from = edge.to;
-            match &self.acted[from] {
-                Some(acted) if edge.key => {
-                    graph.join(&mut masks, *edge, &graph.interrupted(from, &self.masks[from], acted));
-                }
-                Some(acted) => graph.join(&mut masks, *edge, acted),
+            match &self.acted[edge.to] {
+                Some(acted) if edge.key => self.join(&mut masks, *edge, &self.interrupted(edge.to, acted)),
+                Some(acted) => self.join(&mut masks, *edge, acted),
                 None => {}
             }
         }
@@ -1192,46 +1010,45 @@ impl<'a> Queue<'a> {
 
     /// The visits until nothing waits.
     fn run(&mut self) -> u64 {
-        let Doubled { flow, fault, .. } = self.graph;
-        let n = flow.statements.len();
+        let n = self.flow.statements.len();
         if n == 0 {
             return 0;
         }
-        let mut queue = VecDeque::from([usize::from(flow.entry)]);
+        let mut queue = VecDeque::from([usize::from(self.flow.entry)]);
         let mut waiting = vec![false; 2 * n];
         waiting[queue[0]] = true;
         let mut visits = 0;
         while let Some(number) = queue.pop_front() {
             waiting[number] = false;
             let first = self.acted[number].is_none();
-            if !first && fault == Some(Fault::FirstVisitOnly) {
+            if !first && self.fault == Some(Fault::FirstVisitOnly) {
                 continue;
             }
             visits += 1;
             let masks = self.union(number);
             let changed = masks != self.masks[number];
-            self.acted[number] = Some(self.graph.act(number % n, &masks));
+            self.acted[number] = Some(self.act(number % n, &masks));
             self.masks[number] = masks;
             if first || changed {
-                for edge in &self.graph.edges[number] {
+                for edge in &self.edges[number] {
                     if !std::mem::replace(&mut waiting[edge.to], true) {
                         queue.push_back(edge.to);
                     }
                 }
             }
         }
-        if fault == Some(Fault::VisitsFitTheBound) {
-            let edges: usize = self.graph.edges.iter().map(Vec::len).sum();
-            return visit_bound(edges, flow.arrays);
+        if self.fault == Some(Fault::VisitsFitTheBound) {
+            let edges: usize = self.edges.iter().map(Vec::len).sum();
+            return visit_bound(edges, self.flow.arrays);
         }
         visits
     }
 
     /// Statement by statement, the union over both copies.
     fn statement_masks(&self) -> Vec<u8> {
-        let (outer, body) = self.masks.split_at(self.graph.flow.statements.len());
+        let (outer, body) = self.masks.split_at(self.flow.statements.len());
         let both = outer.iter().flatten().zip(body.iter().flatten());
-        match self.graph.fault {
+        match self.fault {
             Some(Fault::EveryMaskSeven) => both.map(|_| ANY).collect(),
             _ => both.map(|(a, b)| a | b).collect(),
         }
@@ -1241,276 +1058,6 @@ impl<'a> Queue<'a> {
 /// The most visits that a doubled graph with so many edges may take.
 pub fn visit_bound(edges: usize, arrays: u8) -> u64 {
     1 + edges as u64 * (1 + 2 * u64::from(arrays))
-}
-
-// ----- A proposed table ---------------------------------------------------
-
-/// How many bytes a table of the flow has: a mask for each doubled number and array.
-pub fn table_length(flow: &Flow) -> usize {
-    2 * flow.statements.len() * usize::from(flow.arrays)
-}
-
-/// Our own table: the masks that the queue rule leaves at each doubled number, and 7 with an opaque handler.
-pub fn own_table(flow: &Flow, fault: Option<Fault>) -> Vec<u8> {
-    let subroutines = Subroutines::new(flow, fault);
-    if subroutines.opaque_handler() {
-        return vec![ANY; table_length(flow)];
-    }
-    let mut queue = Queue::new(&subroutines);
-    queue.run();
-    queue.masks.concat()
-}
-
-/// The least table that holds this one and is accepted.
-pub fn closed_table(flow: &Flow, table: &[u8]) -> Vec<u8> {
-    let subroutines = Subroutines::new(flow, None);
-    let (n, arrays) = (flow.statements.len(), usize::from(flow.arrays));
-    if subroutines.opaque_handler() {
-        return vec![ANY; table_length(flow)];
-    }
-    if table_length(flow) == 0 {
-        return Vec::new();
-    }
-    let graph = Doubled::new(&subroutines);
-    let mut rows: Vec<Vec<u8>> = table.chunks(arrays).take(2 * n).map(<[u8]>::to_vec).collect();
-    let join = |row: &mut [u8], masks: &[u8]| {
-        let before = row.to_vec();
-        row.iter_mut().zip(masks).for_each(|(mask, more)| *mask |= more);
-        row != before
-    };
-    join(&mut rows[usize::from(flow.entry)], &graph.at_entry());
-    let mut waiting: Vec<usize> = (0..2 * n).filter(|&number| is_filled(&rows[number])).collect();
-    while let Some(number) = waiting.pop() {
-        let acted = graph.act(number % n, &rows[number]);
-        for &edge in &graph.edges[number] {
-            let brought = graph.brought(number, edge, &rows[number], &acted);
-            if join(&mut rows[edge.to], &brought) {
-                waiting.push(edge.to);
-            }
-        }
-    }
-    rows.concat()
-}
-
-/// Whether a row is not all zero.
-fn is_filled(row: &[u8]) -> bool {
-    row.iter().any(|&mask| mask != 0)
-}
-
-/// Who asks a table for a mask.
-#[derive(Clone, Copy, Debug, PartialEq, Eq)]
-pub enum Asker {
-    Entry,
-    /// An edge from a doubled number.
-    Edge(usize),
-    /// The key's own edge from a doubled number.
-    Key(usize),
-    OpaqueHandler,
-}
-
-/// A mask that a table does not hold.
-#[derive(Clone, Copy, Debug, PartialEq, Eq)]
-pub struct Lack {
-    /// The doubled number, of twice so many statements.
-    pub number: usize,
-    pub statements: usize,
-    pub array: usize,
-    pub has: u8,
-    pub asked: u8,
-    pub by: Asker,
-}
-
-impl fmt::Display for Lack {
-    fn fmt(&self, f: &mut fmt::Formatter) -> fmt::Result {
-        let Lack { number, statements: n, array, has, asked, by } = *self;
-        let base = if number < n { "0" } else { "n" };
-        write!(f, "number {number} (statement {}, base {base}), array {array}: has {has}, ", number % n)?;
-        match by {
-            Asker::Entry => write!(f, "the entry asks for {asked}"),
-            Asker::Edge(from) => write!(f, "the edge from {from} asks for {asked}"),
-            Asker::Key(from) => write!(f, "the key's edge from {from} asks for {asked}"),
-            Asker::OpaqueHandler => write!(f, "must be {asked}, for the handler is opaque"),
-        }
-    }
-}
-
-/// A proposed table beside the doubled graph of its flow.
-struct Acceptor<'a> {
-    flow: &'a Flow,
-    fault: Option<Fault>,
-    opaque: bool,
-    graph: Doubled<'a>,
-    /// Row by row, from number 0.
-    rows: Vec<Vec<u8>>,
-}
-
-impl<'a> Acceptor<'a> {
-    fn new(flow: &'a Flow, proposal: &[u8], fault: Option<Fault>) -> Self {
-        // What the masks have a fault for already.
-        let in_masks = match fault {
-            Some(Fault::TableSureTouched) => Some(Fault::NothingSure),
-            Some(Fault::TableKeyAfterAct) => Some(Fault::KeyAfterAct),
-            Some(Fault::TableKeyStepLeftOut) => Some(Fault::KeyEdgesUnstepped),
-            Some(Fault::TableEntryUnstepped) => Some(Fault::KeyEntryUnstepped),
-            Some(Fault::TableOpaqueByEdges) => Some(Fault::OpaqueHandlerSolved),
-            _ => fault,
-        };
-        let subroutines = Subroutines::new(flow, in_masks);
-        let (n, arrays) = (flow.statements.len(), usize::from(flow.arrays));
-        let place = |number: usize, a: usize| match fault {
-            Some(Fault::TableByStatement) => (2 * (number % n) + number / n) * arrays + a,
-            Some(Fault::TableByArray) => a * 2 * n + number,
-            _ => number * arrays + a,
-        };
-        // Only a fault lets a table pass that is shorter than it must be, or a byte that is no mask.
-        let byte = |at: usize| proposal.get(at).copied().unwrap_or(0);
-        let mask =
-            |at: usize| if fault == Some(Fault::TableOverSevenCut) { byte(at) & ANY } else { byte(at) };
-        let row = |number: usize| (0..arrays).map(|a| mask(place(number, a))).collect();
-        let rows = (0..2 * n).map(row).collect();
-        Acceptor {
-            flow,
-            fault,
-            opaque: subroutines.opaque_handler(),
-            graph: Doubled::new(&subroutines),
-            rows,
-        }
-    }
-
-    /// The statement's other number.
-    fn other(&self, number: usize) -> usize {
-        let n = self.flow.statements.len();
-        if number < n { number + n } else { number - n }
-    }
-
-    /// The row of a number together with that of the statement's other one.
-    fn both(&self, number: usize) -> Vec<u8> {
-        let rows = self.rows[number].iter().zip(&self.rows[self.other(number)]);
-        rows.map(|(a, b)| a | b).collect()
-    }
-
-    /// The first of these masks that a number's row does not hold.
-    fn lacks(&self, number: usize, masks: &[u8], by: Asker) -> Option<Lack> {
-        let together = match by {
-            Asker::OpaqueHandler => self.fault == Some(Fault::TableOpaqueEitherCopy),
-            _ => self.fault == Some(Fault::TableEitherCopy),
-        };
-        let row = if together { &self.both(number) } else { &self.rows[number] };
-        let holds = |has: u8, asked: u8| match (by, self.fault) {
-            (Asker::Entry, Some(Fault::TableEntryMustEqual)) => has == asked,
-            (Asker::Edge(_) | Asker::Key(_), Some(Fault::TableMustEqual)) => has == asked,
-            (Asker::OpaqueHandler, _) => has == asked,
-            _ => asked & !has == 0,
-        };
-        let array = row.iter().zip(masks).position(|(&has, &asked)| !holds(has, asked))?;
-        let statements = self.flow.statements.len();
-        Some(Lack { number, statements, array, has: row[array], asked: masks[array], by })
-    }
-
-    /// What the entry's row does not hold of what comes in there.
-    fn at_entry(&self) -> Option<Lack> {
-        let (entry, comes_in) = (usize::from(self.flow.entry), self.graph.at_entry());
-        match self.fault {
-            Some(Fault::TableEntryLeftOut) => None,
-            Some(Fault::TableEntryInBody) => {
-                let asked = [entry, self.other(entry)];
-                asked.into_iter().find_map(|number| self.lacks(number, &comes_in, Asker::Entry))
-            }
-            _ => self.lacks(entry, &comes_in, Asker::Entry),
-        }
-    }
-
-    /// What an edge asks for, of a zero byte too.
-    fn asked(&self, number: usize, edge: Edge, row: &[u8], acted: &[u8]) -> Vec<u8> {
-        let edge = match self.fault {
-            Some(Fault::TableContinuationPlain) => Edge { touched: 0, sure: 0, ..edge },
-            _ => edge,
-        };
-        let asked = self.graph.brought(number, edge, row, acted);
-        if edge.key && self.fault == Some(Fault::TableKeyEdgeLeftOut) {
-            return vec![0; row.len()];
-        }
-        let s = &self.flow.statements[number % self.flow.statements.len()];
-        let of_zero = |a: usize, asked: u8| match self.fault {
-            Some(Fault::TableZerosPassedOver) => 0,
-            Some(Fault::TableDimSparesZeros) if matches!(s.kind, Kind::Dim(_)) => 0,
-            Some(Fault::TableClearSparesZeros) if matches!(s.kind, Kind::Clr | Kind::Run) => 0,
-            Some(Fault::TableReferenceFills) if !edge.key && has(array_set(&s.references), a) => asked | AUTO,
-            Some(Fault::TableTouchedFills) if has(edge.touched | edge.by_handler, a) => asked | AUTO,
-            _ => asked,
-        };
-        let of = |(a, (&mask, asked)): (usize, (&u8, u8))| if mask == 0 { of_zero(a, asked) } else { asked };
-        row.iter().zip(asked).enumerate().map(of).collect()
-    }
-
-    /// What the edges that leave a row ask for, and their targets do not hold.
-    fn beyond(&self, number: usize) -> Option<Lack> {
-        let n = self.flow.statements.len();
-        let row = match self.fault {
-            Some(Fault::TableUnionLeaves) => &self.both(number),
-            _ => &self.rows[number],
-        };
-        let acted = match self.fault {
-            Some(Fault::TableActLeftOut) => row.clone(),
-            _ => self.graph.act(number % n, row),
-        };
-        self.graph.edges[number].iter().find_map(|&edge| {
-            let by = if edge.key { Asker::Key(number) } else { Asker::Edge(number) };
-            self.lacks(edge.to, &self.asked(number, edge, row, &acted), by)
-        })
-    }
-
-    /// The rows whose edges ask: those that are not all zero.
-    fn looked_at(&self) -> Vec<usize> {
-        let n = self.flow.statements.len();
-        let filled = |number: &usize| is_filled(&self.rows[*number]);
-        match self.fault {
-            Some(Fault::TableEmptyRows) => (0..2 * n).collect(),
-            Some(Fault::TableBaseZeroRows) => (0..n).filter(filled).collect(),
-            Some(Fault::TableReachedRows) => {
-                let reached = reached_numbers(&self.graph.edges, self.flow.entry.into());
-                (0..2 * n).filter(filled).filter(|&number| reached[number]).collect()
-            }
-            _ => (0..2 * n).filter(filled).collect(),
-        }
-    }
-
-    fn first_lack(&self) -> Option<Lack> {
-        if self.opaque {
-            let any = vec![ANY; self.flow.arrays.into()];
-            return (0..self.rows.len()).find_map(|number| self.lacks(number, &any, Asker::OpaqueHandler));
-        }
-        self.at_entry().or_else(|| self.looked_at().into_iter().find_map(|number| self.beyond(number)))
-    }
-}
-
-/// The first mask that a proposed table of the flow does not hold, if it is declined: at the entry, then row by row.
-/// It has a byte for each doubled number and array, none of them over 7.
-pub fn first_lack(flow: &Flow, proposal: &[u8]) -> Option<Lack> {
-    lack(flow, proposal, None)
-}
-
-fn lack(flow: &Flow, proposal: &[u8], fault: Option<Fault>) -> Option<Lack> {
-    let some = !flow.statements.is_empty();
-    some.then(|| Acceptor::new(flow, proposal, fault).first_lack()).flatten()
-}
-
-/// Whether a proposed table of the flow is accepted. It has a byte for each doubled number and array, none of them
-/// over 7.
-pub fn accepts(flow: &Flow, proposal: &[u8], fault: Option<Fault>) -> bool {
-    let table = &proposal[..proposal.len().min(table_length(flow))];
-    match fault {
-        Some(Fault::TableAccepted) => true,
-        Some(Fault::TableNoStatementsDeclined) if flow.statements.is_empty() => false,
-        Some(Fault::TableNoArraysDeclined) if flow.arrays == 0 && !flow.statements.is_empty() => false,
-        Some(Fault::TableOverSevenDeclined) if table.iter().any(|&mask| mask > ANY) => false,
-        Some(Fault::TableOpaqueAccepted) if Subroutines::new(flow, None).opaque_handler() => true,
-        Some(Fault::TableOwnOnly) => table == own_table(flow, None),
-        Some(Fault::TableOwnWithin) => {
-            own_table(flow, None).iter().zip(table).all(|(own, mask)| own & !mask == 0)
-        }
-        _ => lack(flow, proposal, fault).is_none(),
-    }
 }
 
 // ----- Live names ---------------------------------------------------------
@@ -1789,8 +1336,10 @@ pub fn states(flow: &Flow, fault: Option<Fault>) -> States {
         let visits = queue.run();
         (queue.statement_masks(), visits)
     };
+    let opaque = subroutines.handler_body().is_some_and(|body| body.opaque);
     let (masks, visits) = match fault {
-        _ if !subroutines.opaque_handler() => solved(),
+        Some(Fault::OpaqueHandlerSolved) => solved(),
+        _ if !opaque => solved(),
         Some(Fault::OpaqueHandlerIfReached) => {
             (solved().0.iter().map(|&mask| if mask == 0 { 0 } else { ANY }).collect(), 0)
         }
@@ -1920,77 +1469,4 @@ pub fn interference(file: &[u8], rows: &mut [u64], work: &mut [u64], fault: Opti
         }
     }
     Answer::accepted(found.most)
-}
-
-/// Whether the first bytes of a proposal, as many as the table has, are masks.
-fn masks_fit(flow: &Flow, proposal: &[u8], fault: Option<Fault>) -> Result<(), Refusal> {
-    let table = match fault {
-        Some(Fault::TableOverSevenBehind) => proposal,
-        _ => &proposal[..proposal.len().min(table_length(flow))],
-    };
-    let over = |byte: &u8| *byte > ANY;
-    let first = match fault {
-        Some(Fault::TableOverSevenCut | Fault::TableOverSevenDeclined) => None,
-        Some(Fault::TableOpaqueFirst) if Subroutines::new(flow, None).opaque_handler() => None,
-        Some(Fault::TableOverSevenLast) => table.iter().rposition(over),
-        _ => table.iter().position(over),
-    };
-    let place = |index: usize| match fault {
-        Some(Fault::TableOverSevenRow) => index / usize::from(flow.arrays),
-        Some(Fault::TableOverSevenNoPlace) => 0,
-        _ => index,
-    };
-    first.map_or(Ok(()), |index| Err(Refusal { number: 11, place: place(index) as u64 }))
-}
-
-/// The flow of a file that is not refused with this proposal and so many words of work area: the file is judged, the
-/// work area, the proposal's length, and last its bytes.
-fn with_proposal(file: &[u8], proposal: &[u8], work: usize, fault: Option<Fault>) -> Result<Flow, Refusal> {
-    if fault == Some(Fault::TableOverSevenFirst) {
-        masks_fit(&flow::read(file)?, proposal, fault)?;
-    }
-    let least = |flow: &Flow| match fault {
-        Some(Fault::TableHalfLength) => table_length(flow) / 2,
-        Some(Fault::TableOneShort) => table_length(flow).saturating_sub(1),
-        _ => table_length(flow),
-    };
-    let longer = |flow: &Flow| proposal.len() > table_length(flow);
-    let serve = |flow: &Flow| {
-        (work >= WORK_WORDS * flow.statements.len() || fault == Some(Fault::TableWorkUnjudged))
-            && proposal.len() >= least(flow)
-            && !(fault == Some(Fault::TableExactLength) && longer(flow))
-    };
-    let flow = accepted(file, fault, serve)?;
-    masks_fit(&flow, proposal, fault)?;
-    Ok(flow)
-}
-
-/// Whether the proposed table of a file is accepted, with this work area lent.
-pub fn accept(file: &[u8], proposal: &[u8], work: &mut [u64], fault: Option<Fault>) -> Answer {
-    let flow = match with_proposal(file, proposal, work.len(), fault) {
-        Ok(flow) => flow,
-        Err(refusal) => {
-            if fault == Some(Fault::TableWorkOfRefused) && refusal.number == 11 {
-                work.fill(0);
-            }
-            return refusal.into();
-        }
-    };
-    let yes = accepts(&flow, proposal, fault);
-    let kept = match fault {
-        Some(Fault::AreasUntouched) => true,
-        Some(Fault::TableWorkKeptAfterYes) => yes,
-        Some(Fault::TableWorkKeptAfterNo) => !yes,
-        _ => false,
-    };
-    if !kept {
-        work.fill(0);
-    }
-    if fault == Some(Fault::TableNoIsRefusal)
-        && let Some(lack) = first_lack(&flow, proposal)
-    {
-        let index = lack.number * usize::from(flow.arrays) + lack.array;
-        return Refusal { number: 11, place: index as u64 }.into();
-    }
-    Answer::accepted(yes.into())
 }

@@ -1,6 +1,5 @@
 //! Flows to measure on, medians, and the measurements: the proved reader beside a plain one, the
-//! whole call beside the original, the calls for certain names and for interference beside both, and the
-//! acceptor beside the whole call.
+//! whole call beside the original, and the calls for certain names and for interference beside both.
 
 use std::hint::black_box;
 use std::time::{Duration, Instant};
@@ -481,73 +480,5 @@ pub fn interference_call() -> bool {
     for (name, flow) in growing_flows() {
         measure_interference(name, &flow);
     }
-    within
-}
-
-// ----- Proposed tables ----------------------------------------------------
-
-/// Our own table of the flow without the last state in it. No table with fewer states than our own is accepted, and this
-/// one is declined late: by an edge to the last row that is not all zero.
-pub fn near_miss(table: &[u8]) -> Vec<u8> {
-    let mut table = table.to_vec();
-    if let Some(mask) = table.iter_mut().rev().find(|mask| **mask != 0) {
-        *mask &= *mask - 1;
-    }
-    table
-}
-
-/// The shares of the whole call's time that the acceptor takes: with our own table, with a near miss, and with a table
-/// that is 7 everywhere, in which every edge of both copies is looked at.
-fn measure_accept(name: &str, flow: &Flow) -> Option<[f64; 3]> {
-    let own = answerer::own_table(flow, None);
-    let tables = [own.clone(), near_miss(&own), vec![7; own.len()]];
-    let mut work = work_area(flow);
-    let file = flow.bytes();
-    let expected = [1, u64::from(own.is_empty()), 1];
-    for (table, yes) in tables.iter().zip(expected) {
-        assert_eq!(sides::proved_accept(&file, table, &mut work)?, Answer::accepted(yes), "{name}");
-    }
-    print!("{name:36} {:>6}", own.len());
-    let mut shares = [0.0; 3];
-    for (table, share) in tables.iter().zip(&mut shares) {
-        let [accept, states] = medians_beside(flow, |file| sides::proved_accept(file, table, &mut work))?;
-        *share = ratio(accept, states);
-        print!(" {accept:>10.2?} {states:>10.2?} {share:>6.3}");
-    }
-    println!();
-    Some(shares)
-}
-
-/// The acceptor beside the whole call, with tables that it accepts and declines: cheaper on every flow with our own
-/// table.
-pub fn accept_call() -> bool {
-    println!(
-        "\n{:36} {:>6} {:>10} {:>10} {:>6} {:>10} {:>10} {:>6} {:>10} {:>10} {:>6}",
-        "flow",
-        "bytes",
-        "own table",
-        "states",
-        "share",
-        "near miss",
-        "states",
-        "share",
-        "all 7",
-        "states",
-        "share"
-    );
-    let keyed = key_flows().into_iter().map(|(name, flow)| (format!("{name}, a key"), flow));
-    let flows = flows().into_iter().map(|(name, flow)| (name.to_string(), flow)).chain(keyed);
-    let measured: Option<Vec<[f64; 3]>> = flows.map(|(name, flow)| measure_accept(&name, &flow)).collect();
-    let Some(shares) = measured else {
-        println!("{}", sides::NO_LIBRARY);
-        return true;
-    };
-    let [own, near, all] = [0, 1, 2].map(|i| shares.iter().map(|share| share[i]).fold(0.0, f64::max));
-    let within = own < 1.0;
-    print!(
-        "of the whole call's time, at the most: {own:.3} with our own table (below 1: {}), ",
-        holds(within)
-    );
-    println!("{near:.3} with a near miss, {all:.3} with 7 everywhere");
     within
 }

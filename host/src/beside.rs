@@ -10,9 +10,9 @@ use std::sync::atomic::{AtomicU32, Ordering};
 use std::time::Duration;
 use std::{env, fs, mem, process};
 
-use crate::answerer::{self, Answer, Areas};
+use crate::answerer::{Answer, Areas};
 use crate::bench;
-use crate::door::{self, AcceptDoor, CertainDoor, InterferenceDoor, StatesDoor};
+use crate::door::{self, CertainDoor, InterferenceDoor, StatesDoor};
 use crate::flow::Flow;
 use crate::judge::Lent;
 
@@ -34,7 +34,6 @@ pub struct Build {
     states: StatesDoor,
     certain: Option<CertainDoor>,
     interference: Option<InterferenceDoor>,
-    accept: Option<AcceptDoor>,
 }
 
 impl Build {
@@ -72,7 +71,6 @@ impl Build {
                     .map(|door| mem::transmute::<*mut c_void, CertainDoor>(door)),
                 interference: door(c"yarnuskel_interference")
                     .map(|door| mem::transmute::<*mut c_void, InterferenceDoor>(door)),
-                accept: door(c"yarnuskel_accept").map(|door| mem::transmute::<*mut c_void, AcceptDoor>(door)),
             }
         })
     }
@@ -90,11 +88,6 @@ impl Build {
     pub fn interference(&self, file: &[u8], rows: &mut [u64], work: &mut [u64]) -> Option<Answer> {
         Some(door::interference_by(self.interference?, file, rows, work))
     }
-
-    /// `None` where the build has no such door.
-    pub fn accept(&self, file: &[u8], proposal: &[u8], work: &mut [u64]) -> Option<Answer> {
-        Some(door::accept_by(self.accept?, file, proposal, work))
-    }
 }
 
 /// The times of both on one flow, shortest first, over areas as `lend` makes them; `None` where one of them has no such
@@ -103,11 +96,11 @@ fn times<A: PartialEq>(
     name: &str,
     flow: &Flow,
     builds: [&Build; 2],
-    lend: impl Fn(&Flow, Lent) -> A,
+    lend: impl Fn(Lent) -> A,
     call: impl Fn(&Build, &[u8], &mut A) -> Option<Answer>,
 ) -> Option<[Vec<Duration>; 2]> {
     let file = flow.bytes();
-    let mut lent = [(); 2].map(|()| lend(flow, Lent::for_file(&file, 0)));
+    let mut lent = [(); 2].map(|()| lend(Lent::for_file(&file, 0)));
     let [first, second] = &mut lent;
     let answers = [call(builds[0], &file, first)?, call(builds[1], &file, second)?];
     assert!(answers[0] == answers[1] && first == second, "{name}: the two answer differently");
@@ -126,7 +119,7 @@ fn times<A: PartialEq>(
 fn table<A: PartialEq>(
     door: &str,
     builds: [&Build; 2],
-    lend: impl Fn(&Flow, Lent) -> A,
+    lend: impl Fn(Lent) -> A,
     call: impl Fn(&Build, &[u8], &mut A) -> Option<Answer>,
 ) {
     println!(
@@ -155,29 +148,18 @@ pub fn measure(other: &Path) -> Result<(), String> {
     let same = fs::read(other).ok() == fs::read(own()).ok();
     println!("the two archives are {}", if same { "the same, byte by byte" } else { "not the same" });
     let words = |length: usize| vec![0; length];
-    table(
-        "yarnuskel_states",
-        builds,
-        |_, lent| lent.areas(),
-        |build, file, areas| Some(build.states(file, areas)),
-    );
+    table("yarnuskel_states", builds, Lent::areas, |build, file, areas| Some(build.states(file, areas)));
     table(
         "yarnuskel_certain",
         builds,
-        |_, lent| words(lent.work),
+        |lent| words(lent.work),
         |build, file, work| build.certain(file, work),
     );
     table(
         "yarnuskel_interference",
         builds,
-        |_, lent| [words(lent.rows), words(lent.work)],
+        |lent| [words(lent.rows), words(lent.work)],
         |build, file, [rows, work]| build.interference(file, rows, work),
-    );
-    table(
-        "yarnuskel_accept, our own table",
-        builds,
-        |flow, lent| (answerer::own_table(flow, None), words(lent.work)),
-        |build, file, (table, work)| build.accept(file, table, work),
     );
     Ok(())
 }

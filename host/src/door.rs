@@ -39,16 +39,6 @@ unsafe extern "C" {
         place: *mut u64,
         most: *mut u64,
     ) -> u64;
-    fn yarnuskel_accept(
-        file: *const u8,
-        file_length: usize,
-        proposal: *const u8,
-        proposal_length: usize,
-        work: *mut u64,
-        work_length: usize,
-        place: *mut u64,
-        accepted: *mut u64,
-    ) -> u64;
 }
 
 /// Whether a flow file is fit, or its refusal.
@@ -209,40 +199,6 @@ pub(crate) fn interference_by(
             file.len(),
             rows.as_mut_ptr(),
             rows.len(),
-            work.as_mut_ptr(),
-            work.len(),
-            &mut place,
-            &mut found,
-        )
-    };
-    Answer { number, place, found }
-}
-
-/// Whether a table of masks worked out elsewhere is accepted, or the refusal of the file or of the table. It has a byte
-/// for each doubled number and array, row by row from number 0; what stands behind them is not looked at.
-pub fn accept(file: &[u8], proposal: &[u8]) -> Result<bool, Refusal> {
-    let (n, ..) = header(file);
-    accept_in(file, proposal, &mut vec![0; WORK_WORDS * n]).result().map(|yes| yes == 1)
-}
-
-/// `yarnuskel_accept` of this build or of another.
-pub type AcceptDoor =
-    unsafe extern "C" fn(*const u8, usize, *const u8, usize, *mut u64, usize, *mut u64, *mut u64) -> u64;
-
-/// The call itself, over a proposal and a work area of any length; what it finds is 1 for a yes and 0 for a no.
-pub fn accept_in(file: &[u8], proposal: &[u8], work: &mut [u64]) -> Answer {
-    accept_by(yarnuskel_accept, file, proposal, work)
-}
-
-pub(crate) fn accept_by(door: AcceptDoor, file: &[u8], proposal: &[u8], work: &mut [u64]) -> Answer {
-    let (mut place, mut found) = (u64::MAX, u64::MAX);
-    // The slices are distinct, and each pointer goes with its own length.
-    let number = unsafe {
-        door(
-            file.as_ptr(),
-            file.len(),
-            proposal.as_ptr(),
-            proposal.len(),
             work.as_mut_ptr(),
             work.len(),
             &mut place,

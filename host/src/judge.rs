@@ -3,10 +3,9 @@
 
 use crate::answerer::{self, Answer, Areas, Fault, KeyParts, States, SureParts};
 use crate::flow::{self, Flow, Refusal};
-use crate::generate::{self, Proposal};
 use crate::interference::Interference;
-use crate::reader;
 use crate::sides::{self, Original, OriginalCertain};
+use crate::{generate, reader};
 
 /// Lengths of the lent areas: mask bytes, live-in, live-out and work words, and the rows of interference.
 #[derive(Clone, Copy, Debug, Default, PartialEq, Eq)]
@@ -51,61 +50,8 @@ impl Lent {
     }
 }
 
-/// A table proposed with a file, and how many words of work area are lent with it.
-#[derive(Clone, Debug, Default, PartialEq, Eq)]
-pub struct Proposed {
-    pub bytes: Vec<u8>,
-    pub work: usize,
-}
-
-impl Proposed {
-    /// With a work area that serves the file, `more` longer than it must be.
-    pub fn new(file: &[u8], bytes: Vec<u8>, more: usize) -> Proposed {
-        Proposed { bytes, work: Lent::for_file(file, more).work }
-    }
-
-    /// The proposal of a file of a run, and whether it is a near miss; the work area is one word short in one file of
-    /// 16.
-    pub fn in_turn(file: &[u8], seed: u64, index: u64) -> (Proposed, bool) {
-        let Proposal { bytes, near_miss } = generate::proposal(file, seed, index);
-        let mut proposed = Proposed::new(file, bytes, (index % 2) as usize);
-        if index / 12 % 16 == 0 {
-            proposed.work = Lent::for_file(file, 0).work.saturating_sub(1);
-        }
-        (proposed, near_miss)
-    }
-
-    fn patterned_work(&self) -> Vec<u64> {
-        answerer::patterned_words(self.work)
-    }
-}
-
-/// What comes of a proposal: the answer, and what stands in the work area after the call.
-#[derive(Clone, Debug, PartialEq, Eq)]
-pub struct Verdict {
-    pub answer: Answer,
-    pub work: Vec<u64>,
-}
-
-pub fn verdict(file: &[u8], proposed: &Proposed, fault: Option<Fault>) -> Verdict {
-    let mut work = proposed.patterned_work();
-    let answer = answerer::accept(file, &proposed.bytes, &mut work, fault);
-    Verdict { answer, work }
-}
-
-fn verdicts(file: &[u8], proposals: &[Proposed], fault: Option<Fault>) -> Vec<Verdict> {
-    proposals.iter().map(|proposed| verdict(file, proposed, fault)).collect()
-}
-
-/// What the proved acceptor answers and leaves in the work area; `None` without it.
-pub fn proved_verdict(file: &[u8], proposed: &Proposed) -> Option<Verdict> {
-    let mut work = proposed.patterned_work();
-    let answer = sides::proved_accept(file, &proposed.bytes, &mut work)?;
-    Some(Verdict { answer, work })
-}
-
 /// The answers to a file, and what stands in the areas after each call. The calls for certain names and for
-/// interference have work areas of their own, as long as the other's; and so has the acceptor, one a proposal.
+/// interference have work areas of their own, as long as the other's.
 #[derive(Clone, Debug, PartialEq, Eq)]
 pub struct Outcome {
     pub answer: Answer,
@@ -115,22 +61,15 @@ pub struct Outcome {
     pub interference: Answer,
     pub rows: Vec<u64>,
     pub interference_work: Vec<u64>,
-    pub verdicts: Vec<Verdict>,
 }
 
-/// Without proposals.
 pub fn outcome(file: &[u8], lent: Lent, fault: Option<Fault>) -> Outcome {
-    outcome_with(file, lent, &[], fault)
-}
-
-pub fn outcome_with(file: &[u8], lent: Lent, proposals: &[Proposed], fault: Option<Fault>) -> Outcome {
     let mut outcome = Outcome::before(lent);
     let Outcome { areas, certain_work, rows, interference_work, .. } = &mut outcome;
     let answer = answerer::answer(file, areas, fault);
     let certain = answerer::certain(file, certain_work, fault);
     let interference = answerer::interference(file, rows, interference_work, fault);
-    let verdicts = verdicts(file, proposals, fault);
-    Outcome { answer, certain, interference, verdicts, ..outcome }
+    Outcome { answer, certain, interference, ..outcome }
 }
 
 /// Whether every state of these masks is in the original's, where there may be fewer of them, or whether
@@ -154,7 +93,6 @@ impl Outcome {
             interference: Answer::default(),
             rows: answerer::patterned_words(lent.rows),
             interference_work: areas.work.clone(),
-            verdicts: Vec::new(),
             areas,
         }
     }
@@ -181,7 +119,6 @@ impl Outcome {
 /// original says where a call accepts and there is no interrupt key; of interference it says something in any case.
 pub struct Right {
     pub outcome: Outcome,
-    pub proposals: Vec<Proposed>,
     pub flow: Option<Flow>,
     pub sure: SureParts,
     pub original: Option<Original>,
@@ -189,20 +126,15 @@ pub struct Right {
     pub interference: Option<Interference>,
 }
 
-/// Without proposals.
 pub fn right(file: &[u8], lent: Lent) -> Right {
-    right_with(file, lent, Vec::new())
-}
-
-pub fn right_with(file: &[u8], lent: Lent, proposals: Vec<Proposed>) -> Right {
-    let outcome = outcome_with(file, lent, &proposals, None);
+    let outcome = outcome(file, lent, None);
     let flow = flow::read(file).ok();
     let sure = flow.as_ref().map(answerer::sure_parts).unwrap_or_default();
     let accepted = |number: u64| flow.as_ref().filter(|_| number == 0);
     let original = accepted(outcome.answer.number).and_then(sides::original);
     let certain = accepted(outcome.certain.number).and_then(sides::original_certain);
     let interference = accepted(outcome.interference.number).and_then(sides::original_interference);
-    Right { outcome, proposals, flow, sure, original, certain, interference }
+    Right { outcome, flow, sure, original, certain, interference }
 }
 
 impl Right {
@@ -260,10 +192,7 @@ pub struct Shown {
 
 /// Whether the fault shows in this file at all, and against the original.
 pub fn shows(fault: Fault, file: &[u8], lent: Lent, right: &Right) -> (bool, bool) {
-    if fault.is_of_acceptor() {
-        return (verdicts(file, &right.proposals, Some(fault)) != right.outcome.verdicts, false);
-    }
-    let wrong = outcome_with(file, lent, &right.proposals, Some(fault));
+    let wrong = outcome(file, lent, Some(fault));
     let against = !right.original_agrees(&wrong);
     (against || wrong != right.outcome, against)
 }
@@ -273,7 +202,7 @@ pub fn fault_table(count: u64, seed: u64) -> Vec<(Fault, Shown)> {
     for index in 0..count {
         let file = generate::file(seed, index);
         let lent = Lent::in_turn(&file, index);
-        let right = right_with(&file, lent, vec![Proposed::in_turn(&file, seed, index).0]);
+        let right = right(&file, lent);
         for (fault, shown) in &mut table {
             let (at_all, against) = shows(*fault, &file, lent, &right);
             shown.flows += usize::from(at_all);
@@ -448,48 +377,6 @@ impl Meetings {
     }
 }
 
-/// Of the flows with statements and arrays whose acceptor was asked: how many tables were accepted, declined, refused 10
-/// and refused 11; how many were near misses, and how many of these were accepted. And how many flows without
-/// statements or arrays it was asked for.
-#[derive(Default)]
-pub struct Tables {
-    pub flows: usize,
-    pub yes: usize,
-    pub no: usize,
-    pub short: usize,
-    pub over: usize,
-    pub near: usize,
-    pub near_yes: usize,
-    pub empty: usize,
-}
-
-impl Tables {
-    fn count(&mut self, right: &Right, near: bool) {
-        let (Some(flow), [verdict]) = (&right.flow, &right.outcome.verdicts[..]) else { return };
-        if answerer::table_length(flow) == 0 {
-            self.empty += 1;
-            return;
-        }
-        let yes = verdict.answer == Answer::accepted(1);
-        self.flows += 1;
-        self.yes += usize::from(yes);
-        self.no += usize::from(verdict.answer == Answer::accepted(0));
-        self.short += usize::from(verdict.answer.number == 10);
-        self.over += usize::from(verdict.answer.number == 11);
-        self.near += usize::from(near);
-        self.near_yes += usize::from(near && yes);
-    }
-
-    fn print(&self) {
-        let Tables { flows, yes, no, short, over, near, near_yes, empty } = *self;
-        let share = |count: usize, of: usize| format!("{count} ({:.1}%)", 100.0 * count as f64 / of as f64);
-        print!("  acceptor, {flows} flows with a table: {} yes, ", share(yes, yes + no));
-        println!("{} no, {short} refused 10, {over} refused 11;", share(no, yes + no));
-        print!("    {} near misses, {near_yes} of them yes; ", share(near, flows));
-        println!("{empty} flows without statements or arrays");
-    }
-}
-
 #[derive(Default)]
 pub struct Comparison {
     pub accepted: usize,
@@ -499,7 +386,6 @@ pub struct Comparison {
     pub sureness: Sureness,
     pub keys: Keys,
     pub meetings: Meetings,
-    pub tables: Tables,
     pub differences: Vec<String>,
 }
 
@@ -561,22 +447,6 @@ impl Comparison {
         self.hold(index, "the answerer with and without the key", kept && same);
     }
 
-    /// Our own table beside the masks, which are its rows by statement; it is accepted, and every accepted table holds
-    /// it.
-    fn hold_table(&mut self, index: u64, right: &Right) {
-        let Some(flow) = right.accepted() else { return };
-        let own = answerer::own_table(flow, None);
-        let (outer, body) = own.split_at(own.len() / 2);
-        let masks: Vec<u8> = outer.iter().zip(body).map(|(a, b)| a | b).collect();
-        self.hold(index, "the masks and our own table", right.outcome.areas.masks.starts_with(&masks));
-        self.hold(index, "the answerer and its own table", answerer::accepts(flow, &own, None));
-        for (proposed, verdict) in right.proposals.iter().zip(&right.outcome.verdicts) {
-            let within = own.iter().zip(&proposed.bytes).all(|(own, mask)| own & !mask == 0);
-            let accepted = verdict.answer == Answer::accepted(1);
-            self.hold(index, "our own table and an accepted one", within || !accepted);
-        }
-    }
-
     pub fn print(&self, count: u64, seed: u64) {
         println!("{count} files, seed {seed}: {} accepted", self.accepted);
         for (number, files) in self.refused.iter().enumerate().filter(|(_, files)| **files > 0) {
@@ -594,9 +464,6 @@ impl Comparison {
         if self.meetings.flows > 0 {
             self.meetings.print();
         }
-        if self.tables.flows > 0 {
-            self.tables.print();
-        }
         self.differences.iter().for_each(|d| println!("  {d}"));
         println!("{} differences", self.differences.len());
     }
@@ -610,24 +477,21 @@ fn of_file(answer: Answer) -> Result<(), Refusal> {
     }
 }
 
-/// The answerer beside the original (masks, live sets, certain names, interference), beside the plain reader
-/// (refusals), and its acceptor beside its own table.
+/// The answerer beside the original (masks, live sets, certain names, interference) and beside the plain reader
+/// (refusals).
 pub fn compare(count: u64, seed: u64) -> Comparison {
     let mut comparison = Comparison::default();
     for index in 0..count {
         let file = generate::file(seed, index);
-        let (proposed, near_miss) = Proposed::in_turn(&file, seed, index);
-        let right = right_with(&file, Lent::in_turn(&file, index), vec![proposed]);
+        let right = right(&file, Lent::in_turn(&file, index));
         comparison.count(right.outcome.answer);
         let read = reader::read(&file, &mut Vec::new());
         comparison.certainty.count(&right);
         comparison.meetings.count(&right);
-        comparison.tables.count(&right, near_miss);
         comparison.hold(index, "the plain reader and the answerer", read == of_file(right.outcome.answer));
         comparison.hold_original(index, "the answerer", &right, &right.outcome);
         comparison.hold_without_sure(index, &right);
         comparison.hold_key(index, &right);
-        comparison.hold_table(index, &right);
     }
     comparison
 }
@@ -652,21 +516,14 @@ pub fn compare_reader(count: u64, seed: u64) -> Option<Comparison> {
     Some(comparison)
 }
 
-/// Without proposals; `None` without the proved calls.
-pub fn proved_outcome(file: &[u8], lent: Lent) -> Option<Outcome> {
-    proved_outcome_with(file, lent, &[])
-}
-
 /// What the proved calls answer and leave in the areas; `None` without them.
-pub fn proved_outcome_with(file: &[u8], lent: Lent, proposals: &[Proposed]) -> Option<Outcome> {
+pub fn proved_outcome(file: &[u8], lent: Lent) -> Option<Outcome> {
     let mut outcome = Outcome::before(lent);
     let Outcome { areas, certain_work, rows, interference_work, .. } = &mut outcome;
     let answer = sides::proved_states(file, areas)?;
     let certain = sides::proved_certain(file, certain_work)?;
     let interference = sides::proved_interference(file, rows, interference_work)?;
-    let verdicts: Option<Vec<Verdict>> =
-        proposals.iter().map(|proposed| proved_verdict(file, proposed)).collect();
-    Some(Outcome { answer, certain, interference, verdicts: verdicts?, ..outcome })
+    Some(Outcome { answer, certain, interference, ..outcome })
 }
 
 /// Areas that serve the file as a rule; in one file of eight, one of them may be short.
@@ -684,28 +541,21 @@ fn lent_in_turn(file: &[u8], index: u64) -> Lent {
 }
 
 /// The proved calls beside the original (masks, live sets, certain names, interference) and beside the answerer
-/// (refusals, places, visits, certain names, interference, accepted tables, every byte of the areas).
+/// (refusals, places, visits, certain names, interference, every byte of the areas).
 pub fn compare_proved(count: u64, seed: u64) -> Option<Comparison> {
     let mut comparison = Comparison::default();
     for index in 0..count {
         let file = generate::file(seed, index);
         let lent = lent_in_turn(&file, index);
-        let (proposed, near_miss) = Proposed::in_turn(&file, seed, index);
-        let right = right_with(&file, lent, vec![proposed]);
-        let proved = proved_outcome_with(&file, lent, &right.proposals)?;
+        let right = right(&file, lent);
+        let proved = proved_outcome(&file, lent)?;
         comparison.count(right.outcome.answer);
         comparison.certainty.count(&right);
         comparison.meetings.count(&right);
-        comparison.tables.count(&right, near_miss);
-        let which = match proved.verdicts == right.outcome.verdicts {
-            true => "the proved calls and the answerer",
-            false => "the proved acceptor and the answerer",
-        };
-        comparison.hold(index, which, proved == right.outcome);
+        comparison.hold(index, "the proved calls and the answerer", proved == right.outcome);
         comparison.hold_original(index, "the proved calls", &right, &proved);
         comparison.hold_without_sure(index, &right);
         comparison.hold_key(index, &right);
-        comparison.hold_table(index, &right);
     }
     Some(comparison)
 }

@@ -4,7 +4,6 @@ use std::path::{Path, PathBuf};
 use std::process::ExitCode;
 use std::{env, fs};
 
-use yarnuskel_host::answerer::Answer;
 use yarnuskel_host::flow::Flow;
 use yarnuskel_host::generate::{self, Family};
 use yarnuskel_host::judge::{self, Comparison, Lent};
@@ -31,10 +30,6 @@ const USAGE: &str = "commands:
   saved FILE                   the masks of a flow file without sure arrays and with them
   key FILE                     the masks of a flow file without its interrupt key and with it
   cells FILE                   the names of a flow file that interfere, and cells that they may share
-  table FILE                   our own table of a flow file, a row a doubled number, as text
-  table FILE PATH              write its bytes, as an office would propose them
-  table FILE TEXT PATH         write the bytes of the table that a text says
-  accept FILE TABLE            whether a proposed table (bytes, or a text whose name ends in .txt) is accepted by the proved library, and what a declined one lacks by the answerer
   bench-reader                 the proved reader beside a plain one
   bench                        the proved calls beside the original, and beside each other
   bench-beside ARCHIVE         the proved calls by another build of the library and by this one, in turn
@@ -182,39 +177,8 @@ fn known_flows() -> Result<Vec<(String, Flow)>, String> {
     Ok(flows)
 }
 
-fn load_text(path: &Path) -> Result<String, String> {
-    fs::read_to_string(path).map_err(|e| format!("{}: {e}", path.display()))
-}
-
-/// The bytes of a table that a text says.
-fn table_of_text(flow: &Flow, path: &Path) -> Result<Vec<u8>, String> {
-    text::read_table(flow, &load_text(path)?).map_err(|e| format!("{}, {e}", path.display()))
-}
-
-/// Whether a table is accepted, by the proved library; what a declined one lacks, by the answerer, which must agree.
-fn accept(path: &Path, table: &Path) -> Outcome {
-    let (file, flow) = (load(path)?, fit(path)?);
-    let table =
-        if table.extension() == Some("txt".as_ref()) { table_of_text(&flow, table)? } else { load(table)? };
-    let mut work = vec![0; Lent::for_file(&file, 0).work];
-    let expected = answerer::accept(&file, &table, &mut work.clone(), None);
-    let answer = sides::proved_accept(&file, &table, &mut work).unwrap_or_else(|| {
-        println!("{NO_LIBRARY}; the answerer says");
-        expected
-    });
-    if answer != expected {
-        return Err("the proved library and the answerer differ".into());
-    }
-    answer.result().map_err(|r| format!("refused {} at {}", r.number, r.place))?;
-    match answerer::first_lack(&flow, &table) {
-        Some(lack) => println!("no: {lack}"),
-        None => println!("yes"),
-    }
-    Ok(true)
-}
-
 fn write_flow(from: &Path, to: &Path) -> Outcome {
-    let text = load_text(from)?;
+    let text = fs::read_to_string(from).map_err(|e| format!("{}: {e}", from.display()))?;
     let flow = text::read(&text).map_err(|e| format!("{}, {e}", from.display()))?;
     save(to, &flow.bytes()).map(|()| true)
 }
@@ -263,9 +227,6 @@ fn write_store() -> Outcome {
     for path in files(&examples, "txt")? {
         write_flow(&path, &path.with_extension("flow"))?;
     }
-    for (name, table) in store::tables(&fit(&examples.join("office.flow"))?) {
-        save(&examples.join(name), &table)?;
-    }
     println!("{} cases, {} bytes", cases.len(), bytes.len());
     Ok(true)
 }
@@ -279,12 +240,7 @@ fn list_store() -> Outcome {
         print!("{number}: {} | areas {masks} {live_in} {live_out} {work} {rows} | ", case.name);
         print!("{} {} {} | ", answer.number, answer.place, answer.found);
         print!("{} {} {:016x} | ", certain.number, certain.place, certain.found);
-        print!("{} {} {}", interference.number, interference.place, interference.found);
-        for (proposed, verdict) in right.proposals.iter().zip(&right.outcome.verdicts) {
-            let Answer { number, place, found } = verdict.answer;
-            print!(" | table {} {}: {number} {place} {found}", proposed.bytes.len(), proposed.work);
-        }
-        println!();
+        println!("{} {} {}", interference.number, interference.place, interference.found);
     }
     Ok(true)
 }
@@ -336,18 +292,6 @@ fn run(words: &[&str]) -> Outcome {
             print!("{}", answerer::interfering_names(&fit(Path::new(path))?, None).print());
             Ok(true)
         }
-        ["table", path] => {
-            let flow = fit(Path::new(path))?;
-            print!("{}", text::print_table(&flow, &answerer::own_table(&flow, None)));
-            Ok(true)
-        }
-        ["table", path, to] => {
-            save(Path::new(to), &answerer::own_table(&fit(Path::new(path))?, None)).map(|()| true)
-        }
-        ["table", path, from, to] => {
-            save(Path::new(to), &table_of_text(&fit(Path::new(path))?, Path::new(from))?).map(|()| true)
-        }
-        ["accept", path, table] => accept(Path::new(path), Path::new(table)),
         ["definitions"] => {
             print!("{}", reading::Library::load(&root()).believed(&root()));
             Ok(true)
@@ -355,11 +299,7 @@ fn run(words: &[&str]) -> Outcome {
         ["flow", from, path] => write_flow(Path::new(from), Path::new(path)),
         ["bench-reader"] => Ok(bench::readers()),
         ["bench"] => Ok({
-            bench::whole_call()
-                & bench::key_call()
-                & bench::certain_call()
-                & bench::interference_call()
-                & bench::accept_call()
+            bench::whole_call() & bench::key_call() & bench::certain_call() & bench::interference_call()
         }),
         ["bench-beside", archive] => match sides::beside(Path::new(archive)) {
             Some(measured) => measured.map(|()| true),

@@ -177,16 +177,6 @@ pub fn proved_interference(_: &[u8], _: &mut [u64], _: &mut [u64]) -> Option<Ans
     None
 }
 
-#[cfg(proved)]
-pub fn proved_accept(file: &[u8], proposal: &[u8], work: &mut [u64]) -> Option<Answer> {
-    Some(crate::door::accept_in(file, proposal, work))
-}
-
-#[cfg(not(proved))]
-pub fn proved_accept(_: &[u8], _: &[u8], _: &mut [u64]) -> Option<Answer> {
-    None
-}
-
 /// The masks of a file by the safe wrapper, statement by statement.
 #[cfg(proved)]
 pub fn proved_masks(file: &[u8]) -> Option<Result<Vec<u8>, Refusal>> {

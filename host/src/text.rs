@@ -24,21 +24,6 @@
 //! enter. There may be several such lines of text, or none. Last, where there is an interrupt key,
 //! `key 2`: its handler is statement 2. What stands after `#` is a remark, and an empty line says
 //! nothing.
-//!
-//! And a table proposed for a flow, such as our own of P5:
-//!
-//! ```text
-//! 0: 1
-//! 1: 2
-//! 2: 0
-//! 3: 0
-//! n+0: 0
-//! n+1: 0
-//! n+2: 1
-//! n+3: 2
-//! ```
-//!
-//! A line a doubled number, those of base 0 first: the number, and a mask from 0 to 7 for each array, array 0 first.
 
 use std::fmt::{self, Write};
 
@@ -107,21 +92,9 @@ pub fn print(flow: &Flow) -> String {
     text
 }
 
-/// How a doubled number of a flow with so many statements is written.
-fn doubled(number: usize, statements: usize) -> String {
-    if number < statements { number.to_string() } else { format!("n+{}", number - statements) }
-}
-
-/// The text of a table of the flow: its masks, and none of the bytes behind them.
-pub fn print_table(flow: &Flow, table: &[u8]) -> String {
-    let (n, arrays) = (flow.statements.len(), usize::from(flow.arrays));
-    let row = |number: usize| &table[number * arrays..(number + 1) * arrays];
-    (0..2 * n).map(|number| format!("{}:{}\n", doubled(number, n), list(row(number)))).collect()
-}
-
 // ----- Reading ------------------------------------------------------------
 
-/// Where a text is no flow or no table, and what was expected there.
+/// Where a text is no flow, and what was expected there.
 #[derive(Clone, Debug, PartialEq, Eq)]
 pub struct TextError {
     pub line: usize,
@@ -384,38 +357,11 @@ fn entered(line: &mut Line, counts: Counts, lines: &mut Vec<(u16, u16)>) -> Read
     Ok(())
 }
 
-/// The lines of a text that say something.
-fn lines(text: &str) -> impl Iterator<Item = Line<'_>> {
-    let lines = text.lines().zip(1..).map(|(text, number)| Line::new(number, text));
-    lines.filter(|line| !line.words.is_empty())
-}
-
-/// The table of the flow that a text says: a byte for each doubled number and array, none of them over 7.
-pub fn read_table(flow: &Flow, text: &str) -> Read<Vec<u8>> {
-    let n = flow.statements.len();
-    let end = text.lines().count() + 1;
-    let mut lines = lines(text);
-    let mut table = Vec::new();
-    for number in 0..2 * n {
-        let mut line = lines.next().unwrap_or_else(|| Line::new(end, ""));
-        let is_number =
-            (number < n || line.take("n") && line.take("+")) && line.take(&(number % n).to_string());
-        if !is_number {
-            return line.expected(format!("number {}", doubled(number, n)));
-        }
-        line.word(":")?;
-        for _ in 0..flow.arrays {
-            table.push(line.within("a mask", 0, 7)?);
-        }
-        line.end()?;
-    }
-    lines.next().map_or(Ok(table), |line| line.expected("the end of the text"))
-}
-
 /// The flow that a text says. It is fit: its bytes are not refused.
 pub fn read(text: &str) -> Read<Flow> {
     let end = text.lines().count() + 1;
-    let mut lines = lines(text);
+    let lines = text.lines().zip(1..).map(|(text, number)| Line::new(number, text));
+    let mut lines = lines.filter(|line| !line.words.is_empty());
     let mut next = || lines.next().unwrap_or_else(|| Line::new(end, ""));
     let (counts, entry) = header(&mut next())?;
     let statements: Read<Vec<Statement>> =

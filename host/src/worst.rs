@@ -1,6 +1,6 @@
 //! A search for the file that takes the proved call longest: families of flows that each drive
 //! one part of it to its limit, with knobs that are turned while the time grows; one of them is for the
-//! call for interference, and the acceptor is timed on all. A file is made again from its recipe (family, knobs, seed), so only recipes are
+//! call for interference. A file is made again from its recipe (family, knobs, seed), so only recipes are
 //! stored, in `worst.txt`.
 
 use std::fmt;
@@ -516,30 +516,9 @@ fn stored() -> Vec<Recipe> {
     text.lines().filter_map(Recipe::read).collect()
 }
 
-/// How long the acceptor takes with one mask everywhere, the shortest of some runs, and whether it accepts this table.
-/// No row is all zero, so that every edge of both copies is looked at, where our own table has rows that nothing leads
-/// to; 7 is accepted, and with 1 the most masks are asked for that are not there.
-fn measure_accept(file: &[u8], mask: u8, runs: usize) -> Option<(Duration, bool)> {
-    let lent = Lent::for_file(file, 0);
-    let (table, mut work) = (vec![mask; 2 * lent.masks], vec![0; lent.work]);
-    let mut best = (Duration::MAX, false);
-    for _ in 0..runs {
-        let (start, on_processor) = (Instant::now(), processor_time());
-        let answer = sides::proved_accept(file, &table, &mut work)?;
-        let wall = start.elapsed();
-        let taken = processor_time().zip(on_processor).map(|(end, start)| end - start);
-        // Some systems count it in ticks that are longer than the call.
-        let taken = taken.filter(|taken| !taken.is_zero()).unwrap_or(wall);
-        assert_eq!(answer.number, 0, "a table of the search is refused");
-        best = best.min((taken, answer.found == 1));
-    }
-    Some(best)
-}
-
-/// Times the stored recipes, by the call that each is for and by the acceptor; whether each is answered in under 2
-/// seconds.
+/// Times the stored recipes; whether each is answered in under 2 seconds.
 pub fn again() -> Result<bool, String> {
-    let (mut longest, mut longest_accept) = (Duration::ZERO, Duration::ZERO);
+    let mut longest = Duration::ZERO;
     for recipe in stored() {
         let file = recipe.file();
         let Some((time, found)) = measure(recipe.family, &file, 3) else {
@@ -549,14 +528,9 @@ pub fn again() -> Result<bool, String> {
         let found = recipe.family.found(found);
         println!("{recipe}: {time:.2?}, the shortest of 3 runs, {found}, {} bytes", file.len());
         longest = longest.max(time);
-        for mask in [7, 1] {
-            let Some((time, yes)) = measure_accept(&file, mask, 3) else { continue };
-            println!("  acceptor, {mask} everywhere: {time:.2?}, {}", if yes { "yes" } else { "no" });
-            longest_accept = longest_accept.max(time);
-        }
     }
-    println!("longest {longest:.2?}, of the acceptor {longest_accept:.2?} (limit {LIMIT:?})");
-    Ok(longest.max(longest_accept) < LIMIT)
+    println!("longest {longest:.2?} (limit {LIMIT:?})");
+    Ok(longest < LIMIT)
 }
 
 /// Files of as many statements as there may be, with sure arrays of many calls, in both orders of the file.

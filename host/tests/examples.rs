@@ -1,10 +1,10 @@
-//! The flows under examples/: each is what its text makes, and is answered as its remark says. And the tables there.
+//! The flows under examples/: each is what its text makes, and is answered as its remark says.
 
 use std::path::{Path, PathBuf};
 
 use yarnuskel_host::judge::{self, Lent};
 use yarnuskel_host::sides::{NO_LIBRARY, NO_ORIGINAL};
-use yarnuskel_host::{answerer, cases, flow, saved, sides, store, text};
+use yarnuskel_host::{answerer, cases, flow, saved, text};
 
 fn examples() -> PathBuf {
     Path::new(env!("CARGO_MANIFEST_DIR")).parent().unwrap().join("examples")
@@ -70,35 +70,6 @@ fn the_readme_shows_names_and_cells() {
     assert!(found.most < cells as u64 && cells < found.rows.len());
 }
 
-/// The tables of the flow `office`: our own, which is accepted, and one that lacks a state.
-#[test]
-fn tables_of_the_office() {
-    let file = stored("office");
-    let flow = flow::read(&file).unwrap();
-    let tables = store::tables(&flow);
-    for ((name, table), yes) in tables.iter().zip([true, false]) {
-        assert!(std::fs::read(examples().join(name)).unwrap() == *table, "{name}: run the command `store`");
-        assert_eq!(answerer::accepts(&flow, table, None), yes, "{name}");
-        let mut work = vec![0; Lent::for_file(&file, 0).work];
-        match sides::proved_accept(&file, table, &mut work) {
-            Some(answer) => assert_eq!(answer.result(), Ok(yes.into()), "{name} by the proved call"),
-            None => println!("{NO_LIBRARY}"),
-        }
-    }
-    let folder = std::fs::read_dir(examples()).unwrap().map(|entry| entry.unwrap().path());
-    let stored = folder.filter(|path| path.extension().is_some_and(|e| e == "table")).count();
-    assert_eq!(stored, tables.len(), "a table that `store` does not write");
-    let readme = std::fs::read_to_string(examples().join("README.md")).unwrap();
-    let shown: String =
-        text::print_table(&flow, &tables[0].1).lines().map(|line| format!("    {line}\n")).collect();
-    assert!(
-        readme.contains(&shown),
-        "examples/README.md is to hold what `table ../examples/office.flow` prints:\n{shown}"
-    );
-    let lack = answerer::first_lack(&flow, &tables[1].1).unwrap().to_string();
-    assert!(readme.contains(&format!("    no: {lack}\n")), "examples/README.md is to hold: {lack}");
-}
-
 /// The masks of the interrupt key's example, without the key and with it.
 #[test]
 fn the_readme_shows_what_the_key_changes() {
@@ -112,11 +83,10 @@ fn the_readme_shows_what_the_key_changes() {
 }
 
 /// Statement by statement, a mask an array.
-const MASKS: [(&str, &[u8]); 8] = [
+const MASKS: [(&str, &[u8]); 7] = [
     ("dim", &[1, 1, 1, 1, 4, 1, 5, 1]),
     ("key", &[1, 3, 4, 3, 4, 3, 4, 3, 4, 3, 4, 2, 1, 3, 5, 3, 5, 2]),
     ("key_opaque", &[7; 5]),
-    ("office", &[1, 1, 4, 1, 4, 3, 4, 2, 4, 1, 4, 1, 4, 3]),
     ("on_gosub", &[1, 1, 1, 1, 3, 3, 1, 1, 2, 1, 1, 1, 1, 2]),
     ("opaque", &[1, 1, 4, 1, 1, 1, 4, 1, 1, 1, 4, 1]),
     ("p5", &[1, 2, 1, 2]),

@@ -43,7 +43,7 @@ fn random_files_by_the_proved_reader() {
 #[test]
 fn stored_answers_by_the_proved_call() {
     for (number, stored) in stored().iter().enumerate() {
-        match judge::proved_outcome_with(&stored.file, stored.lent, &stored.proposals) {
+        match judge::proved_outcome(&stored.file, stored.lent) {
             Some(outcome) => assert!(outcome == stored.outcome, "stored case {number}"),
             None => return println!("{NO_LIBRARY}"),
         }
@@ -106,10 +106,6 @@ fn the_wrapper_sizes_its_areas() {
         assert_eq!(door::certain(&file), certain, "file {index}");
         let found = yarnuskel_host::flow::read(&file).map(|flow| answerer::interfering_names(&flow, None));
         assert_eq!(door::interference(&file), found, "file {index}");
-        let own = yarnuskel_host::flow::read(&file).map_or(vec![], |flow| answerer::own_table(&flow, None));
-        assert_eq!(door::accept(&file, &own), expected.map(|()| true), "file {index}");
-        let near = bench::near_miss(&own);
-        assert_eq!(door::accept(&file, &near), expected.map(|()| near == own), "file {index}");
     }
 }
 
@@ -129,11 +125,6 @@ fn the_loaded_library_is_the_linked_one() {
         let interference = build.interference(&stored.file, &mut rows, &mut interference_work);
         assert_eq!(interference, Some(stored.outcome.interference));
         assert!(rows == stored.outcome.rows && interference_work == stored.outcome.interference_work);
-        for (proposed, verdict) in stored.proposals.iter().zip(&stored.outcome.verdicts) {
-            let mut work = answerer::patterned_words(proposed.work);
-            assert_eq!(build.accept(&stored.file, &proposed.bytes, &mut work), Some(verdict.answer));
-            assert!(work == verdict.work);
-        }
     }
     assert!(Build::load(&root().join("README.md")).is_err());
 }
@@ -188,14 +179,9 @@ impl Programs {
 
     /// Both print this text for the file.
     fn print(&self, file: &Path, text: &str) {
-        self.print_of(&[file], text);
-    }
-
-    /// Both print this text for the files.
-    fn print_of(&self, files: &[&Path], text: &str) {
         for program in [&self.rust, &self.c] {
-            let printed = output(Command::new(program).args(files));
-            assert_eq!(printed, text, "{}, {files:?}", program.display());
+            let printed = output(Command::new(program).arg(file));
+            assert_eq!(printed, text, "{}, {}", program.display(), file.display());
         }
     }
 }
@@ -271,43 +257,6 @@ fn example_programs_of_interference() {
     std::fs::remove_file(path).unwrap();
 }
 
-/// What the example programs `accept` print of a file and a table.
-fn accept_text(file: &[u8], table: &[u8]) -> String {
-    let mut work = vec![0; Lent::for_file(file, 0).work];
-    match answerer::accept(file, table, &mut work, None).result() {
-        Ok(1) => "yes\n".into(),
-        Ok(_) => "no\n".into(),
-        Err(refusal) => format!("refused {} at {}\n", refusal.number, refusal.place),
-    }
-}
-
-/// Every flow under examples/ with each of the tables there, and the proposals of the rules that lend enough work area.
-#[test]
-fn example_programs_of_accepted_tables() {
-    let Some(programs) = Programs::of("accept") else { return println!("{NO_LIBRARY}") };
-    let tables = ["office.table", "office_wrong.table"].map(|name| root().join("examples").join(name));
-    for file in example_flows() {
-        let bytes = std::fs::read(&file).unwrap();
-        for table in &tables {
-            programs.print_of(&[&file, table], &accept_text(&bytes, &std::fs::read(table).unwrap()));
-        }
-    }
-    let path = |extension: &str| {
-        std::env::temp_dir().join(format!("yarnuskel-accept-{}.{extension}", std::process::id()))
-    };
-    let (flow, table) = (path("flow"), path("table"));
-    for case in cases::accept() {
-        let file = case.file();
-        std::fs::write(&flow, &file).unwrap();
-        for proposed in &case.proposals {
-            std::fs::write(&table, &proposed.bytes).unwrap();
-            programs.print_of(&[&flow, &table], &accept_text(&file, &proposed.bytes));
-        }
-    }
-    std::fs::remove_file(flow).unwrap();
-    std::fs::remove_file(table).unwrap();
-}
-
 fn run_with_input(program: &Path, input: &[u8]) -> String {
     let path = std::env::temp_dir().join(format!("yarnuskel-input-{}", std::process::id()));
     std::fs::write(&path, input).unwrap();
@@ -315,26 +264,6 @@ fn run_with_input(program: &Path, input: &[u8]) -> String {
     let text = output(Command::new(program).stdin(Stdio::from(file)));
     std::fs::remove_file(path).unwrap();
     text
-}
-
-/// The replay program finds a wrong number, place or yes in the last stored answer of a proposal.
-#[test]
-fn replay_finds_a_wrong_answer() {
-    let program = root().join("target/bin/replay");
-    if !program.is_file() {
-        return println!("target/bin/replay is not built: its test is skipped");
-    }
-    let proposing = cases::accept().into_iter().filter(|case| !case.proposals.is_empty());
-    for case in proposing.take(20) {
-        let right = store::bytes(&[case]).unwrap();
-        assert_eq!(run_with_input(&program, &right), store::printed(1));
-        for from_end in [2, 6, 7] {
-            let mut wrong = right.clone();
-            let at = wrong.len() - from_end;
-            wrong[at] ^= 1;
-            assert_eq!(run_with_input(&program, &wrong), "differs: 0\n1 cases, 1 different\n");
-        }
-    }
 }
 
 /// One input for each shape of line: worked flows, refusals, no arrays, an interrupt key, 97 statements, long

@@ -2,7 +2,7 @@
 
 use yarnuskel_host::flow::{self, Flow};
 use yarnuskel_host::random::Random;
-use yarnuskel_host::{answerer, cases, generate, text};
+use yarnuskel_host::{cases, generate, text};
 
 const SEED: u64 = 3;
 
@@ -72,60 +72,6 @@ fn interrupt_key_as_text() {
     }
     let none = text::read("flow 0 statements, 0 arrays, 0 names, entry 0\nkey 0").unwrap_err();
     assert_eq!(none.to_string(), "line 2: expected a statement, of which there are none, found `0`");
-}
-
-/// Table to text to table, and back to the same text.
-#[test]
-fn tables_both_ways() {
-    let mut filled = 0;
-    for index in 0..1_500 {
-        let file = generate::file(SEED, index);
-        let Ok(flow) = flow::read(&file) else { continue };
-        let length = answerer::table_length(&flow);
-        let bytes = generate::proposal(&file, SEED, index).bytes;
-        let Some(table) = bytes.get(..length).filter(|table| table.iter().all(|&mask| mask <= 7)) else {
-            continue;
-        };
-        let printed = text::print_table(&flow, table);
-        assert_eq!(text::read_table(&flow, &printed).as_deref(), Ok(table), "{printed}");
-        assert_eq!(text::print_table(&flow, &bytes), printed);
-        filled += usize::from(table.iter().any(|&mask| mask != 0));
-    }
-    assert!(filled > 800, "{filled}");
-}
-
-const P5_TABLE: &str = "0: 1\n1: 2\n2: 0\n3: 0\nn+0: 0\nn+1: 0\nn+2: 1\nn+3: 2\n";
-
-#[test]
-fn table_of_p5_as_text() {
-    let p5 = &cases::worked()[0].flow;
-    let own = answerer::own_table(p5, None);
-    assert_eq!(text::print_table(p5, &own), P5_TABLE);
-    let by_hand = P5_TABLE.replace("n+0:", "\n # base n\n n + 0 :").replace("1: 2\n2", "1:  2 # sure\n2");
-    assert_eq!(text::read_table(p5, &by_hand), Ok(own));
-    let none = Flow {
-        arrays: 0,
-        ..text::read("flow 1 statement, 0 arrays, 0 names, entry 0\n0: line 1 CLR").unwrap()
-    };
-    assert_eq!(text::print_table(&none, &[]), "0:\nn+0:\n");
-    assert_eq!(text::read_table(&none, "0:\nn+0:\n"), Ok(vec![]));
-    assert_eq!(text::read_table(&Flow::default(), "# nothing\n"), Ok(vec![]));
-    for (old, new, message) in [
-        ("0: 1\n1", "0: 8\n1", "line 1: expected a mask from 0 to 7, found `8`"),
-        ("1: 2\n2", "1:\n2", "line 2: expected a mask from 0 to 7, found the end of the line"),
-        ("1: 2\n2", "1: 2 2\n2", "line 2: expected the end of the line, found `2`"),
-        ("2: 0\n3", "3: 0\n3", "line 3: expected number 2, found `3`"),
-        ("n+0: 0", "0: 0", "line 5: expected number n+0, found `0`"),
-        ("n+0: 0", "n-0: 0", "line 5: expected number n+0, found `-`"),
-        ("n+1: 0", "n+2: 0", "line 6: expected number n+1, found `2`"),
-        ("n+2: 1", "n+2 1", "line 7: expected `:`, found `1`"),
-        ("n+3: 2\n", "", "line 8: expected number n+3, found the end of the text"),
-        ("n+3: 2\n", "n+3: 2\nn+4: 0\n", "line 9: expected the end of the text, found `n`"),
-    ] {
-        assert_eq!(P5_TABLE.matches(old).count(), 1, "{old}");
-        let error = text::read_table(p5, &P5_TABLE.replace(old, new)).unwrap_err();
-        assert_eq!(error.to_string(), message);
-    }
 }
 
 /// What is said of P5 with one text put in the place of another.
