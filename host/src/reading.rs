@@ -27,7 +27,7 @@ struct Module {
 
 /// A name starts with a letter; paths have dots between names.
 fn words(text: &str) -> Vec<String> {
-    let inside = |c: char| c.is_alphanumeric() || "_-·′⁺'₀₁₂ᴰ".contains(c);
+    let inside = |c: char| c.is_alphanumeric() || "_-⁺'₀₁₂ᴰ".contains(c);
     let mut out = Vec::new();
     let mut word = String::new();
     let mut before = ' ';
@@ -75,12 +75,10 @@ fn strip<'a>(line: &'a str, heads: &[&str]) -> Option<&'a str> {
     heads.iter().find_map(|head| line.strip_prefix(head))
 }
 
-/// `Rattle·flow.specs.Format` and `Rattle·flow·specs.specs.Format` are the module flow/Format; what is
-/// not of this repository keeps its path.
+/// `Rattle.flow.specs.Format` is the module flow/Format; what is not of this repository keeps its path.
 fn module_of(path: &str) -> String {
-    let Some(rest) = path.strip_prefix("Rattle·") else { return format!("~{path}") };
+    let Some(rest) = path.strip_prefix("Rattle.") else { return format!("~{path}") };
     let (krate, rest) = rest.split_once('.').unwrap_or((rest, ""));
-    let krate = krate.trim_end_matches("·specs").trim_end_matches("·proofs");
     let rest = strip(rest, &["specs."]).unwrap_or(rest);
     format!("{krate}/{}", rest.replace('.', "/"))
 }
@@ -168,7 +166,8 @@ impl Module {
                     open = None;
                 }
             }
-            comment = if line.starts_with("//") { comment.or(Some(number)) } else { None };
+            // an attribute may stand between a type and the comment above it
+            comment = strip(line, &["//", "#["]).and(comment.or(Some(number)));
         }
         module
     }
@@ -193,7 +192,7 @@ fn rattle_sources(folder: &Path) -> Vec<std::path::PathBuf> {
 
 /// A door: a function that crates/yarnuskel exports to other languages.
 fn is_door(file: &str, before: &str, _: &str) -> bool {
-    file.starts_with("yarnuskel/") && before == "#[no_mangle]"
+    file.starts_with("yarnuskel/") && before == "#[unsafe(no_mangle)]"
 }
 
 /// The function of the listing program that writes its text.
@@ -208,7 +207,7 @@ impl Library {
             .lines()
             .filter(|l| !l.starts_with('#'))
             .filter_map(|l| l.split_once(':'))
-            .map(|(name, _)| name);
+            .filter_map(|(name, _)| name.split_whitespace().next());
         let mut modules = Vec::new();
         for name in crates {
             for source in rattle_sources(&root.join("crates").join(name).join("src")) {
@@ -286,11 +285,14 @@ impl Library {
         let mut here = Module::default();
         text.lines().filter_map(|line| line.strip_prefix("ghost use ")).for_each(|line| here.bring(line));
         let mut found = Vec::new();
-        let (mut before, mut inside) = ("", false);
+        let (mut before, mut inside, mut clauses) = ("", false, false);
         for line in text.lines() {
             inside = inside && line != "{" || exported(before, line);
-            if inside {
-                found.extend(line.split('⌜').skip(1).flat_map(|part| words(part.split('⌝').next().unwrap())));
+            let clause = strip(line.trim_start(), &["requires ", "ensures "]);
+            clauses = inside && (clauses || clause.is_some());
+            if clauses {
+                // a clause may have a name, before its brace
+                found.extend(words(clause.and_then(|c| c.split_once('{')).map_or(line, |(_, said)| said)));
             }
             before = line;
         }

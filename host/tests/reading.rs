@@ -24,10 +24,10 @@ fn the_documents_hold_this_list() {
 #[test]
 fn no_promise_rests_on_an_internal_contract() {
     let list = Library::load(&root()).believed(&root());
-    let inside: Vec<_> = list.lines().filter(|line| line.contains("/contracts/")).collect();
+    let inside: Vec<_> = list.lines().filter(|line| line.contains("/Clauses/")).collect();
     assert!(inside.is_empty(), "{inside:?}");
     assert!(
-        list.contains("`Door`") && list.contains("`verdictNumber`"),
+        list.contains("`Door`") && list.contains("`verdict_number`"),
         "the doors' contracts were not found"
     );
 }
@@ -61,15 +61,23 @@ fn every_door_is_in_one_crate() {
     let doors = root().join("crates/yarnuskel");
     for file in of_crates("src", "rt").iter().filter(|file| !file.starts_with(&doors)) {
         let text = fs::read_to_string(file).unwrap();
-        assert!(!text.contains("#[no_mangle]"), "{} exports a function", file.display());
+        assert!(!text.contains("no_mangle"), "{} exports a function", file.display());
     }
+}
+
+/// The library keeps the type of options below its proofs: that type and its two values alone may be named.
+fn names_options(line: &str) -> bool {
+    let names = line.strip_prefix("use Rattle.std.proofs.Math.Option.{").and_then(|rest| rest.strip_suffix('}'));
+    names.is_some_and(|names| names.split(", ").all(|name| ["Option", "none", "some"].contains(&name)))
 }
 
 #[test]
 fn no_definition_cites_a_proof() {
     for file in of_crates("specs", "antt") {
         let text = fs::read_to_string(&file).unwrap();
-        let cites = text.lines().find(|line| line.contains("use ") && line.contains(".proofs."));
+        let cites = text
+            .lines()
+            .find(|line| line.contains("use ") && line.contains(".proofs.") && !names_options(line));
         assert!(cites.is_none(), "{}: {}", file.display(), cites.unwrap());
     }
 }
