@@ -1,7 +1,7 @@
 -- What the functions that write the text promise each other: each puts a piece of it at a place of the buffer that has room for it.
 -- The bytes before the place and after the piece are as they were.
 use Rattle.std.specs.Prelude.{ℕ, ◌+◌, ◌≤◌, List, ◌≡◌, length}
-use Rattle.std.proofs.lemmas.List.Edits.{sets}
+use lib.Seq.{sets}
 
 -- a piece has room in the buffer at a place
 pub record HasRoom (out : List ℕ) (at : ℕ) (piece : List ℕ) : Type 0 where
