@@ -67,7 +67,8 @@ fn every_door_is_in_one_crate() {
 
 /// The library keeps the type of options below its proofs: that type and its two values alone may be named.
 fn names_options(line: &str) -> bool {
-    let names = line.strip_prefix("use Rattle.std.proofs.Math.Option.{").and_then(|rest| rest.strip_suffix('}'));
+    let names =
+        line.strip_prefix("use Rattle.std.proofs.Math.Option.{").and_then(|rest| rest.strip_suffix('}'));
     names.is_some_and(|names| names.split(", ").all(|name| ["Option", "none", "some"].contains(&name)))
 }
 
