@@ -37,7 +37,7 @@ pub struct Build {
 }
 
 impl Build {
-    /// Loads an archive that `rt staticlib yarnuskel` wrote.
+    /// Loads an archive that `rt lib` made of crates/yarnuskel.
     pub fn load(path: &Path) -> Result<Build, String> {
         static LOADS: AtomicU32 = AtomicU32::new(0);
         let name = path.display();
