@@ -22,7 +22,7 @@ fn holds(file: &[u8], h: flow::Header, proposal: &[u8], work: &mut [u64]) -> boo
     let n = h.statements;
     let width = set_words(h.arrays);
     let back = layout::back_row(n, width);
-    dataflow::arrays::begin_row(file, h, work, width, back);
+    dataflow::boundary::begin_row(file, h, work, width, back);
     rows::load_rows(work, proposal, n, h.arrays);
     push::grow(work, n, width, back, node(n, Base::Zero, h.entry));
     table::pass_rows(file, h, work, width);

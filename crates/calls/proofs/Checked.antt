@@ -22,7 +22,7 @@ use Rattle.records.proofs.Tabulated.{length-tabulate}
 use Rattle.theory.specs.Lists.{In}
 use Rattle.theory.specs.Body.{kind, call_lines, successors, walk_next}
 use Rattle.theory.proofs.Body.{walk_next-below}
-use Rattle.theory.proofs.Lists.{get_d_In}
+use Rattle.theory.proofs.Lists.{get_or-In}
 use Rattle.statements.specs.Clauses.Layout as layout
 use Rattle.statements.specs.Clauses.Layout.{lines_at, calls_at, row_at, row_words, queue_at}
 use Rattle.statements.specs.Clauses.Ready.{Ready, Indexed, Keeps}
@@ -73,7 +73,7 @@ module _ {s ws : List ℕ} {n : ℕ} (r : Ready s ws n) where
     members-room = omega (arith, ready-room r (omega arith))
 
 pub successor-below : {s : List ℕ} → FitFile s → (i k : ℕ) → k < length (successors (flow_of s) i) → get_or (successors (flow_of s) i) k 0 < size (flow_of s)
-successor-below {s} h i k l = (well_formed h).successor i (get_or (successors (flow_of s) i) k 0) (get_d_In (successors (flow_of s) i) k 0 l)
+successor-below {s} h i k l = (well_formed h).successor i (get_or (successors (flow_of s) i) k 0) (get_or-In (successors (flow_of s) i) k 0 l)
 
 -- what is noted of the file, by its header; it stands below the calls
 

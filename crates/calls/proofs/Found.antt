@@ -84,10 +84,10 @@ not_back N l j k e = or-second l (eqb j k) e
 
 -- a RETURN
 
-get_d_up_to : (n c : ℕ) → c < n → get_or (up_to n) c 0 ≡ c
+get_or-up_to : (n c : ℕ) → c < n → get_or (up_to n) c 0 ≡ c
 unfolding up_to
-get_d_up_to zero c l = absurd (omega arith)
-get_d_up_to (suc n) c l = go (dec_lt c n) (get_d_up_to n c)
+get_or-up_to zero c l = absurd (omega arith)
+get_or-up_to (suc n) c l = go (dec_lt c n) (get_or-up_to n c)
   where
     go : Dec (c < n) → (c < n → get_or (up_to n) c 0 ≡ c) → get_or (up_to n ++ (n ∷ [])) c 0 ≡ c
     go (yes h) ih = get_or-append (up_to n) (n ∷ []) 0 c (omega (arith, length-up_to n)) ∙ ih h
@@ -99,7 +99,7 @@ module _ (f : Flow) (r : ℕ) where
 
   at_slot : (c : ℕ) → c < size f → (t : Bool) → any (returns_to f r c) (up_to (size f)) ≡ t → slot (get_or (up_to (size f)) c 0) ≡ cond t (some (plain (at Zero c))) none
   unfolding slot
-  at_slot c l t e = ap slot (get_d_up_to (size f) c l) ∙ ap (λ (b : Bool). cond b (some (plain (at Zero c))) none) e
+  at_slot c l t e = ap slot (get_or-up_to (size f) c l) ∙ ap (λ (b : Bool). cond b (some (plain (at Zero c))) none) e
 
   pub member-here : (c : ℕ) → c < size f → any (returns_to f r c) (up_to (size f)) ≡ true
       → left_from c (return_slots f Zero r) ≡ plain (at Zero c) ∷ left_from (c + 1) (return_slots f Zero r)

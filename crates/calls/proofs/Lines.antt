@@ -14,7 +14,7 @@ use Rattle.flow.specs.declared.LineEntry as E
 use Rattle.records.specs.Clauses.Fields.{line_entry_of}
 use Rattle.theory.specs.Lists.{In, concat_map, option_list}
 use Rattle.theory.specs.Body.{kind, call_lines, entered}
-use Rattle.theory.proofs.Lists.{get_d_In, concat_map-In, concat_map-append, option_list-In}
+use Rattle.theory.proofs.Lists.{get_or-In, concat_map-In, concat_map-append, option_list-In}
 use Rattle.calls.specs.Clauses.Joins.{Adds}
 use Rattle.calls.proofs.Checked.{enters-at, enters-nothing}
 use Rattle.calls.proofs.Joined.{adds_none, adds_then}
@@ -37,7 +37,7 @@ entered_all f c l h = ap (entered_by f) (take_all l (call_lines (kind f c)) h)
 pub entered-line : (f : Flow) (c l b : ℕ) → l < length (call_lines (kind f c)) → enters f (get_or (call_lines (kind f c)) l 0) ≡ some b → In b (entered f c)
 unfolding entered
 entered-line f c l b h e =
-    concat_map-In (λ x. option_list (enters f x)) (get_d_In (call_lines (kind f c)) l 0 h) (option_list-In (enters f (get_or (call_lines (kind f c)) l 0)) b e)
+    concat_map-In (λ x. option_list (enters f x)) (get_or-In (call_lines (kind f c)) l 0 h) (option_list-In (enters f (get_or (call_lines (kind f c)) l 0)) b e)
 
 -- a call of one line enters what that line does
 pub entered-one : (f : Flow) (c b : ℕ) → length (call_lines (kind f c)) ≡ 1 → enters f (get_or (call_lines (kind f c)) 0 0) ≡ some b → entered f c ≡ b ∷ []

@@ -21,7 +21,7 @@ use Rattle.theory.specs.Body.{kind, call_lines, entered}
 use Rattle.theory.specs.Doubled.{Edge, at, number}
 use Rattle.theory.specs.Queue.{join, enqueue}
 use Rattle.theory.specs.Clauses.WellFormed.{WellFormed}
-use Rattle.theory.proofs.Lists.{member-cases, get_d_In, In-elem, elem-In}
+use Rattle.theory.proofs.Lists.{member-cases, get_or-In, In-elem, elem-In}
 use Rattle.theory.proofs.Body.{entered_below}
 use Rattle.theory.proofs.Enqueue.{join-keeps, join_adds, join-cases}
 use Rattle.statements.proofs.WorkArea.{queue-below}
@@ -128,7 +128,7 @@ firsts-In xs [] m = inl m
 firsts-In xs (y ∷ ys) m = ⊎_elim (λ n. ⊎_elim (λ p. inl p) (λ e. inr (Memᴰ.head e)) (join-cases xs y n)) (λ n. inr (Memᴰ.tail n)) (firsts-In (join xs y) ys m)
 
 pub order_below : {f : Flow} → WellFormed f → (i k : ℕ) → k < length (order f i) → get_or (order f i) k 0 < size f
-order_below {f} wf i k l = ⊎_elim (λ m. absurd (Memᴰ.not-nil m)) (entered_below wf i (get_or (order f i) k 0)) (firsts-In [] (entered f i) (get_d_In (order f i) k 0 l))
+order_below {f} wf i k l = ⊎_elim (λ m. absurd (Memᴰ.not-nil m)) (entered_below wf i (get_or (order f i) k 0)) (firsts-In [] (entered f i) (get_or-In (order f i) k 0 l))
 
 -- those from one on
 module _ (f : Flow) (b : Base) (i k c : ℕ) where

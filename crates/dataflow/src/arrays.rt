@@ -18,7 +18,7 @@ ghost use Rattle.solve.specs.Clauses.Waiting.{Waits};
 ghost use Rattle.solve.specs.Clauses.Pushed.{Source};
 ghost use Rattle.dataflow.specs.Clauses.Sent.{edge_row, Sent, Shared, MembersHold, Goes, statement_arcs, Sends, KeyGrown, KeyJoined};
 ghost use Rattle.dataflow.specs.Clauses.Transfer.{KeySet};
-ghost use Rattle.dataflow.specs.Clauses.Solving.{Underway, VisitsFront, Unused, Begun, RowBegun, RuleResult};
+ghost use Rattle.dataflow.specs.Clauses.Solving.{Underway, VisitsFront, Unused, Begun, RuleResult};
 
 use crate::transfer;
 use calls::edges::Call;
@@ -451,12 +451,13 @@ fn visit(file: &[u8], h: flow::Header, work: &mut [u64], width: usize, first: Qu
     send(file, h, work, width, queue, d)
 }
 
-// The masks of the row become those at the entry: NONE for all arrays, with the touched step of the handler.
-pub fn begin_row(file: &[u8], h: flow::Header, work: &mut [u64], width: usize, row: usize)
-    requires { (width ≡ set_words h.arrays) × Indexed file.now h work.old × KeySet (flow_of file.now) work.old h.statements width × (0 < h.statements) × (back_row h.statements width ≤ row) × (row + 3 * width ≤ nodes_end h.statements width) × Unused work.old h.statements width }
-    ensures { RowBegun (flow_of file.now) work.old work.new h.statements width row }
+// The masks of d become those of the entry: NONE for all arrays, with the touched step of the handler.
+fn begin(file: &[u8], h: flow::Header, work: &mut [u64], width: usize, d: NodeId)
+    requires { (width ≡ set_words h.arrays) × Indexed file.now h work.old × KeySet (flow_of file.now) work.old h.statements width × (d.0 < 2 * h.statements) × Unused work.old h.statements width }
+    ensures { Begun (flow_of file.now) work.old work.new h.statements width d.0 }
 {
     let n = h.statements;
+    let row = layout::mask_row(n, width, d);
     transfer::reset_row(
         work,
         h.arrays,
@@ -470,16 +471,6 @@ pub fn begin_row(file: &[u8], h: flow::Header, work: &mut [u64], width: usize, r
         Handler::None => {}
         Handler::At(_) => transfer::step_key(work, n, width, row, row),
     }
-}
-
-// The masks of d become those of the entry: NONE for all arrays, with the touched step of the handler.
-fn begin(file: &[u8], h: flow::Header, work: &mut [u64], width: usize, d: NodeId)
-    requires { (width ≡ set_words h.arrays) × Indexed file.now h work.old × KeySet (flow_of file.now) work.old h.statements width × (d.0 < 2 * h.statements) × Unused work.old h.statements width }
-    ensures { Begun (flow_of file.now) work.old work.new h.statements width d.0 }
-{
-    let n = h.statements;
-    let row = layout::mask_row(n, width, d);
-    begin_row(file, h, work, width, row);
 }
 
 // The queue rule. The count of visits comes back.

@@ -2,6 +2,7 @@
 #![tactic(auto)]
 
 pub mod arrays;
+pub mod boundary;
 pub mod conflicts;
 pub mod door;
 pub mod names;

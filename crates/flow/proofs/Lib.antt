@@ -10,3 +10,5 @@ pub mod Reading
 pub mod WithoutKey
 pub mod Cases
 pub mod AreaVerdict
+pub mod Held
+pub mod Lent

@@ -12,7 +12,7 @@ use borrow.Author.Tests.{lt-ltb}
 use Rattle.io.specs.Digits.{hex_digit_ascii}
 use Rattle.flow.specs.Format.{tabulate}
 use Rattle.theory.specs.Listing.{newline, space, line_of}
-use Rattle.records.proofs.Tabulated.{length-tabulate, get_d_tabulate}
+use Rattle.records.proofs.Tabulated.{length-tabulate, get_or-tabulate}
 use Rattle.listing.specs.Clauses.Put.{HasRoom, Appended}
 use Rattle.listing.specs.Clauses.Room.{word_in}
 
@@ -53,7 +53,7 @@ digit m h = rw (lt-ltb m 10 (omega arith))
 pub whole : (l : List ℕ) → tabulate (length l) (word_in l) ≡ l
 whole l =
     ext_get_or 0 _ l (length-tabulate (word_in l) (length l))
-    (λ i h. get_d_tabulate (word_in l) (length l) i 0 (subst (λ n. i < n) (length-tabulate (word_in l) (length l)) h))
+    (λ i h. get_or-tabulate (word_in l) (length l) i 0 (subst (λ n. i < n) (length-tabulate (word_in l) (length l)) h))
 
 pub room-first : {o : List ℕ} {at : ℕ} (p q : List ℕ) → HasRoom o at (p ++ q) → HasRoom o at p
 room-first p q h = record { fits = omega (arith, length-append p q) }

@@ -1,4 +1,4 @@
--- A settled statement follows from its successors: a name in its sets is live, and whatever is not in the list afterwards has handed its live_in on to the statements that the
+-- A settled statement follows from its successors: a name in its sets is live, and whatever is not in the list afterwards has handed its live-in on to the statements that the
 -- sweep has passed, since a statement takes what its successors have, and a later change of these puts them in the list. Assumes nothing.
 use Prim.Native.Nat.{ℕ, suc, ◌+◌, ◌<◌, ◌≤◌}
 use mathlib.Core.Bool.{Bool, true, false, not}
@@ -21,7 +21,7 @@ use Rattle.theory.specs.Lists.{In}
 use Rattle.theory.specs.Body.{successors}
 use Rattle.theory.specs.Queue.{union_below}
 use Rattle.theory.specs.Live.{LiveOut}
-use Rattle.theory.proofs.Lists.{get_d_In}
+use Rattle.theory.proofs.Lists.{get_or-In}
 use Rattle.statements.specs.Clauses.Ready.{Ready, RecordOf}
 use Rattle.statements.proofs.Names.{successor_in, written-word}
 use Rattle.live.specs.Clauses.Solving.{transfer, Sound, HandedOn, Solving}
@@ -66,7 +66,7 @@ module _ {s ws ins ins' outs outs' : List ℕ} {n i : ℕ} {r : Bool} (ready : R
   gathered-sound : (x : ℕ) → bit (gathered (flow_of s) ins i) x ≡ 1 → LiveOut (flow_of s) x i
   gathered-sound x e =
       let g = has_union (length (successors (flow_of s) i)) (λ k. get_or ins (get_or (successors (flow_of s) i) k 0) 0) x e in
-      let m = get_d_In (successors (flow_of s) i) g.0 0 g.1 in
+      let m = get_or-In (successors (flow_of s) i) g.0 0 g.1 in
       LiveOut.at_successor m (sound _ x (successor_in ready i _ m) g.2)
 
   pub settled-sound : Sound (flow_of s) n ins'
@@ -92,7 +92,7 @@ module _ {s ws ins ins' outs outs' : List ℕ} {n i : ℕ} {r : Bool} (ready : R
         subst (λ z. LiveOut (flow_of s) x z) (sym d) (gathered-sound x (subst (λ z. bit z x ≡ 1) (ap (λ z. get_or outs' z 0) d ∙ out-here) e))
     out-sound k x o b e (no d) = h.sound_out k x (omega (arith, d)) b (subst (λ z. bit z x ≡ 1) (out-other k d) e)
 
-    -- what did not change has handed its live_in on
+    -- what did not change has handed its live-in on
 
     same_here : (b : Bool) → r ≡ b → In i v ⊎ (get_or ins' i 0 ≡ get_or ins i 0)
     same_here true e = inl (comes e)

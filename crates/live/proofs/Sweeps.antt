@@ -1,4 +1,4 @@
--- A sweep comes down to statement i: what is said holds of the statements from i on, and whether some live_in word differs is known. One sweep after another, from empty sets:
+-- A sweep comes down to statement i: what is said holds of the statements from i on, and whether some live-in word differs is known. One sweep after another, from empty sets:
 -- whatever they leave is live. Assumes nothing.
 use Prim.Native.Nat.{ℕ, zero, suc, ◌+◌, ◌-◌, ◌<◌, ◌≤◌, zero-le}
 use mathlib.Core.Bool.{Bool, true, false, not, ◌||◌, or-true, or-false, true≢false}

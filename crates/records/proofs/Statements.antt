@@ -15,7 +15,7 @@ use Rattle.flow.specs.Flow.{Statement, no_statement, size, statement, items, cal
 use Rattle.flow.specs.Format.{tabulate, flow_of, statement_at, kind_of, plain_kind, by_data, statements_of, record_place, line_at, kind_at, successor_count, successor_at, reference_count, reference_at, written_at, read_at, data_place, data_count, element_place, elements_end, item_at, continuation_at, u16_at}
 use Rattle.records.specs.Clauses.Fields.{item_count, call_line_count, call_line_at, continuation_in}
 use Rattle.records.proofs.KindNumber.{Number, number, dim, gosub, on_gosub, other}
-use Rattle.records.proofs.Tabulated.{length-tabulate, get_d_tabulate}
+use Rattle.records.proofs.Tabulated.{length-tabulate, get_or-tabulate}
 
 -- the kind by its number
 pub kind-is : (s : List ℕ) (p k : ℕ) → kind_at s p ≡ k
@@ -110,7 +110,7 @@ size_is s = length-tabulate (λ i. statement_at s (record_place s i)) (statement
 pub says : (s : List ℕ) (i : ℕ) → i < statements_of s → Says s (record_place s i) (statement (flow_of s) i)
 unfolding flow_of
 says s i l =
-    rw (get_d_tabulate (λ j. statement_at s (record_place s j)) (statements_of s) i no_statement l) (says_at s (record_place s i))
+    rw (get_or-tabulate (λ j. statement_at s (record_place s j)) (statements_of s) i no_statement l) (says_at s (record_place s i))
 
 -- what holds of no statement and of what each record says holds of every statement of the flow
 pub every : (s : List ℕ) (P : Statement → Type 0) → P no_statement → ((i : ℕ) → i < statements_of s → P (statement_at s (record_place s i)))
@@ -124,7 +124,7 @@ every s P nothing each i = go (ltb i (statements_of s)) refl
     go : (b : Bool) → ltb i (statements_of s) ≡ b → P (get_or (tabulate (statements_of s) at) i no_statement)
     go true e =
         let below = ltb-true i (statements_of s) e in
-        rw (get_d_tabulate at (statements_of s) i no_statement below) (each i below)
+        rw (get_or-tabulate at (statements_of s) i no_statement below) (each i below)
     go false e =
         let long = length-tabulate at (statements_of s) in
         let past = ltb-false i (statements_of s) e in

@@ -17,13 +17,13 @@ module _ {A : Type 0} (f : ℕ → A) where
   length-tabulate zero = refl
   length-tabulate (suc n) = omega (arith, length-append (tabulate n f) (f n ∷ []), length-tabulate n)
 
-  pub get_d_tabulate : (n k : ℕ) (d : A) → k < n → get_or (tabulate n f) k d ≡ f k
+  pub get_or-tabulate : (n k : ℕ) (d : A) → k < n → get_or (tabulate n f) k d ≡ f k
   unfolding tabulate
-  get_d_tabulate zero k d l = absurd (omega arith)
-  get_d_tabulate (suc n) k d l =
+  get_or-tabulate zero k d l = absurd (omega arith)
+  get_or-tabulate (suc n) k d l =
       ⊎_elim
       (λ e. get_or_at (tabulate n f) (f n) [] d k (length-tabulate n ∙ sym e) ∙ ap f (sym e))
-      (λ b. get_or-append (tabulate n f) (f n ∷ []) d k (omega (arith, length-tabulate n)) ∙ get_d_tabulate n k d b)
+      (λ b. get_or-append (tabulate n f) (f n ∷ []) d k (omega (arith, length-tabulate n)) ∙ get_or-tabulate n k d b)
       (eq-or-lt_of_le (le_of_suc-le-suc l))
 
   pub member_of : (n : ℕ) {x : A} → Memᴰ x (tabulate n f) → (k : ℕ) × (k < n) × (x ≡ f k)

@@ -20,7 +20,7 @@ use Rattle.flow.proofs.Records.{start_fits}
 use Rattle.records.proofs.Files.{limited, record-fit}
 use Rattle.records.proofs.Values.{in_range}
 use Rattle.records.proofs.Statements.{Says, says}
-use Rattle.records.proofs.Tabulated.{length-tabulate, get_d_tabulate}
+use Rattle.records.proofs.Tabulated.{length-tabulate, get_or-tabulate}
 use Rattle.theory.specs.Body.{is_return, counts, wipes}
 use Rattle.theory.specs.Sure.{is_gosub}
 use Rattle.theory.specs.Doubled.{resets}
@@ -30,7 +30,7 @@ elements : {A : Type 0} {l : List A} (n : ℕ) (f : ℕ → A) → l ≡ tabulat
 elements n f e = record {
   list = e;
   count = ap length e ∙ length-tabulate f n;
-  at = λ k d b. ap (λ x. get_or x k d) e ∙ get_d_tabulate f n k d (subst (λ (m : ℕ). k < m) (ap length e ∙ length-tabulate f n) b);
+  at = λ k d b. ap (λ x. get_or x k d) e ∙ get_or-tabulate f n k d (subst (λ (m : ℕ). k < m) (ap length e ∙ length-tabulate f n) b);
 }
 
 -- the tests of a kind go by its number

@@ -21,7 +21,7 @@ use Rattle.records.proofs.Files.{limited}
 use Rattle.theory.specs.Lists.{In, elem}
 use Rattle.theory.specs.Body.{successors, references}
 use Rattle.theory.specs.Live.{member, reads, writes}
-use Rattle.theory.proofs.Lists.{not_so, elem-In, get_d_In}
+use Rattle.theory.proofs.Lists.{not_so, elem-In, get_or-In}
 use Rattle.statements.specs.Clauses.Ready.{Ready}
 use Rattle.statements.proofs.Keeps.{ready_formed, ready-below}
 use Rattle.statements.proofs.WellFormed.{arrays-is, statement_in}
@@ -96,7 +96,7 @@ module _ {s ws : List ℕ} {n : ℕ} (r : Ready s ws n) where
   successor_in i j m = ready-below r ((ready_formed r).successor i j m)
 
   pub target_in : (i k : ℕ) → k < length (successors (flow_of s) i) → get_or (successors (flow_of s) i) k 0 < n
-  target_in i k l = successor_in i _ (get_d_In (successors (flow_of s) i) k 0 l)
+  target_in i k l = successor_in i _ (get_or-In (successors (flow_of s) i) k 0 l)
 
   pub written-word : (i : ℕ) → (statement (flow_of s) i).written < 2 ^ 64
   written-word i = lt_of_lt_of_le (statement_in r.fit i).written (pow_mono (limited r.fit).names)

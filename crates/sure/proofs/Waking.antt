@@ -34,7 +34,7 @@ module _ {ws : List ℕ} {n j noted : ℕ} (l : j < n) (word : noted ≡ get_or 
     kept = keeps-refl;
   }
 
-  module _ {us : List ℕ} {row place : ℕ} {fresh : Bool} (room : words_end n ≤ length ws) (some_IsFirst : (0 < noted % more) × (noted % more ≤ n)) (row_is : row ≡ waiting_at n)
+  module _ {us : List ℕ} {row place : ℕ} {fresh : Bool} (room : words_end n ≤ length ws) (some_first : (0 < noted % more) × (noted % more ≤ n)) (row_is : row ≡ waiting_at n)
       (place_is : place ≡ mirror n (noted % more - 1)) (new : Inserted ws us row place fresh) where
     us_is : us ≡ inserted ws (waiting_at n) (mirror n (noted % more - 1))
     us_is = new.slice ∙ ap (λ z. inserted ws z place) row_is ∙ ap (inserted ws (waiting_at n)) place_is
@@ -59,7 +59,7 @@ module _ {ws : List ℕ} {n j noted : ℕ} (l : j < n) (word : noted ≡ get_or 
         go : Dec (k + 1 ≡ noted % more) → Waits us n k
         go (yes e) = first-waits k e
         go (no d) =
-            ap (λ z. has z (waiting_at n) (mirror n k)) us_is ∙ insert_other ws (waiting_at n) (mirror n (noted % more - 1)) (mirror n k) in_row (λ e. omega (arith, d, some_IsFirst)) ∙ w
+            ap (λ z. has z (waiting_at n) (mirror n k)) us_is ∙ insert_other ws (waiting_at n) (mirror n (noted % more - 1)) (mirror n k) in_row (λ e. omega (arith, d, some_first)) ∙ w
 
     kept_us : Keeps (waiting_at n) (words_end n) ws us
     kept_us =

@@ -69,10 +69,10 @@ member-cases (Memᴰ.head e) h k = h e
 member-cases (Memᴰ.tail m) h k = k m
 
 -- the element at a place of a list is one of it
-pub get_d_In : {A : Type 0} (l : List A) (k : ℕ) (d : A) → k < length l → In (get_or l k d) l
-get_d_In [] k d h = absurd (omega arith)
-get_d_In (x ∷ l) zero d h = Memᴰ.head refl
-get_d_In (x ∷ l) (suc k) d h = Memᴰ.tail (get_d_In l k d (omega arith))
+pub get_or-In : {A : Type 0} (l : List A) (k : ℕ) (d : A) → k < length l → In (get_or l k d) l
+get_or-In [] k d h = absurd (omega arith)
+get_or-In (x ∷ l) zero d h = Memᴰ.head refl
+get_or-In (x ∷ l) (suc k) d h = Memᴰ.tail (get_or-In l k d (omega arith))
 
 -- any
 

@@ -33,7 +33,7 @@ pub data Fact : Type 0 where
   visits bound : ℕ → Fact
   -- the lines that the listing program prints
   prints : List String → Fact
-  -- areas for masks, live_in, live_out and work of these lengths: refused by this number, or 0
+  -- areas for masks, live-in, live-out and work of these lengths: refused by this number, or 0
   areas : ℕ → ℕ → ℕ → ℕ → ℕ → Fact
   -- the word of certain names
   certain : ℕ → Fact

@@ -1,5 +1,5 @@
 -- Live names, by walks over the listed graph: a name is live at a statement's start exactly when a walk from there reads it before any write. Document
--- 01's equations follow (live-in is reads together with live_out less writes); alone they have other solutions, as a self loop with no read shows.
+-- 01's equations follow (live-in is reads together with live-out less writes); alone they have other solutions, as a self loop with no read shows.
 use Rattle.std.specs.Prelude.{ℕ, ◌*◌, ◌/◌, ◌%◌, ◌^◌, ◌<◌, Bool, true, false, cond, not, ◌&&◌, ◌||◌, List, [], ◌≡◌, eqb}
 use Rattle.flow.specs.Flow.{Flow, size, statement}
 use Rattle.theory.specs.Lists.{In, any, sum_below}
@@ -34,7 +34,7 @@ is_live_in f x i = any (λ j. reads f j x) (reached (unwritten f x) (size f) i)
 unfoldable pub is_live_out : Flow → ℕ → ℕ → Bool
 is_live_out f x i = any (is_live_in f x) (successors f i)
 
--- Document 01's equations: live-in is reads together with (live_out less writes); live_out is the union of successors' live-in
+-- Document 01's equations: live-in is reads together with (live-out less writes); live-out is the union of successors' live-in
 pub record Equations (f : Flow) (before after : ℕ → ℕ → Bool) : Type 0 where
   pub live_in : (x i : ℕ) → i < size f → before x i ≡ (reads f i x || (after x i && not (writes f i x)))
   pub live_out : (x i : ℕ) → i < size f → after x i ≡ any (before x) (successors f i)

@@ -1,5 +1,5 @@
 -- `live::live_names` meets its contract. Where the last sweep changed nothing, the sets are found. Else the invariant: the names in the sets are live, and a statement that does not
--- wait satisfies its equation. The measure: the numbers that wait and the bits that no live_out word has yet. Assumes nothing.
+-- wait satisfies its equation. The measure: the numbers that wait and the bits that no live-out word has yet. Assumes nothing.
 use Prim.Native.Nat.{◌+◌}
 use native.Mathlib.Omega.{arith}
 use Rattle.flow.specs.Format.{flow_of}

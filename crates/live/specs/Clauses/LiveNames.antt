@@ -17,7 +17,7 @@ pub record LiveStart (s ws ins outs : List ℕ) (n : ℕ) : Type 0 where
   pub in_room : n ≤ length ins
   pub out_room : n ≤ length outs
 
--- the predecessors are noted, and the statements that have not handed their live_in on wait
+-- the predecessors are noted, and the statements that have not handed their live-in on wait
 pub record Begun (f : Flow) (n : ℕ) (ws vs ins ins' outs outs' : List ℕ) (q : Queue) : Type 0 where
   pub predecessors : Predecessors f vs n
   pub held : Held f 0 n vs ins' outs' q

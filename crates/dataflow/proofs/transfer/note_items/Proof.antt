@@ -15,7 +15,7 @@ use Rattle.theory.specs.Doubled.{dims}
 use Rattle.words.specs.Clauses.Row.{has}
 use Rattle.words.proofs.Zeroed.{zeroed-has, length-zeroed}
 use Rattle.theory.specs.Body.{kind}
-use Rattle.theory.proofs.Lists.{get_d_In}
+use Rattle.theory.proofs.Lists.{get_or-In}
 use Rattle.flow.specs.Clauses.Answers.{FitFile}
 use Rattle.statements.specs.Clauses.Ready.{RecordOf, Keeps, no_item}
 use Rattle.statements.proofs.Keeps.{keeps-refl, keeps-trans, keeps-zeroed}
@@ -45,7 +45,7 @@ item-below : {s : List ℕ} {i p : ℕ} → FitFile s → (r : RecordOf s i p) (
 item-below {s} {i} {p} fit r k l =
     let its : List Item = items (kind (flow_of s) i) in
     let in_list : k < length its = subst (λ (m : ℕ). k < m) (sym r.items.count) l in
-    subst (λ (x : Item). x.array < arrays_of s) (r.items.at k no_item in_list) ((statement_in fit i).dimmed (get_or its k no_item) (get_d_In its k no_item in_list))
+    subst (λ (x : Item). x.array < arrays_of s) (r.items.at k no_item in_list) ((statement_in fit i).dimmed (get_or its k no_item) (get_or-In its k no_item in_list))
 
 zero-row-requires : tie.Need-zero_row-requires invariant-loop decreases-loop
 zero-row-requires c κs = search rules

@@ -1,4 +1,4 @@
--- `sweep` meets its contract. The invariant: the statements from i on are settled, and `changed` says whether a live_in word differs.
+-- `sweep` meets its contract. The invariant: the statements from i on are settled, and `changed` says whether a live-in word differs.
 -- Assumes nothing.
 use native.Mathlib.Omega.{arith}
 use Rattle.flow.specs.Format.{flow_of}

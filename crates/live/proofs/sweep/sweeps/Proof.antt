@@ -1,4 +1,4 @@
--- `sweeps` meets its contract. The invariant: the names in the live_in words are live. The measure is the sweeps that are left.
+-- `sweeps` meets its contract. The invariant: the names in the live-in words are live. The measure is the sweeps that are left.
 -- Assumes nothing.
 use mathlib.Core.Bool.{true}
 use mathlib.Core.Path.{◌∙◌, refl}
