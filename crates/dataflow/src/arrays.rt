@@ -1,6 +1,6 @@
 // Masks by doubled number: the queue rule, with every mask pushed along the edges instead of pulled. Each kind of statement has a loop of its own over its edges, so that a
 // visit looks nothing up twice.
-ghost use Rattle.std.specs.Prelude.{true, false, List, ◌≡◌, ℕ, ◌+◌, ◌*◌, ◌<◌, ◌≤◌, eqb, get_or};
+ghost use Rattle.std.specs.Prelude.{true, false, List, ◌≡◌, ℕ, ◌*◌, ◌<◌, ◌≤◌, eqb, get_or};
 ghost use Rattle.flow.specs.declared.Base.TheVariants.{Zero};
 ghost use Rattle.flow.specs.Limits.{max_statements};
 ghost use Rattle.flow.specs.Format.{flow_of};
@@ -13,7 +13,7 @@ ghost use Rattle.calls.specs.Clauses.Held.{Linked};
 ghost use Rattle.calls.specs.Clauses.Class.{transparent_call, CallOf};
 ghost use Rattle.calls.specs.Clauses.Orders.{ListOf, OrderOf};
 ghost use Rattle.calls.specs.Clauses.Slots.{present, listed_slots, return_slots, line_slot, line_slots, other_slot, other_slots, call_slots, slots};
-ghost use Rattle.solve.specs.Clauses.Layout.{back_row, nodes_end, area_end};
+ghost use Rattle.solve.specs.Clauses.Layout.{area_end};
 ghost use Rattle.solve.specs.Clauses.Waiting.{Waits};
 ghost use Rattle.solve.specs.Clauses.Pushed.{Source};
 ghost use Rattle.dataflow.specs.Clauses.Sent.{edge_row, Sent, Shared, MembersHold, Goes, statement_arcs, Sends, KeyGrown, KeyJoined};
