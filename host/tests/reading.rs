@@ -65,20 +65,13 @@ fn every_door_is_in_one_crate() {
     }
 }
 
-/// The library keeps the type of options below its proofs: that type and its two values alone may be named.
-fn names_options(line: &str) -> bool {
-    let names =
-        line.strip_prefix("use Rattle.std.proofs.Math.Option.{").and_then(|rest| rest.strip_suffix('}'));
-    names.is_some_and(|names| names.split(", ").all(|name| ["Option", "none", "some"].contains(&name)))
-}
-
 #[test]
 fn no_definition_cites_a_proof() {
     for file in of_crates("specs", "antt") {
         let text = fs::read_to_string(&file).unwrap();
         let cites = text
             .lines()
-            .find(|line| line.contains("use ") && line.contains(".proofs.") && !names_options(line));
+            .find(|line| line.contains("use ") && line.contains(".proofs."));
         assert!(cites.is_none(), "{}: {}", file.display(), cites.unwrap());
     }
 }

@@ -1,9 +1,9 @@
 -- How the acceptor answers: a file that is refused, an area that is too short, a byte that is no mask, or a table that is accepted or not. By the laws of verdicts: the checks of the work area, of the proposal's length and of its bytes
 -- come after the file's. What an answer says of runs and of our own masks is by the theorems on accepted tables. Assumes nothing.
 use Prim.Native.Nat.{ℕ, zero, suc, ◌+◌, ◌*◌, ◌/◌, ◌%◌, ◌<◌, ◌≤◌}
-use mathlib.Core.Bool.{Bool, true, false, cond}
-use mathlib.Core.List.{List, [], ◌∷◌}
-use mathlib.Core.Path.{◌≡◌, refl, ap, ap₂, sym, ◌∙◌, subst}
+use mathlib.Core.Bool.{Bool, true, false}
+use mathlib.Core.List.{List, [], ◌∷◌, ◌++◌, append_assoc}
+use mathlib.Core.Path.{◌≡◌, refl, ap, sym, ◌∙◌, subst}
 use native.Mathlib.Nat.{mod-lt, div-add-mod', div-lt_iff_lt-mul, mul-le-mul_right, mul-zero, mul_assoc, add-mul, suc-mul}
 use native.Mathlib.Omega.{arith}
 use borrow.Author.Tests.{lt-ltb, le-ltb}
@@ -11,14 +11,12 @@ use lib.Dec.{eqb, ltb, leb}
 use lib.ListN.{length, get_or, replicate}
 use Rattle.flow.specs.declared.Refusal.{Refusal}
 use Rattle.flow.specs.declared.Refusal.TheVariants.{Areas, Mask}
-use Rattle.flow.specs.declared.Checked.{Checked}
-use Rattle.flow.specs.declared.Checked.TheVariants.{Unfit}
+use Rattle.std.specs.Prelude.{Result, Ok, Err}
 use Rattle.flow.specs.Limits.{work_words}
 use Rattle.flow.specs.Flow.{Flow, size}
-use Rattle.flow.specs.Format.{Verdict, fit, unfit, first, check, verdict, each, file_checks, flow_of, statements_of, arrays_of}
-use Rattle.flow.specs.Clauses.Answers.{FitFile, header_of, checked_of}
+use Rattle.flow.specs.Format.{fit, unfit, first, check, area_check, verdict, each, file_checks, flow_of, statements_of, arrays_of}
+use Rattle.flow.specs.Clauses.Answers.{FitFile}
 use Rattle.flow.proofs.Verdicts.{fit_append, unfit-append, unfit-at}
-use Rattle.flow.proofs.Reading.{unfit-answer}
 use Rattle.records.proofs.Statements.{size_is}
 use Rattle.theory.specs.Lists.{all_below}
 use Rattle.theory.specs.Masks.{any_state}
@@ -29,8 +27,8 @@ use Rattle.theory.proofs.Below.{all_below-at, all_below-all}
 use Rattle.theory.proofs.Accept.{accepted-sound, accepted-complete}
 use Rattle.theory.proofs.Accepted.{accepted-runs, own-accepted}
 use Rattle.statements.proofs.WellFormed.{arrays-is, well_formed}
-use Rattle.dataflow.proofs.Judging.{not_both}
-use Rattle.accept.specs.declared.Answer.TheVariants.{Yes, No, Refused}
+use Rattle.dataflow.specs.Certain.{judged_work}
+use Rattle.dataflow.proofs.Judging.{not_both, same_refusal}
 use Rattle.accept.specs.Promise.{judged_proposal, AcceptPromise}
 use Rattle.accept.specs.Clauses.Bytes.{FirstOver, Masks}
 use Rattle.accept.specs.Clauses.Table.{Bytes}
@@ -93,48 +91,43 @@ any-rows f s =
 
 -- The answer
 
--- a yes is no no
-yes_true : (b : Bool) → cond b Yes No ≡ Yes → b ≡ true
-yes_true true e = refl
-yes_true false e = let z : ◌≡◌ {A = ℕ} 0 1 = cc in absurd (omega arith)
-
-same_refusal : {r x : Refusal} {v : Verdict} → v ≡ unfit r → v ≡ unfit x → Refused r ≡ Refused x
-same_refusal e h = cc
-
 module _ (s proposal work : List ℕ) where
+  -- the proposal is judged after the file and the work area
+  judged-call : judged_proposal s proposal (length work)
+      ≡ verdict ((file_checks s ++ (area_check (work_words (size (flow_of s))) (length work) ∷ [])) ++ (area_check (proposal_bytes (flow_of s)) (length proposal) ∷ mask_checks proposal (proposal_bytes (flow_of s))))
+  judged-call = ap verdict (sym (append_assoc (file_checks s) (area_check (work_words (size (flow_of s))) (length work) ∷ []) (area_check (proposal_bytes (flow_of s)) (length proposal) ∷ mask_checks proposal (proposal_bytes (flow_of s)))))
+
+  -- the proposal's length and its bytes, by the header's numbers
+  judged_by : judged_work s (length work) ≡ fit → {b : Bool} → leb (2 * (statements_of s * arrays_of s)) (length proposal) ≡ b
+      → judged_proposal s proposal (length work) ≡ first b Areas (verdict (mask_checks proposal (2 * (statements_of s * arrays_of s))))
+  unfolding verdict
+  judged_by e told =
+      judged-call
+      ∙ fit_append (file_checks s ++ (area_check (work_words (size (flow_of s))) (length work) ∷ [])) _ e
+      ∙ ap (λ k. first (leb (2 * (size (flow_of s) * k)) (length proposal)) Areas (verdict (mask_checks proposal (2 * (size (flow_of s) * k))))) (arrays-is s)
+      ∙ ap (λ n. first (leb (2 * (n * arrays_of s)) (length proposal)) Areas (verdict (mask_checks proposal (2 * (n * arrays_of s))))) (size_is s)
+      ∙ ap (λ z. first z Areas (verdict (mask_checks proposal (2 * (statements_of s * arrays_of s))))) told
+
   -- a refusal changes nothing
-  refusing : (r : Refusal) → judged_proposal s proposal (length work) ≡ unfit r → AcceptPromise s proposal work work (Refused r)
+  refusing : (r : Refusal) → judged_proposal s proposal (length work) ≡ unfit r → AcceptPromise s proposal work work (Err r)
   refusing r e = record { refused = λ x h. (same_refusal e h, refl); accepted = λ h. absurd (not_both h e) }
 
-  pub file-refused : {c : Checked} (r : Refusal) → c ≡ checked_of (verdict (file_checks s)) (header_of s) → c ≡ Unfit r → AcceptPromise s proposal work work (Refused r)
-  file-refused r e h = refusing r (unfit-append (file_checks s) _ (unfit-answer (verdict (file_checks s)) (header_of s) (sym e ∙ h)))
+  pub call-refused : (r : Refusal) → judged_work s (length work) ≡ unfit r → AcceptPromise s proposal work work (Err r)
+  call-refused r e = refusing r (judged-call ∙ unfit-append (file_checks s ++ (area_check (work_words (size (flow_of s))) (length work) ∷ [])) _ e)
 
-  -- the work area, the proposal's length and its bytes, by the header's numbers
-  module _ (h : FitFile s) {a b : Bool} (work-told : leb (work_words (statements_of s)) (length work) ≡ a) (length-told : leb (2 * (statements_of s * arrays_of s)) (length proposal) ≡ b) where
-    judged_by : judged_proposal s proposal (length work) ≡ first a Areas (first b Areas (verdict (mask_checks proposal (2 * (statements_of s * arrays_of s)))))
-    unfolding verdict
-    judged_by =
-        fit_append (file_checks s) _ h.checked
-        ∙ ap (λ k. first (leb (work_words (size (flow_of s))) (length work)) Areas (first (leb (2 * (size (flow_of s) * k)) (length proposal)) Areas (verdict (mask_checks proposal (2 * (size (flow_of s) * k)))))) (arrays-is s)
-        ∙ ap (λ n. first (leb (work_words n) (length work)) Areas (first (leb (2 * (n * arrays_of s)) (length proposal)) Areas (verdict (mask_checks proposal (2 * (n * arrays_of s)))))) (size_is s)
-        ∙ ap₂ (λ y z. first y Areas (first z Areas (verdict (mask_checks proposal (2 * (statements_of s * arrays_of s)))))) work-told length-told
+  pub length-refused : judged_work s (length work) ≡ fit → leb (2 * (statements_of s * arrays_of s)) (length proposal) ≡ false → AcceptPromise s proposal work work (Err Areas)
+  length-refused e d = refusing Areas (judged_by e d)
 
-  pub work-refused : FitFile s → leb (work_words (statements_of s)) (length work) ≡ false → AcceptPromise s proposal work work (Refused Areas)
-  work-refused h e = refusing Areas (judged_by h e refl)
+  pub mask-refused : judged_work s (length work) ≡ fit → leb (2 * (statements_of s * arrays_of s)) (length proposal) ≡ true
+      → (r : ℕ) → FirstOver proposal (2 * (statements_of s * arrays_of s)) r → r < 2 * (statements_of s * arrays_of s) → AcceptPromise s proposal work work (Err (Mask r))
+  mask-refused e d r o l = refusing (Mask r) (judged_by e d ∙ mask-unfit proposal (2 * (statements_of s * arrays_of s)) r o l)
 
-  pub length-refused : FitFile s → leb (work_words (statements_of s)) (length work) ≡ true → leb (2 * (statements_of s * arrays_of s)) (length proposal) ≡ false → AcceptPromise s proposal work work (Refused Areas)
-  length-refused h e d = refusing Areas (judged_by h e d)
-
-  pub mask-refused : FitFile s → leb (work_words (statements_of s)) (length work) ≡ true → leb (2 * (statements_of s * arrays_of s)) (length proposal) ≡ true
-      → (r : ℕ) → FirstOver proposal (2 * (statements_of s * arrays_of s)) r → r < 2 * (statements_of s * arrays_of s) → AcceptPromise s proposal work work (Refused (Mask r))
-  mask-refused h e d r o l = refusing (Mask r) (judged_by h e d ∙ mask-unfit proposal (2 * (statements_of s * arrays_of s)) r o l)
-
-  pub accepting : {work' : List ℕ} (told : Bool) → FitFile s → leb (work_words (statements_of s)) (length work) ≡ true → leb (2 * (statements_of s * arrays_of s)) (length proposal) ≡ true
-      → Masks proposal (2 * (statements_of s * arrays_of s)) → told ≡ accepted (flow_of s) (proposed (flow_of s) proposal) → work' ≡ replicate (length work) 0 → AcceptPromise s proposal work work' (cond told Yes No)
+  pub accepting : {work' : List ℕ} (told : Bool) → FitFile s → judged_work s (length work) ≡ fit → leb (2 * (statements_of s * arrays_of s)) (length proposal) ≡ true
+      → Masks proposal (2 * (statements_of s * arrays_of s)) → told ≡ accepted (flow_of s) (proposed (flow_of s) proposal) → work' ≡ replicate (length work) 0 → AcceptPromise s proposal work work' (Ok told)
   accepting {work'} told h e d m q empty = record {
-    refused = λ x r. absurd (not_both (judged_by h e d ∙ masks_fit proposal (2 * (statements_of s * arrays_of s)) m.below) r);
+    refused = λ x r. absurd (not_both (judged_by e d ∙ masks_fit proposal (2 * (statements_of s * arrays_of s)) m.below) r);
     accepted = λ _. record {
-      answer = ap (λ b. cond b Yes No) q;
+      answer = ap Ok q;
       sound = sound;
       complete = complete;
       runs = λ y listed x r. (accepted-runs (flow_of s) (proposed (flow_of s) proposal) wf bytes (sound y) listed r).1;
@@ -149,8 +142,8 @@ module _ (s proposal work : List ℕ) where
       bytes : Bytes (flow_of s) (proposed (flow_of s) proposal)
       bytes = table_bytes (flow_of s) proposal (statements_of s) (arrays_of s) (size_is s) (sym (arrays-is s)) m
 
-      sound : cond told Yes No ≡ Yes → Accepted (flow_of s) (proposed (flow_of s) proposal)
-      sound y = accepted-sound wf (sym q ∙ yes_true told y)
+      sound : ◌≡◌ {A = Result Bool Refusal} (Ok told) (Ok true) → Accepted (flow_of s) (proposed (flow_of s) proposal)
+      sound y = let yes : told ≡ true = cc in accepted-sound wf (sym q ∙ yes)
 
-      complete : Accepted (flow_of s) (proposed (flow_of s) proposal) → cond told Yes No ≡ Yes
-      complete a = ap (λ b. cond b Yes No) (q ∙ accepted-complete wf a)
+      complete : Accepted (flow_of s) (proposed (flow_of s) proposal) → ◌≡◌ {A = Result Bool Refusal} (Ok told) (Ok true)
+      complete a = ap Ok (q ∙ accepted-complete wf a)

@@ -1,21 +1,22 @@
 // The call that accepts a proposed table or not: the file is judged, then the work area, then the proposal; only then is anything written.
-ghost use Rattle.std.specs.Prelude.{◌*◌, ◌<◌, false, cond, ◌≡◌};
+ghost use Rattle.std.specs.Prelude.{◌*◌, ◌≡◌};
 ghost use Rattle.flow.specs.Format.{flow_of};
 ghost use Rattle.theory.specs.Key.{opaque_handler};
 ghost use Rattle.theory.specs.Accept.{proposed, all_held, accepted};
 ghost use Rattle.dataflow.specs.Clauses.Phases.{FitFlow, SolverStart};
-ghost use Rattle.accept.specs.declared.Answer.TheVariants.{Yes, No};
 ghost use Rattle.accept.specs.Promise.{AcceptPromise};
 ghost use Rattle.accept.specs.Clauses.Bytes.{Masks};
 
-use crate::{Answer, bytes, rows, table};
-use flow::Base;
+use crate::{bytes, rows, table};
+use dataflow::call::check_call;
+use flow::areas::area_fits;
+use flow::{Base, Header, Refusal};
 use solve::{layout, push};
 use statements::doubled::node;
 use statements::layout::set_words;
 
 // Whether the entry's masks hold the boundary, and the masks of every edge's target what the edge brings.
-fn holds(file: &[u8], h: flow::Header, proposal: &[u8], work: &mut [u64]) -> bool
+fn holds(file: &[u8], h: Header, proposal: &[u8], work: &mut [u64]) -> bool
     requires { SolverStart file.now h work.old × Masks proposal.now (2 * (h.statements * h.arrays)) }
     ensures { result ≡ all_held (flow_of file.now) (proposed (flow_of file.now) proposal.now) }
 {
@@ -30,7 +31,7 @@ fn holds(file: &[u8], h: flow::Header, proposal: &[u8], work: &mut [u64]) -> boo
 }
 
 // Whether a table is accepted, of a file, a proposal and a work area that are fit. An opaque handler may leave any array in any state, so that no edge is asked for.
-fn accepts(file: &[u8], h: flow::Header, proposal: &[u8], work: &mut [u64]) -> bool
+fn accepts(file: &[u8], h: Header, proposal: &[u8], work: &mut [u64]) -> bool
     requires { FitFlow file.now h work.old × Masks proposal.now (2 * (h.statements * h.arrays)) }
     ensures { result ≡ accepted (flow_of file.now) (proposed (flow_of file.now) proposal.now) }
 {
@@ -43,43 +44,25 @@ fn accepts(file: &[u8], h: flow::Header, proposal: &[u8], work: &mut [u64]) -> b
     holds(file, h, proposal, work)
 }
 
-fn told(yes: bool) -> Answer
-    ensures { result ≡ cond yes Yes No }
-{
-    if yes { Answer::Yes } else { Answer::No }
-}
-
-// The answer to every file, proposal and work area; the work area is zeroed whole, for the caller.
-pub fn accept(file: &[u8], proposal: &[u8], work: &mut [u64]) -> Answer
+// Whether the proposal is accepted, for every file, proposal and work area; the work area is zeroed whole, for the caller.
+pub fn accept(file: &[u8], proposal: &[u8], work: &mut [u64]) -> Result<bool, Refusal>
     ensures { AcceptPromise file.now proposal.now work.old work.new result }
 {
-    let h = match flow::check::check_file(file) {
-        flow::Checked::Fit(found) => found,
-        flow::Checked::Unfit(r) => {
-            return Answer::Refused(r);
-        }
-    };
-    let n = h.statements;
     let size = work.len();
-    let fit = flow::areas::work_fits(n, size);
-    if !fit {
-        return Answer::Refused(flow::Refusal::Areas);
+    let h = check_call(file, size)?;
+    let count = 2 * (h.statements * h.arrays);
+    if !area_fits(count, proposal.len()) {
+        return Err(Refusal::Areas);
     }
-    let count = 2 * (n * h.arrays);
-    let room = flow::areas::area_fits(count, proposal.len());
-    if !room {
-        return Answer::Refused(flow::Refusal::Areas);
-    }
-    let over = bytes::first_over(proposal, count);
-    if over < count {
-        return Answer::Refused(flow::Refusal::Mask(over));
+    if let Some(over) = bytes::first_over(proposal, count) {
+        return Err(Refusal::Mask(over));
     }
     // With no statements there is nothing that a table could leave out.
-    if n == 0 {
+    if h.statements == 0 {
         words::zero_row(work, 0, size);
-        return Answer::Yes;
+        return Ok(true);
     }
     let yes = accepts(file, h, proposal, work);
     words::zero_row(work, 0, size);
-    told(yes)
+    Ok(yes)
 }

@@ -6,11 +6,3 @@ pub mod bytes;
 pub mod door;
 pub mod rows;
 pub mod table;
-
-// The answer to a flow file, a proposal and the work area lent with them.
-#[derive(Clone, Copy)]
-pub enum Answer {
-    Yes,
-    No,
-    Refused(flow::Refusal),
-}

@@ -30,9 +30,7 @@ fn short_word(s: &[u8], at: usize, count: usize) -> u64
     ensures { result ≡ le_at count s.now at }
 {
     let mut word = 0u64;
-    let mut k = count;
-    while 0 < k {
-        k -= 1;
+    for k in (0..count).rev() {
         word = 256 * word + s[at + k] as u64;
     }
     word
@@ -56,9 +54,7 @@ fn sets_of(s: &[u8], at: usize, count: usize) -> Sets
     let mut none = gather(last);
     let mut auto = gather(last >> 1);
     let mut dimmed = gather(last >> 2);
-    let mut g = groups;
-    while 0 < g {
-        g -= 1;
+    for g in (0..groups).rev() {
         let eight = flow::bytes::u64_at(s, at + 8 * g);
         none = (none << 8) | gather(eight);
         auto = (auto << 8) | gather(eight >> 1);
@@ -72,14 +68,12 @@ fn load_row(work: &mut [u64], s: &[u8], row: usize, at: usize, arrays: usize, wi
     requires { (width ≡ set_words arrays) × (arrays ≤ max_arrays) × (row + 3 * width ≤ length work.old) × RowMasks s.now at arrays }
     ensures { RowIs work.old work.new width row (masks_below arrays (bytes_from s.now at)) }
 {
-    let mut k = 0;
-    while k < width {
+    for k in 0..width {
         let count = dataflow::write::in_word(arrays, k);
         let sets = sets_of(s, at + 64 * k, count);
         work[row + k] = sets.none;
         work[row + width + k] = sets.auto;
         work[row + 2 * width + k] = sets.dimmed;
-        k += 1;
     }
 }
 
@@ -106,10 +100,8 @@ pub fn load_rows(work: &mut [u64], s: &[u8], n: usize, arrays: usize)
     ensures { Loaded s.now work.old work.new n arrays (2 * n) }
 {
     let width = set_words(arrays);
-    let mut d = 0;
-    while d < 2 * n {
+    for d in 0..2 * n {
         load_next(work, s, n, arrays, width, NodeId(d));
         nodes::settle(work, n, width, NodeId(d));
-        d += 1;
     }
 }

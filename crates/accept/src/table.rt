@@ -18,12 +18,10 @@ fn is_filled(work: &[u64], n: usize, width: usize, d: NodeId) -> bool
     ensures { result ≡ not (all_below (64 * width) (λ a. eqb (masks_at work.now n width d.0 a) 0)) }
 {
     let row = layout::mask_row(n, width, d);
-    let mut k = 0;
-    while k < width {
+    for k in 0..width {
         if (work[row + k] | work[row + width + k] | work[row + 2 * width + k]) != 0 {
             return true;
         }
-        k += 1;
     }
     false
 }
@@ -51,12 +49,9 @@ pub fn pass_rows(file: &[u8], h: flow::Header, work: &mut [u64], width: usize)
     requires { (width ≡ set_words h.arrays) × Edged file.now h work.old × ((t : Proposal) × Bytes (flow_of file.now) t × Passing (flow_of file.now) t work.old h.statements width nothing 0) }
     ensures { AllPassed (flow_of file.now) work.old work.new h.statements width }
 {
-    let count = 2 * h.statements;
     let mut queue = Queue { head: 0, len: 0 };
-    let mut d = 0;
-    while d < count {
+    for d in 0..2 * h.statements {
         queue = pass_row(file, h, work, width, queue, NodeId(d));
-        d += 1;
     }
 }
 
@@ -65,12 +60,10 @@ pub fn all_settled(work: &[u64], n: usize, width: usize) -> bool
     requires { (n ≤ max_statements) × (width ≤ max_width) × (nodes_end n width ≤ length work.now) }
     ensures { result ≡ all_settled work.now n width }
 {
-    let mut d = 0;
-    while d < 2 * n {
+    for d in 0..2 * n {
         if work[layout::state(n, width, d)] / 2 != 1 {
             return false;
         }
-        d += 1;
     }
     true
 }

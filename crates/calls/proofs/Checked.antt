@@ -2,16 +2,16 @@
 -- By what a fit file gives its readers, and what is asked of the work area before statements are read by number.
 use Prim.Native.Nat.{ℕ, zero, suc, ◌+◌, ◌/◌, ◌≤◌, ◌<◌}
 use mathlib.Core.List.{List}
-use mathlib.Core.Option.{Option, none, some}
+use mathlib.Core.Option.{none, some}
 use mathlib.Core.Path.{◌≡◌, refl, sym, ap, subst, ◌∙◌}
 use native.Mathlib.Omega.{arith}
 use lib.ListN.{length, get_or}
 use Rattle.flow.specs.Limits.{max_file}
 use Rattle.flow.specs.Flow.{size}
 use Rattle.flow.specs.declared.StmtId.{StmtId}
-use Rattle.flow.specs.declared.Handler as H
+use Rattle.std.specs.Prelude.{Some, None}
 use Rattle.flow.specs.declared.Header.{Header}
-use Rattle.flow.specs.Clauses.Answers.{handler_from, FitFile, FitRecord}
+use Rattle.flow.specs.Clauses.Answers.{FitFile, FitRecord}
 use Rattle.records.specs.Clauses.Fields.{LineParts, call_line_count, call_line_at}
 use Rattle.flow.specs.Format.{flow_of, statements_of, line_count, handler_of, record_place, successor_count, successor_at}
 use Rattle.records.proofs.Files.{limited, record-fit}
@@ -23,13 +23,13 @@ use Rattle.theory.specs.Lists.{In}
 use Rattle.theory.specs.Body.{kind, call_lines, successors, walk_next}
 use Rattle.theory.proofs.Body.{walk_next-below}
 use Rattle.theory.proofs.Lists.{get_or-In}
-use Rattle.statements.specs.Clauses.Layout as layout
-use Rattle.statements.specs.Clauses.Layout.{lines_at, calls_at, row_at, row_words, queue_at}
+use Rattle.statements.specs.Clauses.Layout.{lines_at, calls_at, row_at, row_words}
 use Rattle.statements.specs.Clauses.Ready.{Ready, Indexed, Keeps}
 use Rattle.statements.proofs.Keeps.{ready_formed, ready-below, ready-room, ready-keeps, parts_keep}
 use Rattle.calls.specs.Clauses.Summing.{Located}
 use Rattle.statements.proofs.WellFormed.{well_formed}
-pub use Rattle.statements.proofs.Told.{continues-to, continues_nowhere, enters-at, enters-nothing}
+-- a handler is told as an entered statement is; dataflow cites these names
+pub use Rattle.statements.proofs.Told.{enters-at, enters-nothing, enters-at as told_at, enters-nothing as told_none}
 use Rattle.statements.proofs.WorkArea.{member-word, row_fits}
 
 module _ {s ws : List ℕ} {n : ℕ} (r : Ready s ws n) where
@@ -65,13 +65,6 @@ module _ {s ws : List ℕ} {n : ℕ} (r : Ready s ws n) where
     pub row_word : {j : ℕ} → j < n → row_at n i + j / 64 < length ws
     row_word m = omega (arith, member-word m, row_fits n l, ready-room r (omega arith))
 
-    pub matrix_room : queue_at n ≤ length ws
-    matrix_room = omega (arith, ready-room r (omega arith))
-
-    -- the row of entered statements
-    pub members-room : layout.entered_row_at n + (n + 63) / 64 ≤ length ws
-    members-room = omega (arith, ready-room r (omega arith))
-
 pub successor-below : {s : List ℕ} → FitFile s → (i k : ℕ) → k < length (successors (flow_of s) i) → get_or (successors (flow_of s) i) k 0 < size (flow_of s)
 successor-below {s} h i k l = (well_formed h).successor i (get_or (successors (flow_of s) i) k 0) (get_or-In (successors (flow_of s) i) k 0 l)
 
@@ -91,18 +84,10 @@ ready-again e r = rw e r
 
 -- the handler that the header tells is the flow's
 
-pub told_at : (o : Option ℕ) (k : StmtId) → handler_from o ≡ H.TheVariants.At k → o ≡ some k.0
-told_at none k e = let z : ◌≡◌ {A = ℕ} 0 1 = cc in absurd (omega arith)
-told_at (some t) k e = let q : record { 0 = t } ≡ k = cc in ap (λ (x : StmtId). some x.0) q
-
-pub told_none : (o : Option ℕ) → handler_from o ≡ H.TheVariants.None → o ≡ none
-told_none none e = refl
-told_none (some t) e = let z : ◌≡◌ {A = ℕ} 0 1 = cc in absurd (omega arith)
-
-pub handler-at : {s ws : List ℕ} {h : Header} → Indexed s h ws → (k : StmtId) → h.handler ≡ H.TheVariants.At k → (flow_of s).handler ≡ some k.0
+pub handler-at : {s ws : List ℕ} {h : Header} → Indexed s h ws → (k : StmtId) → h.handler ≡ Some k → (flow_of s).handler ≡ some k.0
 unfolding flow_of
-handler-at {s} x k e = told_at (handler_of s) k (sym (ap (λ (h : Header). h.handler) x.header) ∙ e)
+handler-at {s} x k e = enters-at (handler_of s) k (sym (ap (λ (h : Header). h.handler) x.header) ∙ e)
 
-pub handler-none : {s ws : List ℕ} {h : Header} → Indexed s h ws → h.handler ≡ H.TheVariants.None → (flow_of s).handler ≡ none
+pub handler-none : {s ws : List ℕ} {h : Header} → Indexed s h ws → h.handler ≡ None → (flow_of s).handler ≡ none
 unfolding flow_of
-handler-none {s} x e = told_none (handler_of s) (sym (ap (λ (h : Header). h.handler) x.header) ∙ e)
+handler-none {s} x e = enters-nothing (handler_of s) (sym (ap (λ (h : Header). h.handler) x.header) ∙ e)

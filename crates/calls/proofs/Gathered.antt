@@ -85,50 +85,49 @@ pub record Noting (ws₀ ws : List ℕ) (n row k j : ℕ) : Type 0 where
   pub gains : Gains ws₀ ws n (queue_at n) (λ s. ltb (s / 64) j && is_shared ws₀ n row s) k
   pub below : j ≤ row_words n
 
-module _ {ws₀ : List ℕ} {n row k : ℕ} where
-  pub noting_start : Noting ws₀ ws₀ n row k 0
-  noting_start = record { gains = gains-none (λ s l. rw (le-ltb (s / 64) 0 (omega arith))); below = omega arith }
+pub noting_start : {ws₀ : List ℕ} {n row k : ℕ} → Noting ws₀ ws₀ n row k 0
+noting_start = record { gains = gains-none (λ s l. rw (le-ltb (s / 64) 0 (omega arith))); below = omega arith }
 
-  module _ {ws : List ℕ} {j : ℕ} (inv : Noting ws₀ ws n row k j) where
-    -- both rows are as they were
+module _ {ws₀ ws : List ℕ} {n row k j : ℕ} (inv : Noting ws₀ ws n row k j) where
+  -- both rows are as they were
 
-    returns-same : (s : ℕ) → has ws (returns_row_at n) s ≡ has ws₀ (returns_row_at n) s
-    returns-same s = keeps-has inv.gains.kept (returns_row_at n) s (λ a b. omega arith)
+  returns-same : (s : ℕ) → has ws (returns_row_at n) s ≡ has ws₀ (returns_row_at n) s
+  returns-same s = keeps-has inv.gains.kept (returns_row_at n) s (λ a b. omega arith)
 
-    row_same : Apart ws₀ n row → (s : ℕ) → s < n → has ws row s ≡ has ws₀ row s
-    row_same a s l = go a.place
-      where
-        go : (queue_at n ≤ row) ⊎ ((b : ℕ) × (b < n) × (row ≡ row_at n b) × (has ws₀ (returns_row_at n) b ≡ 0)) → has ws row s ≡ has ws₀ row s
-        go (inl h) = keeps-has inv.gains.kept row s (λ a b. omega arith)
-        go (inr (b, lb, e, z)) =
-            let out : (ltb (b / 64) j && is_shared ws₀ n row b) ≡ false = rw z (ap (λ (t : Bool). ltb (b / 64) j && t) (and-false (eqb (has ws₀ row b) 1)) ∙ and-false (ltb (b / 64) j)) in
-            subst (λ (x : ℕ). has ws x s ≡ has ws₀ x s) (sym e)
-            (inv.gains.rows b s lb l ∙ ap (λ (t : Bool). max (has ws₀ (row_at n b) s) (cond (t && eqb s k) 1 0)) out ∙ omega arith)
+  row_same : Apart ws₀ n row → (s : ℕ) → s < n → has ws row s ≡ has ws₀ row s
+  row_same a s l = go a.place
+    where
+      go : (queue_at n ≤ row) ⊎ ((b : ℕ) × (b < n) × (row ≡ row_at n b) × (has ws₀ (returns_row_at n) b ≡ 0)) → has ws row s ≡ has ws₀ row s
+      go (inl h) = keeps-has inv.gains.kept row s (λ a b. omega arith)
+      go (inr (b, lb, e, z)) =
+          let out : (ltb (b / 64) j && is_shared ws₀ n row b) ≡ false = rw z (ap (λ (t : Bool). ltb (b / 64) j && t) (and-false (eqb (has ws₀ row b) 1)) ∙ and-false (ltb (b / 64) j)) in
+          subst (λ (x : ℕ). has ws x s ≡ has ws₀ x s) (sym e)
+          (inv.gains.rows b s lb l ∙ ap (λ (t : Bool). max (has ws₀ (row_at n b) s) (cond (t && eqb s k) 1 0)) out ∙ omega arith)
 
-    pub noting_on : {vs : List ℕ} → Apart ws₀ n row → j < row_words n
-        → Gains ws vs n (queue_at n) (in_word (bit_and (get_or ws (row + j) 0) (get_or ws (returns_row_at n + j) 0)) j) k → Noting ws₀ vs n row k (j + 1)
-    noting_on {vs} a l g = record { gains = gains-same (gains-then inv.gains g) (λ s ls. step s ls (ℕ_discrete (s / 64) j) (dec_lt (s / 64) j)); below = omega arith }
-      where
-        word : ℕ
-        word = bit_and (get_or ws (row + j) 0) (get_or ws (returns_row_at n + j) 0)
+  pub noting_on : {vs : List ℕ} → Apart ws₀ n row → j < row_words n
+      → Gains ws vs n (queue_at n) (in_word (bit_and (get_or ws (row + j) 0) (get_or ws (returns_row_at n + j) 0)) j) k → Noting ws₀ vs n row k (j + 1)
+  noting_on {vs} a l g = record { gains = gains-same (gains-then inv.gains g) (λ s ls. step s ls (ℕ_discrete (s / 64) j) (dec_lt (s / 64) j)); below = omega arith }
+    where
+      word : ℕ
+      word = bit_and (get_or ws (row + j) 0) (get_or ws (returns_row_at n + j) 0)
 
-        both : (a b : ℕ) → a < 2 → b < 2 → Dec (a ≡ 1) → Dec (b ≡ 1) → eqb (min a b) 1 ≡ (eqb a 1 && eqb b 1)
-        both a b la lb (yes p) (yes q) = rw (p, q)
-        both a b la lb (yes p) (no d) = rw (p, ne_eqb b 1 d, ne_eqb (min 1 b) 1 (λ e. d (omega arith)))
-        both a b la lb (no d) q = rw (ne_eqb a 1 d, ne_eqb (min a b) 1 (λ e. d (omega arith)))
+      both : (a b : ℕ) → a < 2 → b < 2 → Dec (a ≡ 1) → Dec (b ≡ 1) → eqb (min a b) 1 ≡ (eqb a 1 && eqb b 1)
+      both a b la lb (yes p) (yes q) = rw (p, q)
+      both a b la lb (yes p) (no d) = rw (p, ne_eqb b 1 d, ne_eqb (min 1 b) 1 (λ e. d (omega arith)))
+      both a b la lb (no d) q = rw (ne_eqb a 1 d, ne_eqb (min a b) 1 (λ e. d (omega arith)))
 
-        step : (s : ℕ) → s < n → Dec (s / 64 ≡ j) → Dec (s / 64 < j) → ((ltb (s / 64) j && is_shared ws₀ n row s) || in_word word j s) ≡ (ltb (s / 64) (j + 1) && is_shared ws₀ n row s)
-        step s ls (yes e) lt =
-            let bits : bit word (s % 64) ≡ min (has ws₀ row s) (has ws₀ (returns_row_at n) s) =
-            subst (λ (x : ℕ). bit (bit_and (get_or ws (row + x) 0) (get_or ws (returns_row_at n + x) 0)) (s % 64) ≡ min (has ws₀ row s) (has ws₀ (returns_row_at n) s)) e
-            (has_both ws row (returns_row_at n) s ∙ ap₂ min (row_same a s ls) (returns-same s)) in
-            rw (le-ltb (s / 64) j (omega arith), eq-eqb (s / 64) j e, lt-ltb (s / 64) (j + 1) (omega arith), bits)
-            (both (has ws₀ row s) (has ws₀ (returns_row_at n) s) (has-lt ws₀ row s) (has-lt ws₀ (returns_row_at n) s) (ℕ_discrete (has ws₀ row s) 1) (ℕ_discrete (has ws₀ (returns_row_at n) s) 1))
-        step s ls (no d) (yes lt) = rw (lt-ltb (s / 64) j lt, ne_eqb (s / 64) j d, lt-ltb (s / 64) (j + 1) (omega arith)) (or-false (is_shared ws₀ n row s))
-        step s ls (no d) (no lt) = rw (le-ltb (s / 64) j (omega (arith, lt)), ne_eqb (s / 64) j d, le-ltb (s / 64) (j + 1) (omega (arith, lt, d)))
+      step : (s : ℕ) → s < n → Dec (s / 64 ≡ j) → Dec (s / 64 < j) → ((ltb (s / 64) j && is_shared ws₀ n row s) || in_word word j s) ≡ (ltb (s / 64) (j + 1) && is_shared ws₀ n row s)
+      step s ls (yes e) lt =
+          let bits : bit word (s % 64) ≡ min (has ws₀ row s) (has ws₀ (returns_row_at n) s) =
+          subst (λ (x : ℕ). bit (bit_and (get_or ws (row + x) 0) (get_or ws (returns_row_at n + x) 0)) (s % 64) ≡ min (has ws₀ row s) (has ws₀ (returns_row_at n) s)) e
+          (has_both ws row (returns_row_at n) s ∙ ap₂ min (row_same a s ls) (returns-same s)) in
+          rw (le-ltb (s / 64) j (omega arith), eq-eqb (s / 64) j e, lt-ltb (s / 64) (j + 1) (omega arith), bits)
+          (both (has ws₀ row s) (has ws₀ (returns_row_at n) s) (has-lt ws₀ row s) (has-lt ws₀ (returns_row_at n) s) (ℕ_discrete (has ws₀ row s) 1) (ℕ_discrete (has ws₀ (returns_row_at n) s) 1))
+      step s ls (no d) (yes lt) = rw (lt-ltb (s / 64) j lt, ne_eqb (s / 64) j d, lt-ltb (s / 64) (j + 1) (omega arith)) (or-false (is_shared ws₀ n row s))
+      step s ls (no d) (no lt) = rw (le-ltb (s / 64) j (omega (arith, lt)), ne_eqb (s / 64) j d, le-ltb (s / 64) (j + 1) (omega (arith, lt, d)))
 
-    pub noting_done : row_words n ≤ j → Gains ws₀ ws n (queue_at n) (is_shared ws₀ n row) k
-    noting_done h = gains-same inv.gains (λ s l. ap (λ (t : Bool). t && is_shared ws₀ n row s) (lt-ltb (s / 64) j (omega (arith, member-word l))))
+  pub noting_done : row_words n ≤ j → Gains ws₀ ws n (queue_at n) (is_shared ws₀ n row) k
+  noting_done h = gains-same inv.gains (λ s l. ap (λ (t : Bool). t && is_shared ws₀ n row s) (lt-ltb (s / 64) j (omega (arith, member-word l))))
 
 -- A body's walk
 

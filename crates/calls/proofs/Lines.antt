@@ -10,13 +10,13 @@ use lib.ListN.{length, get_or, take}
 use lib.Seq.{take-suc, take_all}
 use Rattle.flow.specs.Flow.{Flow, enters}
 use Rattle.flow.specs.declared.StmtId.{StmtId}
-use Rattle.flow.specs.declared.LineEntry as E
-use Rattle.records.specs.Clauses.Fields.{line_entry_of}
+use Rattle.std.specs.Prelude.{Some, None}
+use Rattle.flow.specs.Clauses.Answers.{statement_in}
 use Rattle.theory.specs.Lists.{In, concat_map, option_list}
 use Rattle.theory.specs.Body.{kind, call_lines, entered}
 use Rattle.theory.proofs.Lists.{get_or-In, concat_map-In, concat_map-append, option_list-In}
 use Rattle.calls.specs.Clauses.Joins.{Adds}
-use Rattle.calls.proofs.Checked.{enters-at, enters-nothing}
+use Rattle.statements.proofs.Told.{enters-at, enters-nothing}
 use Rattle.calls.proofs.Joined.{adds_none, adds_then}
 
 abbrev pub entered_by : Flow → List ℕ → List ℕ
@@ -47,11 +47,11 @@ entered-one f c b one e = sym (entered_all f c 1 (omega arith)) ∙ sym (entered
 -- A row that bodies are joined to, where g says what they add to it
 
 module _ (g : List ℕ → List ℕ) {to : ℕ} where
-  pub adds_entered : (o : Option ℕ) {k : StmtId} {ws vs : List ℕ} {n : ℕ} → line_entry_of o ≡ E.TheVariants.At k → Adds to ws vs n (g (k.0 ∷ [])) → Adds to ws vs n (g (option_list o))
+  pub adds_entered : (o : Option ℕ) {k : StmtId} {ws vs : List ℕ} {n : ℕ} → statement_in o ≡ Some k → Adds to ws vs n (g (k.0 ∷ [])) → Adds to ws vs n (g (option_list o))
   unfolding option_list
   adds_entered o {k} {ws} {vs} {n} e a = subst (λ (x : Option ℕ). Adds to ws vs n (g (option_list x))) (sym (enters-at o k e)) a
 
-  pub adds_nothing : (o : Option ℕ) {ws : List ℕ} {n : ℕ} → line_entry_of o ≡ E.TheVariants.Nothing → g [] ≡ [] → Adds to ws ws n (g (option_list o))
+  pub adds_nothing : (o : Option ℕ) {ws : List ℕ} {n : ℕ} → statement_in o ≡ None → g [] ≡ [] → Adds to ws ws n (g (option_list o))
   unfolding option_list
   adds_nothing o {ws} {n} e none = subst (λ (x : Option ℕ). Adds to ws ws n (g (option_list x))) (sym (enters-nothing o e)) (subst (λ (xs : List ℕ). Adds to ws ws n xs) (sym none) adds_none)
 

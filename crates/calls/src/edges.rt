@@ -1,17 +1,18 @@
 // What the edges of a call that is not opaque are made from. It is read once a visit, so that no edge looks it up again.
 ghost use Rattle.std.specs.Prelude.{◌+◌, ◌/◌, ◌<◌, true, ◌||◌, ◌≡◌, eqb, length, get_or};
-ghost use Rattle.std.proofs.Math.Option.{some};
+ghost use mathlib.Core.Option.{some};
 ghost use Rattle.words.specs.Clauses.Row.{has};
 ghost use Rattle.flow.specs.Flow.{enters};
 ghost use Rattle.flow.specs.Format.{flow_of};
-ghost use Rattle.records.specs.Clauses.Fields.{line_entry_of};
+ghost use Rattle.flow.specs.Clauses.Answers.{statement_in};
 ghost use Rattle.theory.specs.Body.{kind, call_lines, continuation_of};
 ghost use Rattle.statements.specs.Clauses.Ready.{Ready, Indexed, RecordOf};
 ghost use Rattle.calls.specs.Clauses.Held.{Linked};
 ghost use Rattle.calls.specs.Clauses.Class.{transparent_call, CallOf};
 
 use crate::TRANSPARENT;
-use flow::{Continuation, KIND_GOSUB, LineEntry, StmtId};
+use flow::StmtId;
+use flow::kind::Kind;
 use statements::layout;
 
 // Where the call goes on, how many lines it names and successors it lists, and the place of its row of the matrix, which holds the statements that it enters.
@@ -29,10 +30,10 @@ pub fn is_call(file: &[u8], work: &[u64], n: usize, i: StmtId, place: usize) -> 
     requires { Ready file.now work.now n × Linked (flow_of file.now) work.now n × (i.0 < n) × RecordOf file.now i.0 place }
     ensures { result ≡ transparent_call (flow_of file.now) i.0 }
 {
-    if records::kind(file, place) < KIND_GOSUB {
-        return false;
+    match records::kind(file, place) {
+        Kind::Gosub | Kind::OnGosub => work[layout::calls(n) + i.0] == TRANSPARENT,
+        _ => false,
     }
-    work[layout::calls(n) + i.0] == TRANSPARENT
 }
 
 // Where the call i goes on, which is not opaque.
@@ -40,11 +41,8 @@ fn continuation_of(file: &[u8], i: StmtId, place: usize) -> StmtId
     requires { RecordOf file.now i.0 place × (transparent_call (flow_of file.now) i.0 ≡ true) }
     ensures { continuation_of (kind (flow_of file.now) i.0) ≡ some result.0 }
 {
-    match records::continuation(file, place) {
-        Continuation::To(k) => k,
-        // Never met: only a call with a continuation has a summary.
-        Continuation::None => i,
-    }
+    // Only a call with a continuation has a summary.
+    records::continuation(file, place).unwrap()
 }
 
 // The call i that is not opaque.
@@ -70,21 +68,20 @@ pub fn line_entered(
     place: usize,
     call: Call,
     l: usize,
-) -> LineEntry
+) -> Option<StmtId>
     requires { Indexed file.now h work.now × RecordOf file.now i.0 place × (i.0 < h.statements) × CallOf (flow_of file.now) work.now i.0 call × (l < call.lines) }
-    ensures { result ≡ line_entry_of (enters (flow_of file.now) (get_or (call_lines (kind (flow_of file.now) i.0)) l 0)) }
+    ensures { result ≡ statement_in (enters (flow_of file.now) (get_or (call_lines (kind (flow_of file.now) i.0)) l 0)) }
 {
     let n = h.statements;
     if call.lines == 1 {
         let b = words::next(work, call.row, 0, n);
         if b < n {
-            return LineEntry::At(StmtId(b));
+            return Some(StmtId(b));
         }
-        return LineEntry::Nothing;
+        return None;
     }
-    let lines_at = h.lines_at;
     let line = records::call_line(file, place, l);
-    records::lines::line_entry(file, lines_at, work, layout::lines(n), n, line)
+    records::lines::line_entry(file, h.lines_at, work, layout::lines(n), n, line)
 }
 
 // Whether the successor s of a call is left out: it is the continuation, or entered.
@@ -92,8 +89,5 @@ pub fn left_out(work: &[u64], call: Call, s: StmtId) -> bool
     requires { call.row + s.0 / 64 < length work.now }
     ensures { result ≡ (eqb s.0 call.continuation.0 || eqb (has work.now call.row s.0) 1) }
 {
-    if s.0 == call.continuation.0 {
-        return true;
-    }
-    words::contains(work, call.row, s.0)
+    s == call.continuation || words::contains(work, call.row, s.0)
 }

@@ -16,12 +16,10 @@ fn same_words(work: &[u64], a: usize, b: usize, width: usize) -> bool
     requires { (a + width ≤ length work.now) × (b + width ≤ length work.now) }
     ensures { result ≡ all_below width (λ k. eqb (get_or work.now (a + k) 0) (get_or work.now (b + k) 0)) }
 {
-    let mut k = 0;
-    while k < width {
+    for k in 0..width {
         if work[a + k] != work[b + k] {
             return false;
         }
-        k += 1;
     }
     true
 }

@@ -12,7 +12,7 @@ ghost use Rattle.calls.specs.Clauses.Held.{Area, Empty, CallSummaries};
 ghost use Rattle.calls.specs.Clauses.Orders.{order, several, entry_at, list_end, order_word, Put, Listing, Lists, OrderNoted, OrdersNoted};
 
 use crate::{TRANSPARENT, rows};
-use flow::{LineEntry, StmtId};
+use flow::StmtId;
 use statements::{fields, layout};
 
 // Where the list stands, or 0, and how many entries it has.
@@ -79,8 +79,8 @@ fn list_line(
     ensures { Lists work.old work.new h.statements at k (option_list (enters (flow_of file.now) (get_or (call_lines (kind (flow_of file.now) c.0)) l 0))) result }
 {
     match fields::entered(file, h, work, c, l) {
-        LineEntry::At(b) => list_statement(work, h.statements, at, k, b),
-        LineEntry::Nothing => k,
+        Some(b) => list_statement(work, h.statements, at, k, b),
+        None => k,
     }
 }
 
@@ -97,10 +97,8 @@ fn list_lines(
     ensures { Listing work.old work.new h.statements at (order (flow_of file.now) c.0) result × (result ≤ count) }
 {
     let mut k = 0;
-    let mut l = 0;
-    while l < count {
+    for l in 0..count {
         k = list_line(file, h, work, c, at, k, l);
-        l += 1;
     }
     k
 }
@@ -151,9 +149,7 @@ pub fn note_orders(file: &[u8], h: flow::Header, work: &mut [u64])
 {
     let n = h.statements;
     let mut at = layout::lists(n);
-    let mut c = 0;
-    while c < n {
+    for c in 0..n {
         at = note_order(file, h, work, StmtId(c), at);
-        c += 1;
     }
 }

@@ -31,10 +31,8 @@ fn note_returns(file: &[u8], work: &mut [u64], n: usize)
     ensures { ReturnSet (flow_of file.now) work.new n × Keeps (returns_row_at n) (returns_row_at n + row_words n) work.old work.new }
 {
     rows::zero_row(work, n, layout::returns_row(n));
-    let mut r = 0;
-    while r < n {
+    for r in 0..n {
         note_return(file, work, n, StmtId(r));
-        r += 1;
     }
 }
 
@@ -45,7 +43,7 @@ fn note_word(work: &mut [u64], n: usize, word: u64, j: usize, k: StmtId)
 {
     let mut rest = word;
     while rest != 0 {
-        let lowest = u64::trailing_zeros(rest) as usize;
+        let lowest = rest.trailing_zeros() as usize;
         let r = 64 * j + lowest;
         // What the last word of a row has from n on is no statement.
         if n <= r {
@@ -63,11 +61,9 @@ fn note_shared(work: &mut [u64], n: usize, row: usize, k: StmtId)
 {
     let returns = layout::returns_row(n);
     let width = layout::row_words(n);
-    let mut j = 0;
-    while j < width {
+    for j in 0..width {
         let word = work[row + j] & work[returns + j];
         note_word(work, n, word, j, k);
-        j += 1;
     }
 }
 
@@ -90,7 +86,7 @@ fn gather(file: &[u8], h: flow::Header, work: &mut [u64], c: StmtId) -> usize
 {
     let n = h.statements;
     if fields::line_count(file, work, n, c) == 1 {
-        if let flow::LineEntry::At(b) = fields::entered(file, h, work, c, 0) {
+        if let Some(b) = fields::entered(file, h, work, c, 0) {
             if !fields::is_return(file, work, n, b) {
                 return layout::row(n, b);
             }
@@ -119,7 +115,7 @@ fn note_call(file: &[u8], h: flow::Header, work: &mut [u64], c: StmtId)
         return;
     }
     // A call that has a summary has a continuation, so there is nothing to do otherwise.
-    if let flow::Continuation::To(k) = fields::continuation(file, work, n, c) {
+    if let Some(k) = fields::continuation(file, work, n, c) {
         note_bodies(file, h, work, c, k);
     }
 }
@@ -134,10 +130,8 @@ pub fn note_edges(file: &[u8], h: flow::Header, work: &mut [u64])
     let n = h.statements;
     note_returns(file, work, n);
     rows::clear_rows(file, work, n);
-    let mut c = 0;
-    while c < n {
+    for c in 0..n {
         note_call(file, h, work, StmtId(c));
-        c += 1;
     }
     rows::note_rows(file, h, work);
     leaders::note_leaders(file, work, n);

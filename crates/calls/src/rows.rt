@@ -12,7 +12,7 @@ ghost use Rattle.calls.specs.Clauses.Held.{Empty};
 ghost use Rattle.calls.specs.Clauses.Joins.{Adds, Target, BodyRow, BodyRows, NotesCalls, ClearsReturns, body_of, bodies_of};
 
 use crate::TRANSPARENT;
-use flow::{LineEntry, StmtId};
+use flow::StmtId;
 use statements::{fields, layout};
 
 // Body e joins the row at `to`: by itself, or whole, with its walk. The walk of a RETURN is itself.
@@ -41,7 +41,7 @@ fn add_line(
     ensures { Adds to work.old work.new h.statements (bodies_of (flow_of file.now) whole (option_list (enters (flow_of file.now) (get_or (call_lines (kind (flow_of file.now) c.0)) l 0)))) }
 {
     let n = h.statements;
-    if let LineEntry::At(b) = fields::entered(file, h, work, c, l) {
+    if let Some(b) = fields::entered(file, h, work, c, l) {
         add_body(file, work, n, to, b, whole);
     }
 }
@@ -52,10 +52,8 @@ pub fn add_lines(file: &[u8], h: flow::Header, work: &mut [u64], to: usize, c: S
 {
     let n = h.statements;
     let count = fields::line_count(file, work, n, c);
-    let mut l = 0;
-    while l < count {
+    for l in 0..count {
         add_line(file, h, work, to, c, l, whole);
-        l += 1;
     }
 }
 
@@ -81,10 +79,8 @@ pub fn clear_rows(file: &[u8], work: &mut [u64], n: usize)
     requires { Ready file.now work.old n }
     ensures { ClearsReturns (flow_of file.now) work.old work.new n 0 n }
 {
-    let mut r = 0;
-    while r < n {
+    for r in 0..n {
         clear_row(file, work, n, StmtId(r));
-        r += 1;
     }
 }
 
@@ -108,9 +104,7 @@ pub fn note_rows(file: &[u8], h: flow::Header, work: &mut [u64])
     ensures { NotesCalls (flow_of file.now) work.old work.new h.statements 0 h.statements }
 {
     let n = h.statements;
-    let mut i = 0;
-    while i < n {
+    for i in 0..n {
         note_row(file, h, work, StmtId(i));
-        i += 1;
     }
 }

@@ -7,8 +7,7 @@ ghost use Rattle.words.specs.Clauses.Row.{next_member};
 ghost use Rattle.flow.specs.Flow.{enters};
 ghost use Rattle.flow.specs.Limits.{max_statements};
 ghost use Rattle.flow.specs.Format.{flow_of, statements_of};
-ghost use Rattle.flow.specs.Clauses.Answers.{FitFile};
-ghost use Rattle.records.specs.Clauses.Fields.{line_entry_of};
+ghost use Rattle.flow.specs.Clauses.Answers.{FitFile, statement_in};
 ghost use Rattle.statements.specs.Clauses.Layout.{sure_at, calls_at, row_at, entered_row_at};
 ghost use Rattle.statements.specs.Clauses.Ready.{Ready, Indexed, Keeps};
 ghost use Rattle.theory.specs.Lists.{In};
@@ -20,8 +19,8 @@ ghost use Rattle.calls.specs.Clauses.Summing.{Summing, Leads, Located, WalkPasse
 
 use crate::walk::walk;
 use crate::{OPAQUE, OPEN, TRANSPARENT, UNENTERED, rows};
+use flow::StmtId;
 use flow::bytes::u16_at;
-use flow::{Continuation, Handler, LineEntry, StmtId};
 use statements::{fields, layout};
 
 // How many statements there are, as the header has it.
@@ -113,16 +112,13 @@ fn awaits(file: &[u8], work: &[u64], c: StmtId) -> bool
     if work[layout::calls(n) + c.0] != UNENTERED {
         return false;
     }
-    match fields::continuation(file, work, n, c) {
-        Continuation::To(_) => true,
-        Continuation::None => false,
-    }
+    fields::continuation(file, work, n, c).is_some()
 }
 
 // The statement that line k of the call c enters, if any.
-fn entered(file: &[u8], work: &[u64], lines_at: usize, c: StmtId, k: usize) -> LineEntry
+fn entered(file: &[u8], work: &[u64], lines_at: usize, c: StmtId, k: usize) -> Option<StmtId>
     requires { Located file.now work.now lines_at × (c.0 < statements_of file.now) × (k < length (call_lines (kind (flow_of file.now) c.0))) }
-    ensures { result ≡ line_entry_of (enters (flow_of file.now) (get_or (call_lines (kind (flow_of file.now) c.0)) k 0)) }
+    ensures { result ≡ statement_in (enters (flow_of file.now) (get_or (call_lines (kind (flow_of file.now) c.0)) k 0)) }
 {
     let n = statement_count(file);
     let place = fields::offset(file, work, n, c);
@@ -157,7 +153,7 @@ fn call_summary(file: &[u8], work: &mut [u64], lines_at: usize, c: StmtId)
     let mut opaque = false;
     let mut k = 0;
     while k < count {
-        if let LineEntry::At(b) = entered(file, work, lines_at, c, k) {
+        if let Some(b) = entered(file, work, lines_at, c, k) {
             sub_effect(file, work, lines_at, b);
             let opaque_body = join_body(file, work, c, b);
             opaque = opaque | opaque_body;
@@ -172,8 +168,7 @@ fn summarize_handler(file: &[u8], h: flow::Header, work: &mut [u64])
     requires { Indexed file.now h work.old × NoSummaries work.old h.statements }
     ensures { HandlerSummed (flow_of file.now) work.old work.new h.statements }
 {
-    let handler = h.handler;
-    if let Handler::At(e) = handler {
+    if let Some(e) = h.handler {
         sub_effect(file, work, h.lines_at, e);
     }
 }
@@ -186,10 +181,8 @@ fn summarize_each(file: &[u8], h: flow::Header, work: &mut [u64])
 {
     summarize_handler(file, h, work);
     let n = h.statements;
-    let mut c = 0;
-    while c < n {
+    for c in 0..n {
         call_summary(file, work, h.lines_at, StmtId(c));
-        c += 1;
     }
 }
 

@@ -37,11 +37,8 @@ fn meet_successors(
     let place = fields::offset(file, work, n, i);
     let count = records::successor_count(file, place);
     let mut height = top;
-    let mut k = 0;
-    while k < count {
-        let j = fields::successor_at(file, i, place, k);
-        height = meet(work, n, e, height, j);
-        k += 1;
+    for k in 0..count {
+        height = meet(work, n, e, height, fields::successor_at(file, i, place, k));
     }
     height
 }
@@ -55,8 +52,8 @@ fn meet_next(file: &[u8], work: &mut [u64], n: usize, e: StmtId, top: usize, i: 
         return top;
     }
     match fields::continuation(file, work, n, i) {
-        flow::Continuation::To(k) => meet(work, n, e, top, k),
-        flow::Continuation::None => meet_successors(file, work, n, e, top, i),
+        Some(k) => meet(work, n, e, top, k),
+        None => meet_successors(file, work, n, e, top, i),
     }
 }
 

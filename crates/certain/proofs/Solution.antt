@@ -99,6 +99,3 @@ solved {f} {n = n} size k h l = record {
   complete = λ a x b m u. complete takes_all h.held (λ k m w. absurd (omega (arith, h.next.none l k m))) (λ c j e. subst (λ z. j < z) size (successor_of f c j e)) b m (unwritten-comes u);
   kept = keeps-trans k h.kept;
 }
-
-pub solved-here : {f : Flow} {ws vs : List ℕ} {n : ℕ} → Solved f ws vs n → Solved f vs vs n
-solved-here h = record { sound = h.sound; complete = h.complete; kept = keeps-refl }

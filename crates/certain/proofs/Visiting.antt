@@ -31,10 +31,6 @@ use Rattle.certain.specs.Clauses.Unwritten.{forward, sets, Waits, left, PushedAl
 pub area-room : {s ws : List ℕ} {n : ℕ} → Ready s ws n → 0 < n → waiting_end n ≤ length ws
 area-room {n = n} r l = omega (arith, r.room, row-words-le n)
 
-pub waiting-room : (n : ℕ) {row size : ℕ} → row ≡ waiting_at n → waiting_end n ≤ size → row + (n + 63) / 64 ≤ size
-unfolding row_words
-waiting-room n e l = omega arith
-
 -- taking a statement out changes no noted place
 pub taken_ready : {s ws vs : List ℕ} {n i row : ℕ} → Ready s ws n → i < n → row ≡ waiting_at n → vs ≡ removed ws row i → Ready s vs n
 taken_ready {s} {ws} {vs} {n} {i} {row} r l e out =

@@ -14,9 +14,6 @@ ghost use Rattle.certain.specs.Clauses.CertainNames.{CertainStart, Early};
 use flow::StmtId;
 use statements::{fields, layout, uses};
 
-// Every name.
-const ALL: u64 = 0xffff_ffff_ffff_ffff;
-
 // The two words of statement i: the names that may be unwritten when it starts; and all bits if a walk from the entry reaches it, as if they were names that nothing
 // writes.
 fn set(n: usize, i: StmtId) -> usize
@@ -51,11 +48,8 @@ fn push_listed(file: &[u8], work: &mut [u64], n: usize, i: StmtId, names: u64, r
 {
     let p = fields::offset(file, work, n, i);
     let count = records::successor_count(file, p);
-    let mut k = 0;
-    while k < count {
-        let j = fields::successor_at(file, i, p, k);
-        push(work, n, j, names, reached);
-        k += 1;
+    for k in 0..count {
+        push(work, n, fields::successor_at(file, i, p, k), names, reached);
     }
 }
 
@@ -78,7 +72,7 @@ fn begin(work: &mut [u64], n: usize, entry: StmtId)
     ensures { Begun work.old work.new n entry.0 }
 {
     words::zero_row(work, n, 2 * n + layout::row_words(n));
-    push(work, n, entry, ALL, ALL);
+    push(work, n, entry, u64::MAX, u64::MAX);
 }
 
 // The sets of all statements. The next to be visited is one that waits, in file order from the last one on and then from the first.
@@ -100,13 +94,11 @@ fn early(file: &[u8], work: &[u64], n: usize) -> u64
     ensures { Early (flow_of file.now) n result }
 {
     let mut names: u64 = 0;
-    let mut i = 0;
-    while i < n {
+    for i in 0..n {
         let p = fields::offset(file, work, n, StmtId(i));
         let at = set(n, StmtId(i));
         let before = words::difference(work[at + 1], work[at]);
-        names = names | words::difference(records::read(file, p), before);
-        i += 1;
+        names |= words::difference(records::read(file, p), before);
     }
     names
 }
@@ -117,11 +109,9 @@ pub fn certain_names(file: &[u8], work: &mut [u64], n: usize, entry: StmtId) -> 
     ensures { result ≡ certain_word (flow_of file.now) }
 {
     let all = uses::gather_uses(file, work, n);
-    let written = all.written;
-    let read = all.read;
-    if (written & read) == 0 {
-        return written;
+    if (all.written & all.read) == 0 {
+        return all.written;
     }
     solve(file, work, n, entry);
-    words::difference(written, early(file, work, n))
+    words::difference(all.written, early(file, work, n))
 }

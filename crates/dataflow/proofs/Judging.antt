@@ -13,22 +13,20 @@ use Rattle.words.proofs.Zeroed.{zeroed-all}
 use Rattle.flow.specs.declared.Refusal.{Refusal}
 use Rattle.flow.specs.declared.Refusal.TheVariants.{Areas}
 use Rattle.flow.specs.declared.Header.{Header}
-use Rattle.flow.specs.declared.Checked.{Checked}
-use Rattle.flow.specs.declared.Checked.TheVariants.{Fit, Unfit}
+use Rattle.std.specs.Prelude.{Result, Ok, Err}
 use Rattle.flow.specs.Limits.{work_words}
 use Rattle.flow.specs.Flow.{size}
 use Rattle.flow.specs.Format.{Verdict, fit, unfit, verdict, file_checks, area_checks, flow_of, statements_of, arrays_of}
 use Rattle.flow.specs.Clauses.Answers.{FitFile, is_fit}
-use Rattle.flow.specs.Clauses.Answers.{header_of, checked_of}
+use Rattle.flow.specs.Clauses.Answers.{header_of, answer_of}
 use Rattle.flow.proofs.Verdicts.{fit_append, unfit-append}
 use Rattle.flow.proofs.AreaVerdict.{area-verdict, areas-fit}
-use Rattle.flow.proofs.Reading.{fit-answer, unfit-answer, accepts}
+use Rattle.flow.proofs.Answers.{verdict-passed, verdict-refused}
 use Rattle.records.proofs.Statements.{size_is}
 use Rattle.theory.specs.Doubled.{doubled}
 use Rattle.theory.specs.Queue.{initial}
 use Rattle.theory.proofs.Terms.{term_1_empty}
 use Rattle.statements.proofs.WellFormed.{arrays-is, well_formed}
-use Rattle.dataflow.specs.declared.Answer.TheVariants.{Accepted, Refused}
 use Rattle.dataflow.specs.Promise.{Promise, judged}
 use Rattle.dataflow.specs.Clauses.Phases.{Findings}
 use Rattle.dataflow.proofs.Promised.{promised}
@@ -37,22 +35,20 @@ use Rattle.dataflow.proofs.Promised.{promised}
 pub not_both : {r : Refusal} {v : Verdict} → v ≡ fit → v ≡ unfit r → ⊥
 not_both e h = let z : ◌≡◌ {A = ℕ} 0 1 = cc in omega arith
 
-pub same_refusal : {r x : Refusal} {v : Verdict} → v ≡ unfit r → v ≡ unfit x → Refused r ≡ Refused x
+pub same_refusal : {T : Type 0} {r x : Refusal} {v : Verdict} → v ≡ unfit r → v ≡ unfit x → ◌≡◌ {A = Result T Refusal} (Err r) (Err x)
 same_refusal e h = cc
 
 module _ (s masks live_in live_out work : List ℕ) where
   -- a refusal changes nothing
   pub refusing : {work' : List ℕ} (r : Refusal) → work' ≡ work → judged s (length masks) (length live_in) (length live_out) (length work) ≡ unfit r
-      → Promise s masks masks live_in live_in live_out live_out work work' (Refused r)
+      → Promise s masks masks live_in live_in live_out live_out work work' (Err r)
   refusing r same e = record {
     refused = λ x h. (same_refusal e h, record { same_masks = refl; same_live_in = refl; same_live_out = refl; same_work = same });
     accepted = λ h. absurd (not_both h e);
   }
 
-  pub file-refused : {c : Checked} (r : Refusal) → c ≡ checked_of (verdict (file_checks s)) (header_of s) → c ≡ Unfit r
-      → Promise s masks masks live_in live_in live_out live_out work work (Refused r)
-  file-refused r e h =
-      refusing r refl (unfit-append (file_checks s) _ (unfit-answer (verdict (file_checks s)) (header_of s) (sym e ∙ h)))
+  pub file-refused : (r : Refusal) → Err r ≡ answer_of (verdict (file_checks s)) (header_of s) → Promise s masks masks live_in live_in live_out live_out work work (Err r)
+  file-refused r e = refusing r refl (unfit-append (file_checks s) _ (verdict-refused _ _ e))
 
   areas_of : Verdict
   areas_of = verdict (area_checks (size (flow_of s)) (flow_of s).arrays (length masks) (length live_in) (length live_out) (length work))
@@ -75,7 +71,7 @@ module _ (s masks live_in live_out work : List ℕ) where
 
   pub areas-refused : {work' : List ℕ} → FitFile s → work' ≡ work
       → is_fit (verdict (area_checks (statements_of s) (arrays_of s) (length masks) (length live_in) (length live_out) (length work))) ≡ false
-      → Promise s masks masks live_in live_in live_out live_out work work' (Refused Areas)
+      → Promise s masks masks live_in live_in live_out live_out work work' (Err Areas)
   areas-refused h same e = refusing Areas same (judged-areas h false e)
 
   pub judged-fit : FitFile s → is_fit (verdict (area_checks (statements_of s) (arrays_of s) (length masks) (length live_in) (length live_out) (length work))) ≡ true
@@ -115,7 +111,7 @@ pub accepting : (s masks masks' live_in live_in' live_out live_out' work work' :
     → judged s (length masks) (length live_in) (length live_out) (length work) ≡ fit
     → Findings (flow_of s) masks masks' live_in live_in' live_out live_out' v
     → work' ≡ replicate (length work) 0
-    → Promise s masks masks' live_in live_in' live_out live_out' work work' (Accepted v)
+    → Promise s masks masks' live_in live_in' live_out live_out' work work' (Ok v)
 accepting s masks masks' live_in live_in' live_out live_out' work work' v h e solved empty = record {
   refused = λ x r. absurd (not_both e r);
   accepted = λ _. (v, refl, promised (flow_of s) (well_formed h) masks masks' live_in live_in' live_out live_out' work work' v solved empty);
@@ -137,12 +133,12 @@ nothing-solved s masks live_in live_out z =
     }
 
 -- what the reader's answer says of a file that it found fit
-module _ (s : List ℕ) {c : Checked} (h : Header) (e : c ≡ checked_of (verdict (file_checks s)) (header_of s)) (told : c ≡ Fit h) where
+module _ (s : List ℕ) (h : Header) (told : Ok h ≡ answer_of (verdict (file_checks s)) (header_of s)) where
   pub file-fit : FitFile s
-  file-fit = record { checked = fit-answer (verdict (file_checks s)) (header_of s) h (sym e ∙ told) }
+  file-fit = record { checked = (verdict-passed _ _ _ told).is_fit }
 
   pub header_is : h ≡ header_of s
-  header_is = (accepts s h (sym e ∙ told)).1
+  header_is = (verdict-passed _ _ _ told).place
 
   pub areas_by : (masks live_in live_out work : ℕ) (b : Bool) → is_fit (verdict (area_checks h.statements h.arrays masks live_in live_out work)) ≡ b
       → is_fit (verdict (area_checks (statements_of s) (arrays_of s) masks live_in live_out work)) ≡ b

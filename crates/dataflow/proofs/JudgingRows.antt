@@ -1,8 +1,8 @@
 -- How the call that finds the names that interfere answers: a file that is refused, an area that is too short, or an accepted flow. By the laws of verdicts: the areas' checks come after the file's, and
 -- both have one number. What is found keeps the promise by the theorems of interference. Assumes nothing.
 use Prim.Native.Nat.{ℕ, ◌^◌, ◌<◌, ◌≤◌}
-use mathlib.Core.Bool.{Bool, true, false, cond, ◌&&◌}
-use mathlib.Core.List.{List}
+use mathlib.Core.Bool.{Bool, true, false, cond}
+use mathlib.Core.List.{List, [], ◌∷◌, ◌++◌, append_assoc}
 use mathlib.Core.Path.{◌≡◌, refl, ap, sym, ◌∙◌, subst}
 use native.Mathlib.Omega.{arith}
 use lib.Count.{ones}
@@ -13,14 +13,12 @@ use Rattle.words.proofs.Zeroed.{zeroed_first}
 use Rattle.flow.specs.declared.Refusal.{Refusal}
 use Rattle.flow.specs.declared.Refusal.TheVariants.{Areas}
 use Rattle.flow.specs.declared.Header.{Header}
-use Rattle.flow.specs.declared.Checked.{Checked}
-use Rattle.flow.specs.declared.Checked.TheVariants.{Unfit}
+use Rattle.std.specs.Prelude.{Ok, Err}
 use Rattle.flow.specs.Limits.{work_words}
 use Rattle.flow.specs.Flow.{Flow, size}
-use Rattle.flow.specs.Format.{fit, unfit, first, verdict, file_checks, flow_of, statements_of, names_of}
-use Rattle.flow.specs.Clauses.Answers.{FitFile, header_of, checked_of}
+use Rattle.flow.specs.Format.{fit, unfit, first, area_check, verdict, file_checks, flow_of, statements_of, names_of}
+use Rattle.flow.specs.Clauses.Answers.{FitFile}
 use Rattle.flow.proofs.Verdicts.{fit_append, unfit-append}
-use Rattle.flow.proofs.Reading.{unfit-answer}
 use Rattle.records.specs.Clauses.Fields.{noted_word}
 use Rattle.records.proofs.Statements.{size_is}
 use Rattle.theory.specs.Lists.{max_below}
@@ -35,7 +33,7 @@ use Rattle.statements.proofs.WellFormed.{names_is, well_formed}
 use Rattle.live.specs.Clauses.LiveNames.{LiveNames}
 use Rattle.interference.specs.Clauses.Rows.{RowsStart, LiveSets, Rows}
 use Rattle.interference.proofs.Counted.{most_is}
-use Rattle.dataflow.specs.declared.Answer.TheVariants.{Accepted, Refused}
+use Rattle.dataflow.specs.Certain.{judged_work}
 use Rattle.dataflow.specs.Interference.{judged_rows, InterferenceFound, InterferencePromise}
 use Rattle.dataflow.specs.Clauses.Conflicts.{FitRows, ConflictsFound}
 use Rattle.dataflow.proofs.Judging.{not_both, same_refusal}
@@ -61,40 +59,38 @@ found {f} w {rows} {rows'} {work} {work'} {most} c empty = record {
     rows_are = c.rows_are
 
 module _ (s rows work : List ℕ) where
+  -- the area of words is judged after the file and the work area
+  judged-rows : judged_rows s (length rows) (length work)
+      ≡ verdict ((file_checks s ++ (area_check (work_words (size (flow_of s))) (length work) ∷ [])) ++ (area_check (flow_of s).names (length rows) ∷ []))
+  judged-rows = ap verdict (sym (append_assoc (file_checks s) (area_check (work_words (size (flow_of s))) (length work) ∷ []) (area_check (flow_of s).names (length rows) ∷ [])))
+
+  rows-judged : judged_work s (length work) ≡ fit → (b : Bool) → leb (names_of s) (length rows) ≡ b → judged_rows s (length rows) (length work) ≡ cond b fit (unfit Areas)
+  unfolding verdict
+  rows-judged e b d =
+      judged-rows
+      ∙ fit_append (file_checks s ++ (area_check (work_words (size (flow_of s))) (length work) ∷ [])) _ e
+      ∙ ap (λ n. first (leb n (length rows)) Areas fit) (names_is s)
+      ∙ ap (λ z. first z Areas fit) d
+      ∙ go b
+    where
+      go : (b : Bool) → first b Areas fit ≡ cond b fit (unfit Areas)
+      go true = refl
+      go false = refl
+
   -- a refusal changes nothing
-  refusing : (r : Refusal) → judged_rows s (length rows) (length work) ≡ unfit r → InterferencePromise s rows rows work work (Refused r)
+  refusing : (r : Refusal) → judged_rows s (length rows) (length work) ≡ unfit r → InterferencePromise s rows rows work work (Err r)
   refusing r e = record { refused = λ x h. (same_refusal e h, refl, refl); accepted = λ h. absurd (not_both h e) }
 
-  pub file-refused : {c : Checked} (r : Refusal) → c ≡ checked_of (verdict (file_checks s)) (header_of s) → c ≡ Unfit r → InterferencePromise s rows rows work work (Refused r)
-  file-refused r e h = refusing r (unfit-append (file_checks s) _ (unfit-answer (verdict (file_checks s)) (header_of s) (sym e ∙ h)))
+  pub call-refused : (r : Refusal) → judged_work s (length work) ≡ unfit r → InterferencePromise s rows rows work work (Err r)
+  call-refused r e = refusing r (judged-rows ∙ unfit-append (file_checks s ++ (area_check (work_words (size (flow_of s))) (length work) ∷ [])) _ e)
 
-  -- the two areas by the header's numbers
-  judged-areas : FitFile s → (a b : Bool) → leb (work_words (statements_of s)) (length work) ≡ a → leb (names_of s) (length rows) ≡ b
-      → judged_rows s (length rows) (length work) ≡ cond (a && b) fit (unfit Areas)
-  unfolding verdict
-  judged-areas h a b e d =
-      fit_append (file_checks s) _ h.checked
-      ∙ ap (λ n. first (leb (work_words n) (length work)) Areas (first (leb (flow_of s).names (length rows)) Areas fit)) (size_is s)
-      ∙ ap (λ z. first z Areas (first (leb (flow_of s).names (length rows)) Areas fit)) e
-      ∙ ap (λ n. first a Areas (first (leb n (length rows)) Areas fit)) (names_is s)
-      ∙ ap (λ z. first a Areas (first z Areas fit)) d
-      ∙ go a b
-    where
-      go : (a b : Bool) → first a Areas (first b Areas fit) ≡ cond (a && b) fit (unfit Areas)
-      go true true = refl
-      go true false = refl
-      go false b = refl
+  pub rows-refused : judged_work s (length work) ≡ fit → leb (names_of s) (length rows) ≡ false → InterferencePromise s rows rows work work (Err Areas)
+  rows-refused e d = refusing Areas (rows-judged e false d)
 
-  pub work-refused : FitFile s → leb (work_words (statements_of s)) (length work) ≡ false → InterferencePromise s rows rows work work (Refused Areas)
-  work-refused h e = refusing Areas (judged-areas h false (leb (names_of s) (length rows)) e refl)
-
-  pub rows-refused : FitFile s → leb (work_words (statements_of s)) (length work) ≡ true → leb (names_of s) (length rows) ≡ false → InterferencePromise s rows rows work work (Refused Areas)
-  rows-refused h e d = refusing Areas (judged-areas h true false e d)
-
-  pub accepting : {rows' work' : List ℕ} (m : ℕ) → FitFile s → leb (work_words (statements_of s)) (length work) ≡ true → leb (names_of s) (length rows) ≡ true
-      → ConflictsFound (flow_of s) rows rows' m → work' ≡ replicate (length work) 0 → InterferencePromise s rows rows' work work' (Accepted m)
+  pub accepting : {rows' work' : List ℕ} (m : ℕ) → FitFile s → judged_work s (length work) ≡ fit → leb (names_of s) (length rows) ≡ true
+      → ConflictsFound (flow_of s) rows rows' m → work' ≡ replicate (length work) 0 → InterferencePromise s rows rows' work work' (Ok m)
   accepting m h e d c empty = record {
-    refused = λ x r. absurd (not_both (judged-areas h true true e d) r);
+    refused = λ x r. absurd (not_both (rows-judged e true d) r);
     accepted = λ _. (m, refl, found (well_formed h) c empty);
   }
 

@@ -22,3 +22,4 @@ pub mod Told
 pub mod Judging
 pub mod JudgingWork
 pub mod JudgingRows
+pub mod Headers

@@ -231,9 +231,6 @@ unvisited {s} {h} {vs} {masks} {masks'} indexed room covered e = record {
         ∙ ap (λ x. get_or (noted masks 0 (h.statements * h.arrays) (λ k. any_state)) x 0) (sym (zero-add (i * h.arrays + a)))
         ∙ noted-at masks 0 (λ k. any_state) (h.statements * h.arrays) (i * h.arrays + a) 0 (omega arith) (omega (arith, zero-add (h.statements * h.arrays)))
 
-pub wrote : {n : ℕ} {f : ℕ → ℕ} {ws vs : List ℕ} → ((i : ℕ) → i < n → get_or vs i 0 ≡ f i) → Keeps 0 n ws vs → Written n f ws vs
-wrote w k = record { size = k.size; written = w; kept = k.above }
-
 -- all phases together
 pub solved : {s : List ℕ} {h : Header} {masks masks' live_in live_in' live_out live_out' vs : List ℕ} {visits : ℕ} → h ≡ header_of s
     → Masked s h masks masks' vs visits

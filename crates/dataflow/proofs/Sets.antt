@@ -3,7 +3,7 @@
 use Prim.Native.Nat.{ℕ, ◌+◌, ◌*◌, ◌/◌, ◌%◌, ◌≤◌, ◌<◌, zero-le, max}
 use mathlib.Core.Bool.{Bool, true, false, cond, ◌&&◌, ◌||◌, or-false}
 use mathlib.Core.List.{List, [], ◌∷◌}
-use mathlib.Core.Logic.{◌≢◌, inl, inr}
+use mathlib.Core.Logic.{inl, inr}
 use mathlib.Core.Path.{◌≡◌, refl, sym, ap, ap₂, subst, ◌∙◌}
 use native.Mathlib.Decide.{dec_lt, ℕ_discrete}
 use native.Mathlib.Numerals.{add-one}
@@ -110,13 +110,6 @@ gains-item ws at w x f fits l e = record {
     in_set : (a : ℕ) → Dec (a ≡ x) → has (inserted ws at x) at a ≡ max (has ws at a) (cond (eqb x a && eqb f 1) 1 0)
     in_set a (yes q) = ap (has (inserted ws at x) at) q ∙ insert_same ws at x (omega arith) ∙ rw (eq-eqb x a (sym q), eq-eqb f 1 e) (omega (arith, has-lt ws at a))
     in_set a (no d) = insert_other ws at x a (omega arith) d ∙ rw (ne_eqb x a (λ q. d (sym q))) (omega arith)
-
-pub gains-nothing : (ws : List ℕ) (at w x f : ℕ) → f ≢ 1 → SetGains ws ws at w (λ a. eqb x a && eqb f 1)
-gains-nothing ws at w x f d = record { keeps = keeps-refl; member = λ a m. none a (eqb x a) }
-  where
-    none : (a : ℕ) (b : Bool) → has ws at a ≡ max (has ws at a) (cond (b && eqb f 1) 1 0)
-    none a true = rw (ne_eqb f 1 d) (omega arith)
-    none a false = omega arith
 
 -- A row that steps by a set
 

@@ -17,25 +17,24 @@ use Rattle.theory.specs.Clauses.WellFormed.{WellFormed}
 use Rattle.theory.proofs.Handler.{opaque_handler-sound, handler-not-opaque}
 use Rattle.theory.proofs.Terms.{term_1_visits, term_1_masks, opaque-visits, opaque-masks}
 use Rattle.statements.proofs.WellFormed.{well_formed}
-use Rattle.dataflow.specs.declared.Answer.{Answer}
-use Rattle.dataflow.specs.declared.Answer.TheVariants.{Accepted, Refused}
+use Rattle.std.specs.Prelude.{Result, Ok, Err}
 use Rattle.dataflow.specs.Promise.{Promise, Answered, Untouched, judged}
 
 -- an accepted answer is no refusal
-not_both : {r : Answer} {v : ℕ} {x : Refusal} → r ≡ Accepted v → r ≡ Refused x → ⊥
+not_both : {r : Result ℕ Refusal} {v : ℕ} {x : Refusal} → r ≡ Ok v → r ≡ Err x → ⊥
 not_both e h = let z : ◌≡◌ {A = ℕ} 0 1 = cc in omega arith
 
-same-visits : {r : Answer} {v w : ℕ} → r ≡ Accepted v → r ≡ Accepted w → v ≡ w
+same-visits : {r : Result ℕ Refusal} {v w : ℕ} → r ≡ Ok v → r ≡ Ok w → v ≡ w
 same-visits e h = cc
 
-same_refusal : {r : Answer} {x y : Refusal} → r ≡ Refused x → r ≡ Refused y → x ≡ y
+same_refusal : {r : Result ℕ Refusal} {x y : Refusal} → r ≡ Err x → r ≡ Err y → x ≡ y
 same_refusal e h = cc
 
-module _ {s masks masks' live_in live_in' live_out live_out' work work' : List ℕ} {r : Answer} (p : Promise s masks masks' live_in live_in' live_out live_out' work work' r) where
+module _ {s masks masks' live_in live_in' live_out live_out' work work' : List ℕ} {r : Result ℕ Refusal} (p : Promise s masks masks' live_in live_in' live_out live_out' work work' r) where
   abbrev found : Verdict
   found = judged s (length masks) (length live_in) (length live_out) (length work)
 
-  pub told-accepted : {v : ℕ} → r ≡ Accepted v → (judged s (length masks) (length live_in) (length live_out) (length work) ≡ fit) × Answered (flow_of s) masks masks' live_in live_in' live_out live_out' work work' v
+  pub told-accepted : {v : ℕ} → r ≡ Ok v → (judged s (length masks) (length live_in) (length live_out) (length work) ≡ fit) × Answered (flow_of s) masks masks' live_in live_in' live_out live_out' work work' v
   told-accepted {v} told = by found refl
     where
       by : (x : Verdict) → found ≡ x → (found ≡ fit) × Answered (flow_of s) masks masks' live_in live_in' live_out live_out' work work' v
@@ -44,7 +43,7 @@ module _ {s masks masks' live_in live_in' live_out live_out' work work' : List �
           (e, subst (λ k. Answered (flow_of s) masks masks' live_in live_in' live_out live_out' work work' k) (same-visits a.1 told) a.2)
       by (unfit x) e = absurd (not_both told (p.refused x e).0)
 
-  pub told-refused : {x : Refusal} → r ≡ Refused x → (judged s (length masks) (length live_in) (length live_out) (length work) ≡ unfit x) × Untouched masks masks' live_in live_in' live_out live_out' work work'
+  pub told-refused : {x : Refusal} → r ≡ Err x → (judged s (length masks) (length live_in) (length live_out) (length work) ≡ unfit x) × Untouched masks masks' live_in live_in' live_out live_out' work work'
   told-refused {x} told = by found refl
     where
       by : (y : Verdict) → found ≡ y → (found ≡ unfit x) × Untouched masks masks' live_in live_in' live_out live_out' work work'
@@ -72,7 +71,7 @@ module _ {f : Flow} {masks masks' live_in live_in' live_out live_out' work work'
       go false q = let rule = done.solved (handler-not-opaque wf q) in rule.mask_bytes i a l m ∙ term_1_masks f wf q rule.over i a
 
 -- two calls with the same file and areas of the same lengths have the same answer
-pub one_answer : {s masks live_in live_out work : List ℕ} {m₁ m₂ i₁ i₂ o₁ o₂ w₁ w₂ : List ℕ} {r₁ r₂ : Answer}
+pub one_answer : {s masks live_in live_out work : List ℕ} {m₁ m₂ i₁ i₂ o₁ o₂ w₁ w₂ : List ℕ} {r₁ r₂ : Result ℕ Refusal}
     → Promise s masks m₁ live_in i₁ live_out o₁ work w₁ r₁ → Promise s masks m₂ live_in i₂ live_out o₂ work w₂ r₂ → r₁ ≡ r₂
 one_answer {s} {masks} {live_in} {live_out} {work} {r₁ = r₁} {r₂ = r₂} p q = by (judged s (length masks) (length live_in) (length live_out) (length work)) refl
   where
@@ -81,5 +80,5 @@ one_answer {s} {masks} {live_in} {live_out} {work} {r₁ = r₁} {r₂ = r₂} p
         let a = p.accepted e in
         let b = q.accepted e in
         let wf = well_formed (fit-file s (length masks) (length live_in) (length live_out) (length work) e) in
-        a.1 ∙ ap Accepted (visits_computed wf a.2 ∙ sym (visits_computed wf b.2)) ∙ sym b.1
+        a.1 ∙ ap Ok (visits_computed wf a.2 ∙ sym (visits_computed wf b.2)) ∙ sym b.1
     by (unfit x) e = (p.refused x e).0 ∙ sym (q.refused x e).0

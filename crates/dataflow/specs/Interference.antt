@@ -1,14 +1,12 @@
 -- Request E5: what the call that finds the names that get in each other's way promises, for every byte string and every two lent areas. It refuses what the definitions refuse, and then changes nothing; else
 -- it writes one word a name, answers how many names are live at once, and leaves the work area zero and every other word as it was.
-use Rattle.std.specs.Prelude.{ℕ, ◌^◌, ◌<◌, ◌≤◌, true, false, List, [], ◌∷◌, ◌++◌, ◌≡◌, length, get_or, replicate}
+use Rattle.std.specs.Prelude.{ℕ, ◌^◌, ◌<◌, ◌≤◌, true, false, List, [], ◌∷◌, ◌++◌, ◌≡◌, length, get_or, replicate, Result, Ok, Err}
 use Rattle.flow.specs.declared.Refusal.{Refusal}
 use Rattle.flow.specs.Limits.{work_words}
 use Rattle.flow.specs.Flow.{Flow, size}
 use Rattle.flow.specs.Format.{Verdict, fit, unfit, verdict, file_checks, area_check, flow_of}
 use Rattle.theory.specs.Live.{member}
 use Rattle.theory.specs.Interference.{Interferes, interference_word, live_count, most_live}
-use Rattle.dataflow.specs.declared.Answer.{Answer}
-use Rattle.dataflow.specs.declared.Answer.TheVariants.{Accepted, Refused}
 use Rattle.dataflow.specs.Promise.{Written}
 
 -- the fields of the file in file order, then the work area, and last the area of words
@@ -31,6 +29,6 @@ pub record InterferenceFound (f : Flow) (rows rows' work work' : List ℕ) (most
   pub none : size f ≡ 0 → most ≡ 0
   pub work_zero : work' ≡ replicate (length work) 0
 
-pub record InterferencePromise (s rows rows' work work' : List ℕ) (r : Answer) : Type 0 where
-  pub refused : (x : Refusal) → judged_rows s (length rows) (length work) ≡ unfit x → (r ≡ Refused x) × (rows' ≡ rows) × (work' ≡ work)
-  pub accepted : judged_rows s (length rows) (length work) ≡ fit → (m : ℕ) × (r ≡ Accepted m) × InterferenceFound (flow_of s) rows rows' work work' m
+pub record InterferencePromise (s rows rows' work work' : List ℕ) (r : Result ℕ Refusal) : Type 0 where
+  pub refused : (x : Refusal) → judged_rows s (length rows) (length work) ≡ unfit x → (r ≡ Err x) × (rows' ≡ rows) × (work' ≡ work)
+  pub accepted : judged_rows s (length rows) (length work) ≡ fit → (m : ℕ) × (r ≡ Ok m) × InterferenceFound (flow_of s) rows rows' work work' m

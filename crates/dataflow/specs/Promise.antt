@@ -1,6 +1,6 @@
 -- What the call that answers a flow file promises, for every byte string and every set of lent areas: it refuses what the definitions refuse, and then changes no lent area; else
 -- it writes the masks that the queue rule leaves when it is over and the live sets, leaves the work area zero and every other byte as it was, and terms 1 to 3 hold of the bytes that it wrote.
-use Rattle.std.specs.Prelude.{ℕ, ◌+◌, ◌*◌, ◌<◌, ◌≤◌, true, List, ◌++◌, ◌≡◌, length, get_or, replicate}
+use Rattle.std.specs.Prelude.{ℕ, ◌+◌, ◌*◌, ◌<◌, ◌≤◌, true, List, ◌++◌, ◌≡◌, length, get_or, replicate, Result, Ok, Err}
 use Rattle.masks.specs.State.{State, holds}
 use Rattle.flow.specs.declared.Refusal.{Refusal}
 use Rattle.flow.specs.Flow.{Flow, size}
@@ -11,8 +11,6 @@ use Rattle.theory.specs.Queue.{Solver, Over, visit_bound}
 use Rattle.theory.specs.Masks.{any_state, BringsTo, mask_left}
 use Rattle.theory.specs.Live.{LiveIn, LiveOut, member, live_in_word, live_out_word}
 use Rattle.theory.specs.Runs.{Config, Run, Listed}
-use Rattle.dataflow.specs.declared.Answer.{Answer}
-use Rattle.dataflow.specs.declared.Answer.TheVariants.{Accepted, Refused}
 
 -- the fields of the file in file order, then the areas by their lengths
 abbrev pub judged : List ℕ → ℕ → ℕ → ℕ → ℕ → Verdict
@@ -71,8 +69,8 @@ pub record Untouched (masks masks' live_in live_in' live_out live_out' work work
   pub same_work : work' ≡ work
 
 -- refused exactly where a field or an area is unfit, and by that refusal
-pub record Promise (s masks masks' live_in live_in' live_out live_out' work work' : List ℕ) (r : Answer) : Type 0 where
+pub record Promise (s masks masks' live_in live_in' live_out live_out' work work' : List ℕ) (r : Result ℕ Refusal) : Type 0 where
   pub refused : (x : Refusal) → judged s (length masks) (length live_in) (length live_out) (length work) ≡ unfit x
-      → (r ≡ Refused x) × Untouched masks masks' live_in live_in' live_out live_out' work work'
+      → (r ≡ Err x) × Untouched masks masks' live_in live_in' live_out live_out' work work'
   pub accepted : judged s (length masks) (length live_in) (length live_out) (length work) ≡ fit
-      → (v : ℕ) × (r ≡ Accepted v) × Answered (flow_of s) masks masks' live_in live_in' live_out live_out' work work' v
+      → (v : ℕ) × (r ≡ Ok v) × Answered (flow_of s) masks masks' live_in live_in' live_out live_out' work work' v

@@ -18,13 +18,15 @@ ghost use Rattle.solve.specs.Clauses.Waiting.{Waits};
 ghost use Rattle.solve.specs.Clauses.Pushed.{Source};
 ghost use Rattle.dataflow.specs.Clauses.Sent.{edge_row, Sent, Shared, MembersHold, Goes, statement_arcs, Sends, KeyGrown, KeyJoined};
 ghost use Rattle.dataflow.specs.Clauses.Transfer.{KeySet};
-ghost use Rattle.dataflow.specs.Clauses.Solving.{Underway, VisitsFront, Unused, Begun, RuleResult};
+ghost use Rattle.dataflow.specs.Clauses.Solving.{Underway, VisitsFront, Unused, RuleResult};
 
+use crate::boundary::begin_row;
 use crate::transfer;
 use calls::edges::Call;
 use calls::orders::Order;
 use calls::{edges, leaders, orders};
-use flow::{Base, Handler, KIND_RETURN, LineEntry, NodeId, StmtId};
+use flow::kind::Kind;
+use flow::{Base, NodeId, StmtId};
 use solve::{Queue, layout, nodes, push};
 use statements::doubled::node;
 use statements::layout::{row, set_words};
@@ -47,11 +49,9 @@ fn push_listed(
 {
     let count = records::successor_count(file, place);
     let mut queue = first;
-    let mut k = 0;
-    while k < count {
+    for k in 0..count {
         let j = fields::successor_at(file, i, place, k);
         queue = push::push(work, n, width, queue, from, node(n, base, j));
-        k += 1;
     }
     queue
 }
@@ -126,7 +126,7 @@ fn call_row(n: usize, width: usize, t: NodeId, back: NodeId) -> usize
     requires { (n ≤ max_statements) × (width ≤ max_width) }
     ensures { result ≡ edge_row n width (eqb t.0 back.0) }
 {
-    if t.0 == back.0 {
+    if t == back {
         return layout::back_row(n, width);
     }
     layout::out_row(n, width)
@@ -150,12 +150,12 @@ fn push_line(
 {
     let n = h.statements;
     match edges::line_entered(file, h, work, i, place, call, l) {
-        LineEntry::At(b) => {
+        Some(b) => {
             let t = node(n, Base::N, b);
             let from = call_row(n, width, t, node(n, base, call.continuation));
             push::push(work, n, width, queue, from, t)
         }
-        LineEntry::Nothing => queue,
+        None => queue,
     }
 }
 
@@ -174,12 +174,9 @@ fn push_each_line(
     requires { (width ≤ max_width) × Indexed file.now h work.old × RecordOf file.now i.0 place × (i.0 < h.statements) × CallOf (flow_of file.now) work.old i.0 call × ((l : List ℕ) × Waits work.old h.statements width first l) }
     ensures { Sent (flow_of file.now) work.old work.new h.statements width (edge_row h.statements width) first i.0 (present (line_slots (flow_of file.now) base i.0 call.continuation.0)) result }
 {
-    let count = call.lines;
     let mut queue = first;
-    let mut l = 0;
-    while l < count {
+    for l in 0..call.lines {
         queue = push_line(file, h, work, width, queue, base, i, place, call, l);
-        l += 1;
     }
     queue
 }
@@ -200,14 +197,10 @@ fn push_order(
     ensures { Sent (flow_of file.now) work.old work.new n width (edge_row n width) first i.0 (present (line_slots (flow_of file.now) base i.0 call.continuation.0)) result }
 {
     let back = node(n, base, call.continuation);
-    let at = order.at;
-    let count = order.count;
     let mut queue = first;
-    let mut k = 0;
-    while k < count {
-        let t = node(n, Base::N, orders::entry(work, at, k));
+    for k in 0..order.count {
+        let t = node(n, Base::N, orders::entry(work, order.at, k));
         queue = push::push(work, n, width, queue, call_row(n, width, t, back), t);
-        k += 1;
     }
     queue
 }
@@ -279,13 +272,10 @@ fn push_others(
     requires { (width ≤ max_width) × Ready file.now work.old n × RecordOf file.now i.0 place × (i.0 < n) × CallOf (flow_of file.now) work.old i.0 call × ((l : List ℕ) × Waits work.old n width first l) }
     ensures { Sent (flow_of file.now) work.old work.new n width (edge_row n width) first i.0 (present (other_slots (flow_of file.now) base i.0 call.continuation.0)) result }
 {
-    let count = call.successors;
     let mut queue = first;
-    let mut k = 0;
-    while k < count {
+    for k in 0..call.successors {
         let j = fields::successor_at(file, i, place, k);
         queue = push_other(file, work, n, width, queue, base, i, call, j);
-        k += 1;
     }
     queue
 }
@@ -355,7 +345,7 @@ fn push_plain(
     requires { (width ≤ max_width) × Ready file.now work.old n × Linked (flow_of file.now) work.old n × RecordOf file.now i.0 place × (i.0 < n) × (transparent_call (flow_of file.now) i.0 ≡ false) × Source n width from × Shared (flow_of file.now) work.old n width × ((l : List ℕ) × Waits work.old n width first l) }
     ensures { Goes (flow_of file.now) work.old work.new n width (λ _. from) first i.0 (present (slots (flow_of file.now) (theory.at base i.0))) result }
 {
-    if records::kind(file, place) != KIND_RETURN {
+    if records::kind(file, place) != Kind::Return {
         return push_listed(file, work, n, width, first, base, i, place, from);
     }
     match base {
@@ -395,8 +385,7 @@ fn grow_key(file: &[u8], h: flow::Header, work: &mut [u64], width: usize, d: Nod
     ensures { KeyGrown (flow_of file.now) work.old work.new h.statements width d.0 }
 {
     let n = h.statements;
-    let handler = h.handler;
-    if let Handler::At(e) = handler {
+    if let Some(e) = h.handler {
         push::grow(
             work,
             n,
@@ -413,10 +402,9 @@ fn join_key(file: &[u8], h: flow::Header, work: &mut [u64], width: usize, queue:
     ensures { KeyJoined (flow_of file.now) work.old work.new h.statements width queue result }
 {
     let n = h.statements;
-    let handler = h.handler;
-    match handler {
-        Handler::None => queue,
-        Handler::At(e) => nodes::enqueue(work, n, width, queue, node(n, Base::N, e)),
+    match h.handler {
+        None => queue,
+        Some(e) => nodes::enqueue(work, n, width, queue, node(n, Base::N, e)),
     }
 }
 
@@ -451,28 +439,6 @@ fn visit(file: &[u8], h: flow::Header, work: &mut [u64], width: usize, first: Qu
     send(file, h, work, width, queue, d)
 }
 
-// The masks of d become those of the entry: NONE for all arrays, with the touched step of the handler.
-fn begin(file: &[u8], h: flow::Header, work: &mut [u64], width: usize, d: NodeId)
-    requires { (width ≡ set_words h.arrays) × Indexed file.now h work.old × KeySet (flow_of file.now) work.old h.statements width × (d.0 < 2 * h.statements) × Unused work.old h.statements width }
-    ensures { Begun (flow_of file.now) work.old work.new h.statements width d.0 }
-{
-    let n = h.statements;
-    let row = layout::mask_row(n, width, d);
-    transfer::reset_row(
-        work,
-        h.arrays,
-        width,
-        layout::set_row(n),
-        row,
-        layout::out_row(n, width),
-    );
-    let handler = h.handler;
-    match handler {
-        Handler::None => {}
-        Handler::At(_) => transfer::step_key(work, n, width, row, row),
-    }
-}
-
 // The queue rule. The count of visits comes back.
 pub fn array_states(file: &[u8], h: flow::Header, work: &mut [u64]) -> u64
     requires { Indexed file.now h work.old × Linked (flow_of file.now) work.old h.statements × KeySet (flow_of file.now) work.old h.statements (set_words h.arrays) × (0 < h.statements) × Unused work.old h.statements (set_words h.arrays) }
@@ -481,7 +447,7 @@ pub fn array_states(file: &[u8], h: flow::Header, work: &mut [u64]) -> u64
     let n = h.statements;
     let width = set_words(h.arrays);
     let entry = node(n, Base::Zero, h.entry);
-    begin(file, h, work, width, entry);
+    begin_row(file, h, work, width, layout::mask_row(n, width, entry));
     let mut queue = nodes::enqueue(work, n, width, Queue { head: 0, len: 0 }, entry);
     let mut visits = 0u64;
     while 0 < queue.len {

@@ -8,7 +8,6 @@ ghost use Rattle.dataflow.specs.Clauses.Transfer.{KeySet};
 ghost use Rattle.dataflow.specs.Clauses.Solving.{Unused, RowBegun};
 
 use crate::transfer;
-use flow::Handler;
 use solve::layout;
 
 // The masks of the row become those at the entry: NONE for all arrays, with the touched step of the handler.
@@ -25,9 +24,7 @@ pub fn begin_row(file: &[u8], h: flow::Header, work: &mut [u64], width: usize, r
         row,
         layout::out_row(n, width),
     );
-    let handler = h.handler;
-    match handler {
-        Handler::None => {}
-        Handler::At(_) => transfer::step_key(work, n, width, row, row),
+    if h.handler.is_some() {
+        transfer::step_key(work, n, width, row, row);
     }
 }

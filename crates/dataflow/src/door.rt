@@ -10,8 +10,10 @@ ghost use Rattle.dataflow.specs.Promise.{Promise, Written};
 ghost use Rattle.dataflow.specs.Clauses.Transfer.{KeySet};
 ghost use Rattle.dataflow.specs.Clauses.Phases.{edges_end, cleared, FitFlow, SummariesMade, SolverStart, Masked, FitAreas, Findings};
 
-use crate::{Answer, arrays, write};
-use flow::Handler;
+use crate::{arrays, write};
+use flow::areas::areas_fit;
+use flow::check::check_file;
+use flow::{Header, Refusal};
 use statements::layout;
 
 // Where the words end that finding the edges uses.
@@ -36,7 +38,7 @@ fn clear(work: &mut [u64], n: usize, arrays: usize)
 }
 
 // The places of the records, the parts of the lines and the summaries of the calls.
-pub fn summarize(file: &[u8], h: flow::Header, work: &mut [u64])
+pub fn summarize(file: &[u8], h: Header, work: &mut [u64])
     requires { FitFlow file.now h work.old }
     ensures { SummariesMade file.now h work.new }
 {
@@ -48,25 +50,23 @@ pub fn summarize(file: &[u8], h: flow::Header, work: &mut [u64])
 }
 
 // Whether the body of the handler, if there is one, is opaque.
-pub fn opaque_handler(file: &[u8], h: flow::Header, work: &[u64]) -> bool
+pub fn opaque_handler(file: &[u8], h: Header, work: &[u64]) -> bool
     requires { SummariesMade file.now h work.now }
     ensures { result ≡ opaque_handler (flow_of file.now) }
 {
-    let handler = h.handler;
-    match handler {
-        Handler::None => false,
-        Handler::At(e) => work[layout::bodies(h.statements) + e.0] == calls::OPAQUE,
+    match h.handler {
+        None => false,
+        Some(e) => work[layout::bodies(h.statements) + e.0] == calls::OPAQUE,
     }
 }
 
 // The arrays that the handler's body touches are noted for the solver: the words where they stand now serve for the edges.
-pub fn note_key(file: &[u8], h: flow::Header, work: &mut [u64])
+pub fn note_key(file: &[u8], h: Header, work: &mut [u64])
     requires { SummariesMade file.now h work.old × (opaque_handler (flow_of file.now) ≡ false) }
     ensures { SummariesMade file.now h work.new × KeySet (flow_of file.now) work.new h.statements (set_words h.arrays) }
 {
     let n = h.statements;
-    let handler = h.handler;
-    if let Handler::At(e) = handler {
+    if let Some(e) = h.handler {
         let key = solve::layout::key(n, layout::set_words(h.arrays));
         work[key] = work[layout::touched(n) + e.0];
     }
@@ -74,7 +74,7 @@ pub fn note_key(file: &[u8], h: flow::Header, work: &mut [u64])
 
 // What the edges are made from. The queue's words served as a stack, and the rows of entered statements and of RETURNs were used: all are zeroed for
 // the solver.
-pub fn link(file: &[u8], h: flow::Header, work: &mut [u64])
+pub fn link(file: &[u8], h: Header, work: &mut [u64])
     requires { SummariesMade file.now h work.old × KeySet (flow_of file.now) work.old h.statements (set_words h.arrays) × (0 < h.statements) }
     ensures { SolverStart file.now h work.new }
 {
@@ -85,7 +85,7 @@ pub fn link(file: &[u8], h: flow::Header, work: &mut [u64])
 }
 
 // The masks that the queue rule leaves.
-fn solve_arrays(file: &[u8], h: flow::Header, masks: &mut [u8], work: &mut [u64]) -> u64
+fn solve_arrays(file: &[u8], h: Header, masks: &mut [u8], work: &mut [u64]) -> u64
     requires { SolverStart file.now h work.old × (h.statements * h.arrays ≤ length masks.old) × (opaque_handler (flow_of file.now) ≡ false) }
     ensures { Masked file.now h masks.old masks.new work.new result }
 {
@@ -97,7 +97,7 @@ fn solve_arrays(file: &[u8], h: flow::Header, masks: &mut [u8], work: &mut [u64]
 }
 
 // The masks. An opaque handler may leave any array in any state before any statement, so there is nothing to solve.
-fn find_masks(file: &[u8], h: flow::Header, masks: &mut [u8], work: &mut [u64]) -> u64
+fn find_masks(file: &[u8], h: Header, masks: &mut [u8], work: &mut [u64]) -> u64
     requires { SummariesMade file.now h work.old × (0 < h.statements) × (h.statements * h.arrays ≤ length masks.old) }
     ensures { Masked file.now h masks.old masks.new work.new result }
 {
@@ -120,7 +120,7 @@ fn solve_names(file: &[u8], n: usize, live_in: &mut [u64], live_out: &mut [u64],
 // What the phases find of a file and areas that are fit.
 fn solve_flow(
     file: &[u8],
-    h: flow::Header,
+    h: Header,
     masks: &mut [u8],
     live_in: &mut [u64],
     live_out: &mut [u64],
@@ -144,35 +144,27 @@ pub fn states(
     live_in: &mut [u64],
     live_out: &mut [u64],
     work: &mut [u64],
-) -> Answer
+) -> Result<u64, Refusal>
     ensures { Promise file.now masks.old masks.new live_in.old live_in.new live_out.old live_out.new work.old work.new result }
 {
-    let h = match flow::check::check_file(file) {
-        flow::Checked::Fit(found) => found,
-        flow::Checked::Unfit(r) => {
-            return Answer::Refused(r);
-        }
-    };
-    let n = h.statements;
-    let arrays = h.arrays;
-    let fit = flow::areas::areas_fit(
-        n,
-        arrays,
+    let h = check_file(file)?;
+    let size = work.len();
+    if !areas_fit(
+        h.statements,
+        h.arrays,
         masks.len(),
         live_in.len(),
         live_out.len(),
-        work.len(),
-    );
-    let size = work.len();
-    if !fit {
-        return Answer::Refused(flow::Refusal::Areas);
+        size,
+    ) {
+        return Err(Refusal::Areas);
     }
     // With no statements there is no entry, and nothing to visit.
-    if n == 0 {
+    if h.statements == 0 {
         words::zero_row(work, 0, size);
-        return Answer::Accepted(0);
+        return Ok(0);
     }
     let visits = solve_flow(file, h, masks, live_in, live_out, work);
     words::zero_row(work, 0, size);
-    Answer::Accepted(visits)
+    Ok(visits)
 }

@@ -3,16 +3,9 @@
 
 pub mod arrays;
 pub mod boundary;
+pub mod call;
 pub mod conflicts;
 pub mod door;
 pub mod names;
 pub mod transfer;
 pub mod write;
-
-// The answer to a flow file and the areas lent with it.
-#[derive(Clone, Copy)]
-pub enum Answer {
-    // With the count of visits, the word of certain names, or how many names are live at once.
-    Accepted(u64),
-    Refused(flow::Refusal),
-}

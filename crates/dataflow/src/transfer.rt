@@ -20,7 +20,7 @@ ghost use Rattle.solve.specs.Clauses.Rows.{RowIs, Beside, mask_at, step_where, m
 ghost use Rattle.dataflow.specs.Clauses.Transfer.{SetIs, SetGains, RowSteps, RowsApart, enters_again, Acted, plain_effects, KeySet, KeyStepped};
 ghost use Rattle.dataflow.specs.Clauses.Sent.{edge_row, Prepared};
 
-use flow::{Base, Handler, NodeId, StmtId};
+use flow::{Base, NodeId, StmtId};
 use masks::Effect;
 use solve::{layout, rows};
 use statements::fields;
@@ -35,10 +35,8 @@ fn note_references(file: &[u8], work: &mut [u64], i: StmtId, p: usize, set: usiz
         work[set] = records::references_word(file, p, 0);
         return;
     }
-    let mut k = 0;
-    while k < width {
+    for k in 0..width {
         work[set + k] = records::references_word(file, p, k);
-        k += 1;
     }
 }
 
@@ -59,11 +57,8 @@ fn note_items(file: &[u8], work: &mut [u64], i: StmtId, p: usize, set: usize, wi
 {
     words::zero_row(work, set, width);
     let count = records::item_count(file, p);
-    let mut k = 0;
-    while k < count {
-        let x = records::item(file, p, k);
-        note_item(work, set, width, x);
-        k += 1;
+    for k in 0..count {
+        note_item(work, set, width, records::item(file, p, k));
     }
 }
 
@@ -84,10 +79,8 @@ fn note_all(work: &mut [u64], count: usize, set: usize, width: usize)
     requires { (count ≤ max_arrays) × (width ≤ max_width) × (set + width ≤ length work.old) }
     ensures { SetIs work.old work.new set width (λ a. ltb a count) }
 {
-    let mut k = 0;
-    while k < width {
+    for k in 0..width {
         work[set + k] = below_word(count, k);
-        k += 1;
     }
 }
 
@@ -217,15 +210,12 @@ pub fn plain_row(
 {
     let n = h.statements;
     let own = act_row(file, h, work, width, d, i, p);
-    let handler = h.handler;
-    match handler {
-        Handler::None => own,
-        Handler::At(_) => {
-            let out = layout::out_row(n, width);
-            step_key(work, n, width, out, own);
-            out
-        }
+    if h.handler.is_none() {
+        return own;
     }
+    let out = layout::out_row(n, width);
+    step_key(work, n, width, out, own);
+    out
 }
 
 // The row for the edge to the continuation of the call at hand, from the row at `from`, of which the arrays in the set at word `set` take the effect.
@@ -302,9 +292,7 @@ pub fn call_rows(
     ensures { Prepared (flow_of file.now) work.old work.new h.statements width d.0 (edge_effects (flow_of file.now) (doubled.node (flow_of file.now) d.0).stmt) (edge_row h.statements width) }
 {
     own_rows(file, h, work, width, d, i, p, again);
-    let handler = h.handler;
-    match handler {
-        Handler::None => {}
-        Handler::At(_) => key_rows(work, h.statements, width),
+    if h.handler.is_some() {
+        key_rows(work, h.statements, width);
     }
 }

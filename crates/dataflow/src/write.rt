@@ -33,10 +33,8 @@ fn write_bytes(masks: &mut [u8], at: usize, word: u64, count: usize)
     requires { (count ≤ 8) × (at + count ≤ length masks.old) }
     ensures { masks.new ≡ noted masks.old at count (byte_of word) }
 {
-    let mut b = 0;
-    while b < count {
+    for b in 0..count {
         masks[at + b] = ((word >> (8 * b)) % 256) as u8;
-        b += 1;
     }
 }
 
@@ -48,15 +46,14 @@ fn write_word(masks: &mut [u8], at: usize, none: u64, auto: u64, dimmed: u64, co
     let mut x = none;
     let mut y = auto;
     let mut z = dimmed;
-    let mut g = 0;
-    while g < count / 8 {
+    let groups = count / 8;
+    for g in 0..groups {
         write_bytes(masks, at + 8 * g, eight_masks(x, y, z), 8);
-        x = x >> 8;
-        y = y >> 8;
-        z = z >> 8;
-        g += 1;
+        x >>= 8;
+        y >>= 8;
+        z >>= 8;
     }
-    write_bytes(masks, at + 8 * g, eight_masks(x, y, z), count % 8);
+    write_bytes(masks, at + 8 * groups, eight_masks(x, y, z), count % 8);
 }
 
 // How many arrays word k of a set stands for.
@@ -88,13 +85,11 @@ fn write_row(masks: &mut [u8], work: &[u64], n: usize, arrays: usize, i: usize)
 {
     let width = layout::set_words(arrays);
     let at = i * arrays;
-    let mut k = 0;
-    while k < width {
+    for k in 0..width {
         let none = joined_word(work, n, width, i, k);
         let auto = joined_word(work, n, width, i, width + k);
         let dimmed = joined_word(work, n, width, i, 2 * width + k);
         write_word(masks, at + 64 * k, none, auto, dimmed, in_word(arrays, k));
-        k += 1;
     }
 }
 
@@ -103,12 +98,10 @@ fn same_sets(work: &[u64], n: usize, width: usize, i: usize, j: usize) -> bool
     requires { RowsHeld work.now n width × (i < n) × (j < n) }
     ensures { Says result (SameSets work.now n width i j) }
 {
-    let mut k = 0;
-    while k < 3 * width {
+    for k in 0..3 * width {
         if joined_word(work, n, width, i, k) != joined_word(work, n, width, j, k) {
             return false;
         }
-        k += 1;
     }
     true
 }
@@ -118,10 +111,8 @@ fn repeat_bytes(masks: &mut [u8], from: usize, count: usize)
     requires { from + count + count ≤ length masks.old }
     ensures { masks.new ≡ noted masks.old (from + count) count (λ k. get_or masks.old (from + k) 0) }
 {
-    let mut k = 0;
-    while k < count {
+    for k in 0..count {
         masks[from + count + k] = masks[from + k];
-        k += 1;
     }
 }
 
@@ -143,10 +134,8 @@ pub fn write_masks(masks: &mut [u8], work: &[u64], n: usize, arrays: usize)
     requires { (n ≤ max_statements) × (arrays ≤ max_arrays) × (n * arrays ≤ length masks.old) × (area_end n (set_words arrays) ≤ length work.now) }
     ensures { masks.new ≡ noted_rows masks.old arrays (both_copies work.now n (set_words arrays)) n }
 {
-    let mut i = 0;
-    while i < n {
+    for i in 0..n {
         write_statement(masks, work, n, arrays, i);
-        i += 1;
     }
 }
 
@@ -158,9 +147,5 @@ pub fn write_any(masks: &mut [u8], count: usize)
     requires { count ≤ length masks.old }
     ensures { masks.new ≡ noted masks.old 0 count (λ k. any_state) }
 {
-    let mut j = 0;
-    while j < count {
-        masks[j] = ANY_STATE;
-        j += 1;
-    }
+    masks[..count].fill(ANY_STATE);
 }

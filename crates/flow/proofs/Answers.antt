@@ -5,67 +5,67 @@ use native.Mathlib.Omega.{arith}
 use mathlib.Core.List.{List, ◌++◌}
 use mathlib.Core.Path.{◌≡◌, refl, sym, ap, ◌∙◌}
 use Rattle.flow.specs.declared.Refusal.{Refusal}
-use Rattle.flow.specs.declared.Passed.TheVariants.{To, Unfit}
+use Rattle.std.specs.Prelude.{Ok, Err}
 use Rattle.flow.specs.Format.{Check, Verdict, fit, unfit, verdict, each}
-use Rattle.flow.specs.Clauses.Answers.{passed_of}
+use Rattle.flow.specs.Clauses.Answers.{answer_of}
 use Rattle.flow.proofs.Verdicts.{AllHold, all_fit, StopsAt, refusal_at, stops_at, fit_append, unfit-append, unfit-at, fit-more}
 
 -- from a verdict that is known
 
-pub refused_by : (cs : List Check) (e : ℕ) {r : Refusal} → verdict cs ≡ unfit r → Unfit r ≡ passed_of (verdict cs) e
-refused_by cs e h = ap (λ v. passed_of v e) (sym h)
+pub refused_by : {T : Type 0} (cs : List Check) (e : T) {r : Refusal} → verdict cs ≡ unfit r → Err r ≡ answer_of (verdict cs) e
+refused_by cs e h = ap (λ v. answer_of v e) (sym h)
 
-pub passed_by : (cs : List Check) (e : ℕ) → verdict cs ≡ fit → To e ≡ passed_of (verdict cs) e
-passed_by cs e h = ap (λ v. passed_of v e) (sym h)
+pub passed_by : {T : Type 0} (cs : List Check) (e : T) → verdict cs ≡ fit → Ok e ≡ answer_of (verdict cs) e
+passed_by cs e h = ap (λ v. answer_of v e) (sym h)
 
 -- check by check
 
-pub refused : (k : ℕ) (cs : List Check) (e : ℕ) → StopsAt k cs → Unfit (refusal_at k cs) ≡ passed_of (verdict cs) e
+pub refused : {T : Type 0} (k : ℕ) (cs : List Check) (e : T) → StopsAt k cs → Err (refusal_at k cs) ≡ answer_of (verdict cs) e
 refused k cs e h = refused_by cs e (stops_at k cs h)
 
-pub passed : (cs : List Check) (e : ℕ) → AllHold cs → To e ≡ passed_of (verdict cs) e
+pub passed : {T : Type 0} (cs : List Check) (e : T) → AllHold cs → Ok e ≡ answer_of (verdict cs) e
 passed cs e h = passed_by cs e (all_fit cs h)
 
 -- the same where the reader's own numbers are equal to those of the definition
 
-pub refused_as : (k : ℕ) (cs : List Check) (e : ℕ) {r : Refusal} → r ≡ refusal_at k cs → StopsAt k cs → Unfit r ≡ passed_of (verdict cs) e
-refused_as k cs e h j = ap Unfit h ∙ refused k cs e j
+pub refused_as : {T : Type 0} (k : ℕ) (cs : List Check) (e : T) {r : Refusal} → r ≡ refusal_at k cs → StopsAt k cs → Err r ≡ answer_of (verdict cs) e
+refused_as k cs e h j = ap Err h ∙ refused k cs e j
 
-pub passed_to : (cs : List Check) (q e : ℕ) → q ≡ e → AllHold cs → To q ≡ passed_of (verdict cs) e
-passed_to cs q e h j = ap To h ∙ passed cs e j
+pub passed_to : {T : Type 0} (cs : List Check) (q e : T) → q ≡ e → AllHold cs → Ok q ≡ answer_of (verdict cs) e
+passed_to cs q e h j = ap Ok h ∙ passed cs e j
 
 -- part by part: a part that is fit leaves the answer to what follows, and one that is not gives it
 
-pub onward : (cs ds : List Check) (e : ℕ) → verdict cs ≡ fit → passed_of (verdict ds) e ≡ passed_of (verdict (cs ++ ds)) e
-onward cs ds e h = ap (λ v. passed_of v e) (sym (fit_append cs ds h))
+pub onward : {T : Type 0} (cs ds : List Check) (e : T) → verdict cs ≡ fit → answer_of (verdict ds) e ≡ answer_of (verdict (cs ++ ds)) e
+onward cs ds e h = ap (λ v. answer_of v e) (sym (fit_append cs ds h))
 
-pub refused-first : (cs ds : List Check) (e : ℕ) {r : Refusal} → verdict cs ≡ unfit r → Unfit r ≡ passed_of (verdict (cs ++ ds)) e
+pub refused-first : {T : Type 0} (cs ds : List Check) (e : T) {r : Refusal} → verdict cs ≡ unfit r → Err r ≡ answer_of (verdict (cs ++ ds)) e
 refused-first cs ds e h = refused_by (cs ++ ds) e (unfit-append cs ds h)
 
 -- element by element, after a part that is fit: elements before the first unfit one are fit
 
-pub refused_element : (cs : List Check) (k n j : ℕ) (f : ℕ → List Check) (e : ℕ) → verdict cs ≡ fit → k < n → verdict (each k f) ≡ fit
-    → StopsAt j (f k) → Unfit (refusal_at j (f k)) ≡ passed_of (verdict (cs ++ each n f)) e
+pub refused_element : {T : Type 0} (cs : List Check) (k n j : ℕ) (f : ℕ → List Check) (e : T) → verdict cs ≡ fit → k < n → verdict (each k f) ≡ fit
+    → StopsAt j (f k) → Err (refusal_at j (f k)) ≡ answer_of (verdict (cs ++ each n f)) e
 refused_element cs k n j f e h l i u =
     refused_by (cs ++ each n f) e (fit_append cs (each n f) h ∙ unfit-at k n f l i (stops_at j (f k) u))
 
-pub passed-elements : (cs : List Check) (n : ℕ) (f : ℕ → List Check) (q e : ℕ) → q ≡ e → verdict cs ≡ fit → verdict (each n f) ≡ fit
-    → To q ≡ passed_of (verdict (cs ++ each n f)) e
-passed-elements cs n f q e there h i = ap To there ∙ passed_by (cs ++ each n f) e (fit_append cs (each n f) h ∙ i)
+pub passed-elements : {T : Type 0} (cs : List Check) (n : ℕ) (f : ℕ → List Check) (q e : T) → q ≡ e → verdict cs ≡ fit → verdict (each n f) ≡ fit
+    → Ok q ≡ answer_of (verdict (cs ++ each n f)) e
+passed-elements cs n f q e there h i = ap Ok there ∙ passed_by (cs ++ each n f) e (fit_append cs (each n f) h ∙ i)
 
 pub one_more : (k : ℕ) (f : ℕ → List Check) → verdict (each k f) ≡ fit → AllHold (f k) → verdict (each (k + 1) f) ≡ fit
 one_more k f h i = fit-more k f h (all_fit (f k) i)
 
 -- what an answer says of the verdict
 
-pub verdict-refused : (v : Verdict) (e : ℕ) {r : Refusal} → Unfit r ≡ passed_of v e → v ≡ unfit r
+pub verdict-refused : {T : Type 0} (v : Verdict) (e : T) {r : Refusal} → Err r ≡ answer_of v e → v ≡ unfit r
 verdict-refused fit e {r} h = absurd (let z : ◌≡◌ {A = ℕ} 0 1 = cc in omega arith)
 verdict-refused (unfit r') e {r} h = cc
 
-pub record Through (v : Verdict) (q e : ℕ) : Type 0 where
+pub record Through {T : Type 0} (v : Verdict) (q e : T) : Type 0 where
   pub is_fit : v ≡ fit
   pub place : q ≡ e
 
-pub verdict-passed : (v : Verdict) (q e : ℕ) → To q ≡ passed_of v e → Through v q e
+pub verdict-passed : {T : Type 0} (v : Verdict) (q e : T) → Ok q ≡ answer_of v e → Through v q e
 verdict-passed fit q e h = record { is_fit = refl; place = cc }
 verdict-passed (unfit r) q e h = absurd (let z : ◌≡◌ {A = ℕ} 0 1 = cc in omega arith)

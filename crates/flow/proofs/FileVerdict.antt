@@ -3,21 +3,19 @@
 use Prim.Native.Nat.{ℕ, zero, suc, ◌≤◌}
 use native.Mathlib.Omega.{arith}
 use mathlib.Core.List.{List, ◌++◌, append_assoc}
-use mathlib.Core.Path.{◌≡◌, refl, sym, ap, subst, ◌∙◌}
+use mathlib.Core.Path.{◌≡◌, sym, ap, subst, ◌∙◌}
 use borrow.Author.Tests.{leb-true}
 use lib.ListN.{length}
 use Rattle.flow.specs.declared.Refusal.{Refusal}
 use Rattle.flow.specs.declared.Part.{Part}
 use Rattle.flow.specs.declared.Part.TheVariants.{Header, Statements, Lines, Key, End}
-use Rattle.flow.specs.declared.Passed.{Passed}
-use Rattle.flow.specs.declared.Passed.TheVariants.{To, Unfit}
-use Rattle.flow.specs.Format.{verdict, fit, each, header_checks, statement_checks, record_checks, record_place, statements_of, line_record_checks, line_count, lines_place, key_place, file_checks}
-use Rattle.flow.specs.Clauses.Answers.{passed_of}
-use Rattle.flow.specs.Clauses.Parts.{Due, Judged, part_start, part_checks, checks_before, header_read, part_answer, answer_through, place_after}
-use Rattle.flow.proofs.Verdicts.{all_hold, fit-left, fit-right, elements-within}
+use Rattle.std.specs.Prelude.{Ok, Err}
+use Rattle.flow.specs.Format.{verdict, fit, unfit, each, header_checks, statement_checks, record_checks, record_place, statements_of, line_record_checks, line_count, lines_place, key_place, file_checks}
+use Rattle.flow.specs.Clauses.Parts.{Due, part_start, part_end, part_checks, checks_before, header_read, part_answer}
+use Rattle.flow.proofs.Verdicts.{all_hold, fit-left, fit-right, fit_append, unfit-append, elements-within}
 use Rattle.flow.proofs.Records.{end_fits}
 use Rattle.flow.proofs.KeyRecord.{key-within}
-use Rattle.flow.proofs.Answers.{verdict-passed, verdict-refused, onward, refused-first}
+use Rattle.flow.proofs.Answers.{verdict-passed, verdict-refused}
 
 module _ (s : List ℕ) where
   pub header-within : verdict (header_checks s) ≡ fit → 8 ≤ length s
@@ -82,28 +80,40 @@ module _ (s : List ℕ) where
   start-within Key h = to-key h
   start-within End h = key-within s (to-key (key_too h)) (fit-right (checks_before s Key) (part_checks s Key) h)
 
-  -- a reader after an answer, at the part that the answer is for
+  -- a reader that stands at the start of a part before which all is fit has come to it
+  pub due : (part : Part) {at : ℕ} → verdict (checks_before s part) ≡ fit → at ≡ part_start s part → Due s part at
+  due part h there =
+      record { there = there; within = subst (λ x. x ≤ length s) (sym there) (start-within part h); header = header-first part h }
 
-  module _ (part : Part) {before : Passed} {at : ℕ} (j : Judged s part before at) where
-    -- where all before the part is fit, the reader stands at its start
-    pub stands-there : verdict (checks_before s part) ≡ fit → at ≡ part_start s part
-    stands-there h = j.stands ∙ ap (λ p. place_after p at) (j.told ∙ ap (λ v. passed_of v (part_start s part)) h)
+  -- the answer for a part and all before it, where all before it is fit
 
-    pub passed-before : {q : ℕ} → To q ≡ before → verdict (checks_before s part) ≡ fit
-    passed-before {q} e = (verdict-passed _ _ _ (e ∙ j.told)).is_fit
+  pub passed-through : (part : Part) {q : ℕ} → verdict (checks_before s part) ≡ fit → Ok q ≡ part_answer s part
+      → (verdict (checks_before s part ++ part_checks s part) ≡ fit) × (q ≡ part_end s part)
+  passed-through part h e =
+      let t = verdict-passed _ _ _ e in
+      (fit_append (checks_before s part) (part_checks s part) h ∙ t.is_fit, t.place)
 
-    pub due : {q : ℕ} → To q ≡ before → Due s part at
-    due e =
-        let h = passed-before e in
-        record { there = stands-there h; within = subst (λ x. x ≤ length s) (sym (stands-there h)) (start-within part h); header = header-first part h }
+  pub refused-through : (part : Part) {r : Refusal} → verdict (checks_before s part) ≡ fit → Err r ≡ part_answer s part
+      → verdict (checks_before s part ++ part_checks s part) ≡ unfit r
+  refused-through part h e = fit_append (checks_before s part) (part_checks s part) h ∙ verdict-refused _ _ e
 
-    pub part_counts : {q : ℕ} → To q ≡ before → part_answer s part ≡ answer_through s part
-    part_counts e = onward (checks_before s part) (part_checks s part) _ (passed-before e)
+  -- a refusal of a part and all before it is that of the file
 
-    pub refusal_stands : {r : Refusal} → Unfit r ≡ before → Unfit r ≡ answer_through s part
-    refusal_stands e = refused-first (checks_before s part) (part_checks s part) _ (verdict-refused _ _ (e ∙ j.told))
+  past-end : {r : Refusal} → verdict (checks_before s End ++ part_checks s End) ≡ unfit r → verdict (file_checks s) ≡ unfit r
+  past-end h = sym (ap verdict all-parts) ∙ h
 
-  -- past any answer the reader stands where the answer led it
-  pub stays : (p : Passed) (at : ℕ) {at' : ℕ} → at' ≡ place_after p at → at' ≡ place_after p at'
-  stays (To q) at e = e
-  stays (Unfit r) at e = refl
+  past-key : {r : Refusal} → verdict (checks_before s End) ≡ unfit r → verdict (file_checks s) ≡ unfit r
+  past-key h = past-end (unfit-append (checks_before s End) (part_checks s End) h)
+
+  past-lines : {r : Refusal} → verdict (checks_before s Key) ≡ unfit r → verdict (file_checks s) ≡ unfit r
+  past-lines h = past-key (unfit-append (checks_before s Key) (part_checks s Key) h)
+
+  past-statements : {r : Refusal} → verdict (checks_before s Lines) ≡ unfit r → verdict (file_checks s) ≡ unfit r
+  past-statements h = past-lines (unfit-append (checks_before s Lines) (part_checks s Lines) h)
+
+  pub refused-file : (part : Part) {r : Refusal} → verdict (checks_before s part ++ part_checks s part) ≡ unfit r → verdict (file_checks s) ≡ unfit r
+  refused-file Header h = past-statements (unfit-append (checks_before s Statements) (part_checks s Statements) h)
+  refused-file Statements h = past-statements h
+  refused-file Lines h = past-lines h
+  refused-file Key h = past-key h
+  refused-file End h = past-end h

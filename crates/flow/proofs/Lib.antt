@@ -1,3 +1,4 @@
+pub mod KindNumbers
 pub mod Verdicts
 pub mod Numbers
 pub mod Answers
@@ -10,5 +11,3 @@ pub mod Reading
 pub mod WithoutKey
 pub mod Cases
 pub mod AreaVerdict
-pub mod Held
-pub mod Lent

@@ -1,7 +1,7 @@
 -- Flow files and how each is read: files with every kind of field, and a file for each row of the refusal table that a small file can meet. Document 01's own cases
 -- stand in the table of the theory crate. A file is put together from its records.
 use Rattle.std.specs.Prelude.{ℕ, zero, suc, ◌+◌, ◌/◌, ◌%◌, ◌^◌, List, [], ◌∷◌, ◌++◌, length, take}
-use Rattle.std.proofs.Math.Option.{none, some}
+use mathlib.Core.Option.{none, some}
 use Rattle.flow.specs.declared.Refusal.TheVariants.{Record, Header, Kind, Target, Member, ReturnReference, Order, Trailing}
 use Rattle.flow.specs.Flow as F
 use Rattle.flow.specs.Flow.{Flow}

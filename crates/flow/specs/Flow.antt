@@ -1,7 +1,7 @@
 -- The value that an accepted flow file stands for: what the file says, as lists. Everything above the file speaks of a `Flow`.
 -- Sets of names are numbers whose bit i is name i.
 use Rattle.std.specs.Prelude.{ℕ, cond, List, [], ◌∷◌, length, get_or, eqb}
-use Rattle.std.proofs.Math.Option.{Option, none, some}
+use mathlib.Core.Option.{Option, none, some}
 
 -- an item of a DIM: its array, and its flag, 1 with dimensions, 0 without
 pub record Item : Type 0 where

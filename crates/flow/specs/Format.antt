@@ -1,7 +1,7 @@
 -- Document 01, "The flow file" and "What a refused flow gets". The file length is judged first, then every field in file order; the first
 -- unfit field is the answer. So a file's judgement is a list of checks in that order, and its answer is the first check that fails.
 use Rattle.std.specs.Prelude.{ℕ, zero, suc, ◌+◌, ◌-◌, ◌*◌, ◌^◌, Bool, true, false, cond, not, ◌&&◌, ◌||◌, List, [], ◌∷◌, ◌++◌, length, get_or, leb, ltb, eqb}
-use Rattle.std.proofs.Math.Option.{Option, none, some}
+use mathlib.Core.Option.{Option, none, some}
 use Rattle.flow.specs.declared.Refusal.{Refusal}
 use Rattle.flow.specs.declared.Refusal.TheVariants.{TooLong, Record, Header, Kind, Target, Member, ReturnReference, Order, Trailing, Areas}
 use Rattle.flow.specs.Limits.{max_file, max_statements, max_arrays, max_names, max_kind, no_continuation, work_words}

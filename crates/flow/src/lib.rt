@@ -1,6 +1,9 @@
 // The flow file: what it may hold, which file is refused and why, and the fields of a statement's record.
 #![tactic(auto)]
 
+ghost use Rattle.std.specs.Prelude.{◌≡◌};
+ghost use Rattle.flow.specs.Refusals.{number_of, place_of};
+
 // The limits of a flow file.
 pub const MAX_FILE: usize = 262144;
 
@@ -10,21 +13,6 @@ pub const MAX_ARRAYS: usize = 64;
 
 pub const MAX_NAMES: usize = 64;
 
-pub const MAX_KIND: usize = 6;
-
-// The kinds of statements by their numbers; 0 is any other statement.
-pub const KIND_RETURN: usize = 1;
-
-pub const KIND_CLR: usize = 2;
-
-pub const KIND_RUN: usize = 3;
-
-pub const KIND_DIM: usize = 4;
-
-pub const KIND_GOSUB: usize = 5;
-
-pub const KIND_ON_GOSUB: usize = 6;
-
 // A continuation with this value means none.
 pub const NO_CONTINUATION: usize = 65535;
 
@@ -32,22 +20,22 @@ pub const NO_CONTINUATION: usize = 65535;
 pub const WORK_PER_STATEMENT: usize = 64;
 
 // A statement's number, from 0 to n - 1.
-#[derive(Clone, Copy)]
+#[derive(Clone, Copy, Debug, PartialEq, Eq)]
 pub struct StmtId(pub usize);
 
 // A doubled number, from 0 to 2 n - 1: a node of the doubled graph.
-#[derive(Clone, Copy)]
+#[derive(Clone, Copy, Debug, PartialEq, Eq)]
 pub struct NodeId(pub usize);
 
 // The two copies of a statement: base 0 and base n.
-#[derive(Clone, Copy)]
+#[derive(Clone, Copy, Debug, PartialEq, Eq)]
 pub enum Base {
     Zero,
     N,
 }
 
 // Why a flow is refused. A record's place is the offset of its mark, or where that mark should begin.
-#[derive(Clone, Copy)]
+#[derive(Clone, Copy, Debug, PartialEq, Eq)]
 pub enum Refusal {
     // The file is over the limit.
     TooLong,
@@ -73,15 +61,48 @@ pub enum Refusal {
     Mask(usize),
 }
 
-// The statement that the interrupt key calls, if there is one.
-#[derive(Clone, Copy)]
-pub enum Handler {
-    At(StmtId),
-    None,
+impl Refusal {
+    // Its number in the refusal table.
+    pub fn number(self) -> u64
+        ensures { result ≡ number_of self }
+    {
+        match self {
+            Refusal::TooLong => 1,
+            Refusal::Record(_) => 2,
+            Refusal::Header(_) => 3,
+            Refusal::Kind(_) => 4,
+            Refusal::Target(_) => 5,
+            Refusal::Member(_) => 6,
+            Refusal::ReturnReference(_) => 7,
+            Refusal::Order(_) => 8,
+            Refusal::Trailing(_) => 9,
+            Refusal::Areas => 10,
+            Refusal::Mask(_) => 11,
+        }
+    }
+
+    // The place that goes with it: 0 where the table says so.
+    pub fn place(self) -> u64
+        ensures { result ≡ place_of self }
+    {
+        match self {
+            Refusal::TooLong => 0,
+            Refusal::Record(p) => p as u64,
+            Refusal::Header(p) => p as u64,
+            Refusal::Kind(p) => p as u64,
+            Refusal::Target(p) => p as u64,
+            Refusal::Member(p) => p as u64,
+            Refusal::ReturnReference(p) => p as u64,
+            Refusal::Order(p) => p as u64,
+            Refusal::Trailing(p) => p as u64,
+            Refusal::Areas => 0,
+            Refusal::Mask(p) => p as u64,
+        }
+    }
 }
 
 // What the header says, where the lines stand, and the handler, of a file that was found fit.
-#[derive(Clone, Copy)]
+#[derive(Clone, Copy, Debug, PartialEq, Eq)]
 pub struct Header {
     pub statements: usize,
     pub arrays: usize,
@@ -90,18 +111,12 @@ pub struct Header {
     // The place of the first FL record, and how many there are.
     pub lines_at: usize,
     pub lines: usize,
-    pub handler: Handler,
-}
-
-// How a part of a file was passed: the place after it, or why the file is refused.
-#[derive(Clone, Copy)]
-pub enum Passed {
-    To(usize),
-    Unfit(Refusal),
+    // The statement that the interrupt key calls, if there is one.
+    pub handler: Option<StmtId>,
 }
 
 // The parts of a file, in file order: the FH record, the FN records, the FL records, the FK record, which may be absent, and the FE record.
-#[derive(Clone, Copy)]
+#[derive(Clone, Copy, Debug, PartialEq, Eq)]
 pub enum Part {
     Header,
     Statements,
@@ -110,35 +125,15 @@ pub enum Part {
     End,
 }
 
-// What the reader finds of a file.
-#[derive(Clone, Copy)]
-pub enum Checked {
-    Fit(Header),
-    Unfit(Refusal),
-}
-
 // An item of a DIM: its array, and its flag, 1 with dimensions, 0 without.
-#[derive(Clone, Copy)]
+#[derive(Clone, Copy, Debug, PartialEq, Eq)]
 pub struct Item {
     pub array: usize,
     pub flag: usize,
 }
 
-// Where a call goes on after its RETURN, if anywhere.
-#[derive(Clone, Copy)]
-pub enum Continuation {
-    To(StmtId),
-    None,
-}
-
-// The statement that a line enters, if there is one.
-#[derive(Clone, Copy)]
-pub enum LineEntry {
-    At(StmtId),
-    Nothing,
-}
-
 pub mod areas;
 pub mod bytes;
 pub mod check;
+pub mod kind;
 pub mod reader;

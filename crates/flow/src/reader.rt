@@ -1,10 +1,9 @@
-// The reader: the file and how far it has read. A function that holds the struct has no loop and no branch: it takes the struct apart
-// and leaves the work to a function on the slice and the number.
+// The reader: the file and how far it has read.
 ghost use Rattle.std.specs.Prelude.{◌≡◌};
-ghost use Rattle.flow.specs.Clauses.Parts.{Judged, answer_through, place_after};
+ghost use Rattle.flow.specs.Clauses.Parts.{Due, part_answer, place_after};
 
-use crate::check::{check_after, place_after};
-use crate::{Part, Passed};
+use crate::check::check_part;
+use crate::{Part, Refusal};
 
 #[derive(Drop)]
 pub struct Reader<'a> {
@@ -12,19 +11,21 @@ pub struct Reader<'a> {
     pub at: usize,
 }
 
-// A reader of the file that has read nothing.
-pub fn new<'a>(file: &'a [u8]) -> Reader<'a>
-    ensures { (result.file ≡ file.entry) × (result.at ≡ 0) }
-{
-    Reader { file, at: 0 }
-}
+impl<'a> Reader<'a> {
+    // A reader of the file that has read nothing.
+    pub fn new(file: &'a [u8]) -> Reader<'a>
+        ensures { (result.file ≡ file.entry) × (result.at ≡ 0) }
+    {
+        Reader { file, at: 0 }
+    }
 
-// The next part, judged unless one before it was refused, and the reader moved past it. `before` is the answer for the parts before.
-pub fn next<'s, 'a>(r: &'s mut Reader<'a>, before: Passed, part: Part) -> Passed
-    requires { Judged r.old.file.now part before r.old.at }
-    ensures { (result ≡ answer_through r.old.file.now part) × (r.new.file ≡ r.old.file) × (r.new.at ≡ place_after result r.old.at) }
-{
-    let passed = check_after(r.file, before, part, r.at);
-    r.at = place_after(passed, r.at);
-    passed
+    // The next part, which begins where the reader stands. The reader moves past a part that is fit, and the place after it comes back.
+    pub fn next(&mut self, part: Part) -> Result<usize, Refusal>
+        requires { Due self.old.file.now part self.old.at }
+        ensures { (result ≡ part_answer self.old.file.now part) × (self.new.file ≡ self.old.file) × (self.new.at ≡ place_after result self.old.at) }
+    {
+        let end = check_part(self.file, part, self.at)?;
+        self.at = end;
+        Ok(end)
+    }
 }

@@ -1,7 +1,7 @@
 // Names that get in each other's way: a word a name, from the live sets of all statements and their writes; and how many names are live at once.
 #![tactic(auto)]
 
-ghost use Rattle.std.proofs.Math.Option.{none, some};
+ghost use mathlib.Core.Option.{none, some};
 ghost use Rattle.std.specs.Prelude.{◌≡◌, ℕ, ◌^◌, ◌<◌, ◌≤◌, length, get_or};
 ghost use Rattle.std.specs.Int.Count.{ones};
 ghost use Rattle.flow.specs.Format.{flow_of};
@@ -19,7 +19,7 @@ fn add_clique(rows: &mut [u64], set: u64)
 {
     let mut rest = set;
     while rest != 0 {
-        let x = u64::trailing_zeros(rest) as usize;
+        let x = rest.trailing_zeros() as usize;
         let name = 1u64 << x;
         words::union_word(rows, x, words::difference(set, name));
         rest = words::difference(rest, name);
@@ -52,12 +52,10 @@ fn add_statements(
     ensures { Noted (flow_of file.now) (Seen (flow_of file.now) n) rows.old rows.new }
 {
     let mut last: u64 = 0;
-    let mut i = 0;
-    while i < n {
+    for i in 0..n {
         let p = fields::offset(file, work, n, StmtId(i));
         last = add_new_clique(rows, last, live_in[i]);
         last = add_new_clique(rows, last, live_out[i] | records::written(file, p));
-        i += 1;
     }
 }
 
@@ -101,14 +99,9 @@ pub fn most_live(live_in: &[u64], n: usize) -> u64
     requires { n ≤ length live_in.now }
     ensures { result ≡ max_below n (λ i. ones (get_or live_in.now i 0)) }
 {
-    let mut most: u64 = 0;
-    let mut i = 0;
-    while i < n {
-        let live = u64::count_ones(live_in[i]) as u64;
-        if most < live {
-            most = live;
-        }
-        i += 1;
+    let mut most = 0;
+    for i in 0..n {
+        most = most.max(u64::from(live_in[i].count_ones()));
     }
     most
 }

@@ -4,7 +4,6 @@ use Prim.Native.Nat.{ℕ, ◌*◌, ◌≤◌, ◌<◌}
 use native.Mathlib.Omega.{arith}
 use mathlib.Core.List.{List}
 use mathlib.Core.Path.{◌≡◌, sym, subst}
-use lib.ListN.{length}
 use borrow.Author.Tests.{leb-true}
 use Rattle.flow.specs.Limits.{work_words}
 use Rattle.flow.specs.Flow.{Flow, size}
@@ -19,8 +18,7 @@ use Rattle.theory.specs.Listing.{flow_text}
 use Rattle.theory.specs.Clauses.WellFormed.{WellFormed}
 use Rattle.dataflow.specs.Promise.{Answered, judged}
 use Rattle.dataflow.proofs.Told.{masks_computed}
-use Rattle.listing.specs.Text.{served}
-use Rattle.listing.specs.Clauses.Room.{Room, word_in, mask_byte, areas_text}
+use Rattle.listing.specs.Clauses.Room.{word_in, mask_byte}
 use Rattle.listing.proofs.MaskField.{same_text}
 
 -- what was judged fit: the file, and areas of these lengths
@@ -66,19 +64,12 @@ module _ (s : List ℕ) {masks live_in live_out : List ℕ} (h : Holds (flow_of 
   mask-held : (i a : ℕ) → i < size (flow_of s) → a < (flow_of s).arrays → mask_byte masks (arrays_of s) i a ≡ mask_of (flow_of s) i a
   mask-held i a l m = subst (λ n. mask_byte masks n i a ≡ mask_of (flow_of s) i a) (arrays-is s) (h.mask i a l m)
 
-  pub room : FitFile s → statements_of s ≤ served → statements_of s * arrays_of s ≤ length masks → statements_of s ≤ length live_in → statements_of s ≤ length live_out
-      → Room s masks live_in live_out
-  room f few m i o = record {
-    fit = f;
-    few = few;
-    masks_room = m;
-    masks_below = λ i a l k.
-        subst (λ n. mask_byte masks n i a < 8) (arrays-is s)
-        (h.below i a (subst (λ n. i < n) (sym (size_is s)) l) (subst (λ n. a < n) (sym (arrays-is s)) k));
-    in_room = i;
-    out_room = o;
-  }
+  pub below-held : (i a : ℕ) → i < statements_of s → a < arrays_of s → mask_byte masks (arrays_of s) i a < 8
+  below-held i a l m =
+      subst (λ n. mask_byte masks n i a < 8) (arrays-is s)
+      (h.below i a (subst (λ n. i < n) (sym (size_is s)) l) (subst (λ n. a < n) (sym (arrays-is s)) m))
 
-  pub text-held : areas_text s masks live_in live_out ≡ flow_text (flow_of s) (mask_of (flow_of s)) (live_in_word (flow_of s)) (live_out_word (flow_of s))
+  pub text-held : flow_text (flow_of s) (mask_byte masks (arrays_of s)) (word_in live_in) (word_in live_out)
+      ≡ flow_text (flow_of s) (mask_of (flow_of s)) (live_in_word (flow_of s)) (live_out_word (flow_of s))
   text-held =
       same_text (flow_of s) mask-held h.live_in h.live_out

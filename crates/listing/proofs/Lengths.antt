@@ -89,3 +89,7 @@ module _ (f : Flow) (mask : ℕ → ℕ → ℕ) (live_in live_out : ℕ → ℕ
 pub refusal_length : (number place : ℕ) → number < 2 ^ 64 → place < 2 ^ 64 → length (line_of ((letter_r ∷ []) ∷ decimal number ∷ decimal place ∷ [])) ≤ 44
 unfolding line_of
 refusal_length number place n p = simp length-append (omega (arith, decimal-length number 19 (omega arith), decimal-length place 19 (omega arith)))
+
+-- a number of 64 bits has at most 20 digits
+pub decimal_fits : (n : ℕ) → n < 2 ^ 64 → length (decimal n) ≤ 20
+decimal_fits n h = decimal-length n 19 (omega arith)

@@ -1,4 +1,4 @@
-pub mod Appending
+pub mod Fields
 pub mod Spelled
 pub mod MaskField
 pub mod Statements

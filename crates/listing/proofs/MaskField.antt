@@ -1,9 +1,13 @@
 -- The field of masks is a dash without arrays, else one digit an array; the text depends only on the masks and words of statements and arrays that there are.
 -- By the cases of the definitions, field by field.
-use Prim.Native.Nat.{ℕ, zero, suc, ◌<◌}
+use Prim.Native.Nat.{ℕ, zero, suc, ◌+◌, ◌<◌}
 use native.Mathlib.Omega.{arith}
+use native.Mathlib.Numerals.{add-one}
 use mathlib.Core.List.{List, [], ◌∷◌, ◌++◌}
 use mathlib.Core.Path.{◌≡◌, refl, sym, ap, ap₂, ◌∙◌}
+use borrow.Author.Tests.{lt-ltb}
+use Rattle.std.proofs.lemmas.Grind.{common_steps}
+use Rattle.records.proofs.Tabulated.{length-tabulate}
 use Rattle.io.specs.Digits.{hex_digit_ascii}
 use Rattle.flow.specs.Flow.{Flow, size, statement}
 use Rattle.flow.specs.Format.{tabulate}
@@ -11,15 +15,34 @@ use Rattle.theory.specs.Lists.{concat_map, up_to}
 use Rattle.theory.specs.Listing.{dash, decimal, hexadecimal, line_of, mask_digits, first_line, statement_line, flow_text}
 use Rattle.theory.proofs.Lists.{concat_map-append}
 
-pub without-arrays : (k : ℕ) (mask : ℕ → ℕ) → k ≡ 0 → mask_digits k mask ≡ dash ∷ []
+-- one digit after the other
+
+pub no_digits : (f : ℕ → ℕ) → tabulate 0 f ≡ []
+unfolding tabulate
+no_digits f = refl
+
+pub one_digit_more : (f : ℕ → ℕ) (i : ℕ) → tabulate (i + 1) f ≡ tabulate i f ++ (f i ∷ [])
+unfolding tabulate
+one_digit_more f i = rw add-one refl
+
+pub digit : (m : ℕ) → m < 8 → hex_digit_ascii m ≡ 48 + m
+digit m h = rw (lt-ltb m 10 (omega arith)) refl
+
+pub without_arrays : (k : ℕ) (mask : ℕ → ℕ) → k ≡ 0 → mask_digits k mask ≡ dash ∷ []
 unfolding mask_digits
-without-arrays zero mask e = refl
-without-arrays (suc k) mask e = absurd (omega arith)
+without_arrays zero mask e = refl
+without_arrays (suc k) mask e = absurd (omega arith)
 
 pub with_arrays : (k : ℕ) (mask : ℕ → ℕ) → (k ≡ 0 → ⊥) → mask_digits k mask ≡ tabulate k (λ a. hex_digit_ascii (mask a))
 unfolding mask_digits
 with_arrays zero mask n = absurd (n refl)
 with_arrays (suc k) mask n = refl
+
+-- for the functions that write the digits and the field
+
+pub ruleset digit_steps = (common_steps, no_digits, one_digit_more, length-tabulate, digit)
+
+pub ruleset mask_field = (common_steps, without_arrays, with_arrays, length-tabulate)
 
 same-elements : (k : ℕ) (f g : ℕ → ℕ) → ((a : ℕ) → a < k → f a ≡ g a) → tabulate k f ≡ tabulate k g
 unfolding tabulate

@@ -20,9 +20,8 @@ use Rattle.theory.specs.Lists.{concat_map, up_to}
 use Rattle.flow.specs.Format.{letter_f}
 use Rattle.theory.specs.Listing.{decimal, hexadecimal, line_of, mask_digits, first_line, statement_line, flow_text}
 use Rattle.theory.proofs.Lists.{concat_map-append}
-use Rattle.listing.specs.Clauses.Put.{HasRoom, Appended}
+use Rattle.listing.specs.declared.lines.Areas.{Areas}
 use Rattle.listing.specs.Clauses.Room.{Small, Room, word_in, areas_text, areas_line}
-use Rattle.listing.proofs.Appending.{then}
 use Rattle.listing.proofs.MaskField.{same_masks}
 
 module _ (line : ℕ → List ℕ) where
@@ -34,58 +33,66 @@ module _ (line : ℕ → List ℕ) where
   unfolding up_to concat_map
   no_lines = refl
 
+  pub one_line_more : (i : ℕ) → concat_map line (up_to (i + 1)) ≡ concat_map line (up_to i) ++ line i
+  one_line_more i = rw add-one (one_more i)
+
   longer : (k n : ℕ) → k ≤ n → length (concat_map line (up_to k)) ≤ length (concat_map line (up_to n))
   longer k zero h = let e : k ≡ 0 = omega arith in rw e (omega arith)
   longer k (suc n) h =
       ⊎_elim
       (λ e. rw e (omega arith))
-      (λ l. rw one_more (omega (arith, longer k n (le_of_suc-le-suc l), length-append (concat_map line (up_to n)) (line n))))
+      (λ (l : suc k ≤ suc n). rw one_more (omega (arith, longer k n (le_of_suc-le-suc l), length-append (concat_map line (up_to n)) (line n))))
       (eq-or-lt_of_le h)
 
-  module _ {o o' : List ℕ} {at at' : ℕ} (i n : ℕ) (a : Appended o at (concat_map line (up_to i)) o' at') where
-    pub line-has-room : i < n → HasRoom o at (concat_map line (up_to n)) → HasRoom o' at' (line i)
-    line-has-room l h = record { fits = omega (arith, a.end, a.size, h.fits, longer (suc i) n l, ap length (one_more i), length-append (concat_map line (up_to i)) (line i)) }
+  pub next_fits : (i n : ℕ) → i < n → length (concat_map line (up_to i)) + length (line i) ≤ length (concat_map line (up_to n))
+  next_fits i n h = omega (arith, longer (suc i) n h, ap length (one_more i), length-append (concat_map line (up_to i)) (line i))
 
-    pub line_added : {o'' : List ℕ} {at'' : ℕ} → Appended o' at' (line i) o'' at'' → Appended o at (concat_map line (up_to (i + 1))) o'' at''
-    line_added {o''} {at''} b = rw (add-one, one_more i) (then a b)
+-- the row of statement i, and its line in the file
+module _ {s : List ℕ} {areas : Areas} (room : Room s areas) (i : ℕ) (l : i < statements_of s) where
+  pub line_start : 4 ≤ length (record_part s (record_place s i))
+  line_start = part_start (record-fit room.fit i l)
 
--- the row of statement i begins at r and ends before e
-module _ {s masks live_in live_out : List ℕ} (room : Room s masks live_in live_out) (i : ℕ) (l : i < statements_of s) (r e : ℕ) (begin : r ≡ i * arrays_of s)
-    (end : e ≡ r + arrays_of s) where
-  abbrev row : List ℕ
-  row = take (e - r) (drop r masks)
-
-  pub row_within : e ≤ statements_of s * arrays_of s
-  row_within = omega (arith, mul-le-mul_right (arrays_of s) l, suc-mul i (arrays_of s))
-
-  pub row-length : length row ≡ arrays_of s
-  row-length = simp (length-take, length-drop) (omega (arith, row_within, room.masks_room))
-
-  pub row_at : (a : ℕ) → a < arrays_of s → get_or row a 0 ≡ get_or masks (i * arrays_of s + a) 0
-  row_at a h = get_or-take (e - r) (drop r masks) a 0 (omega arith) ∙ get_or-drop r masks a 0 ∙ ap (λ k. get_or masks (k + a) 0) begin
-
-  pub row_small : Small row
-  row_small = record {
-    below = λ a h.
-        let m : a < arrays_of s = subst (λ k. a < k) row-length h in
-        subst (λ x. x < 8) (sym (row_at a m)) (room.masks_below i a l m);
-  }
-
-  pub line-start : 4 ≤ length (record_part s (record_place s i))
-  line-start = part_start (record-fit room.fit i l)
-
-  pub line-number : line_at (record_part s (record_place s i)) 0 ≡ (statement (flow_of s) i).line
+  line-number : line_at (record_part s (record_place s i)) 0 ≡ (statement (flow_of s) i).line
   line-number = part_line (record-fit room.fit i l) ∙ sym (says s i l).line
 
-  pub line-written : (number : ℕ) → number ≡ line_at (record_part s (record_place s i)) 0
-      → line_of (decimal i ∷ decimal number ∷ mask_digits (length row) (word_in row) ∷ hexadecimal (word_in live_in i) ∷ hexadecimal (word_in live_out i) ∷ [])
-      ≡ areas_line s masks live_in live_out i
-  unfolding statement_line
-  line-written number n =
-      ap₂ (λ x y. line_of (decimal i ∷ decimal x ∷ y ∷ hexadecimal (word_in live_in i) ∷ hexadecimal (word_in live_out i) ∷ []))
-      (n ∙ line-number)
-      (ap (λ k. mask_digits k (word_in row)) (row-length ∙ sym (arrays-is s))
-      ∙ same_masks (flow_of s).arrays (word_in row) (λ a. get_or masks (i * arrays_of s + a) 0) (λ a h. row_at a (subst (λ k. a < k) (arrays-is s) h)))
+  row-within : (i + 1) * arrays_of s ≤ length areas.masks.now
+  row-within = rw add-one (omega (arith, mul-le-mul_right (arrays_of s) l, room.masks_room))
+
+  module _ (arrays : ℕ) (e : arrays ≡ arrays_of s) where
+    abbrev row : List ℕ
+    row = take ((i + 1) * arrays - i * arrays) (drop (i * arrays) areas.masks.now)
+
+    row-length : length row ≡ arrays
+    row-length = rw (e, add-one) (simp (length-take, length-drop) (omega (arith, rw add-one at row-within, suc-mul i (arrays_of s))))
+
+    row_at : (a : ℕ) → a < arrays → get_or row a 0 ≡ get_or areas.masks.now (i * arrays_of s + a) 0
+    row_at a h =
+        get_or-take ((i + 1) * arrays - i * arrays) (drop (i * arrays) areas.masks.now) a 0 (rw add-one (omega (arith, suc-mul i arrays)))
+        ∙ get_or-drop (i * arrays) areas.masks.now a 0
+        ∙ ap (λ k. get_or areas.masks.now (i * k + a) 0) e
+
+    pub row_small : Small row
+    row_small = record {
+      below = λ a h.
+          let m : a < arrays = subst (λ k. a < k) row-length h in
+          subst (λ x. x < 8) (sym (row_at a m)) (room.masks_below i a l (subst (λ k. a < k) e m));
+    }
+
+    pub line_written : (number : ℕ) → number ≡ line_at (record_part s (record_place s i)) 0
+        → line_of
+        (decimal i
+        ∷ decimal number
+        ∷ mask_digits (length row) (word_in row)
+        ∷ hexadecimal (word_in areas.live_in.now i)
+        ∷ hexadecimal (word_in areas.live_out.now i)
+        ∷ [])
+        ≡ areas_line s areas i
+    unfolding statement_line
+    line_written number n =
+        ap₂ (λ x y. line_of (decimal i ∷ decimal x ∷ y ∷ hexadecimal (word_in areas.live_in.now i) ∷ hexadecimal (word_in areas.live_out.now i) ∷ []))
+        (n ∙ line-number)
+        (ap (λ k. mask_digits k (word_in row)) (row-length ∙ e ∙ sym (arrays-is s))
+        ∙ same_masks (flow_of s).arrays (word_in row) (λ a. get_or areas.masks.now (i * arrays_of s + a) 0) (λ a h. row_at a (subst (λ k. a < k) (arrays-is s ∙ sym e) h)))
 
 -- the text is the first line and the lines of the statements, by what the header says
 
@@ -93,10 +100,10 @@ pub names_is : (s : List ℕ) → (flow_of s).names ≡ names_of s
 unfolding flow_of
 names_is s = refl
 
-pub text-parts : (s masks live_in live_out : List ℕ) {n a m : ℕ} → n ≡ statements_of s → a ≡ arrays_of s → m ≡ names_of s
-    → areas_text s masks live_in live_out
-    ≡ line_of ((letter_f ∷ []) ∷ decimal n ∷ decimal a ∷ decimal m ∷ []) ++ concat_map (areas_line s masks live_in live_out) (up_to n)
+pub text_parts : (s : List ℕ) (areas : Areas) {n a m : ℕ} → n ≡ statements_of s → a ≡ arrays_of s → m ≡ names_of s
+    → areas_text s areas
+    ≡ line_of ((letter_f ∷ []) ∷ decimal n ∷ decimal a ∷ decimal m ∷ []) ++ concat_map (areas_line s areas) (up_to n)
 unfolding flow_text first_line
-text-parts s masks live_in live_out {n} {a} {m} p q r =
-    let parts : ℕ → ℕ → ℕ → List ℕ = λ k x y. line_of ((letter_f ∷ []) ∷ decimal k ∷ decimal x ∷ decimal y ∷ []) ++ concat_map (areas_line s masks live_in live_out) (up_to k) in
+text_parts s areas {n} {a} {m} p q r =
+    let parts : ℕ → ℕ → ℕ → List ℕ = λ k x y. line_of ((letter_f ∷ []) ∷ decimal k ∷ decimal x ∷ decimal y ∷ []) ++ concat_map (areas_line s areas) (up_to k) in
     ap (λ k. parts k (flow_of s).arrays (flow_of s).names) (size_is s ∙ sym p) ∙ ap₂ (λ x y. parts n x y) (arrays-is s ∙ sym q) (names_is s ∙ sym r)

@@ -1,3 +1,3 @@
 -- What the functions of this crate promise one another. The promise of `listing` does not cite it.
-pub mod Put
+pub mod Capacity
 pub mod Room

@@ -69,21 +69,21 @@ module _ (ws : List ℕ) (n : ℕ) {vs : List ℕ} (fits : nodes_end n 0 ≤ len
       subst (λ z. Keeps (matrix_at n) (nodes_end n 0) ws z) (sym e)
       (keeps-trans (keeps-zeroed ws (matrix_at n) (lists_at n - matrix_at n) (le_refl _) (omega (arith, row_from n n))) (keeps-zeroed rows-zeroed (queue_at n) (nodes_end n 0 - queue_at n) (omega (arith, row_from n n)) (omega arith)))
 
-  pub beginning_none : {f : Flow} {ins outs : List ℕ} → 0 < n → Sound f n ins → Beginning f n vs vs ins ins outs outs (record { head = 0; len = 0 }) n
+  pub beginning_none : {f : Flow} {ins outs : List ℕ} → 0 < n → Sound f n ins → Beginning f n ws vs ins ins outs outs (record { head = 0; len = 0 }) n
   unfolding lists.elem
   beginning_none p sound = record {
     low = le_refl n;
     noted = λ k l m. absurd (omega arith);
     free = λ k l j m. zero_has vs (row_at n j) k (row_word (row_at n j + k / 64) (omega (arith, row_from n j)) (omega (arith, row_fits n m, member-word l)));
     held = ([], waits-none p (λ d m. ap (λ z. z % 2) (queue-word (state_at n 0 d) (omega arith) (omega (arith, rows.row_fits n 0 m)))), solving-none sound);
-    kept = keeps-refl;
+    kept = cleared-kept;
     in_area = keeps-refl;
     out_area = keeps-refl;
   }
 
-pub beginning_start : {s ws₀ ws vs ins₀ ins outs₀ outs : List ℕ} {n i : ℕ} {q : Queue} → LiveStart s ws₀ ins₀ outs₀ n → Keeps (matrix_at n) (nodes_end n 0) ws₀ ws
-    → Beginning (flow_of s) n ws vs ins₀ ins outs₀ outs q i → LiveStart s vs ins outs n
-beginning_start a k b = start_keeps a (keeps-trans k b.kept) b.in_area b.out_area
+pub beginning_start : {s ws₀ ws ins₀ ins outs₀ outs : List ℕ} {n i : ℕ} {q : Queue} → LiveStart s ws₀ ins₀ outs₀ n
+    → Beginning (flow_of s) n ws₀ ws ins₀ ins outs₀ outs q i → LiveStart s ws ins outs n
+beginning_start a b = start_keeps a b.kept b.in_area b.out_area
 
 -- noting writes no word of the queue
 pub noted-waits : {f : Flow} {ws vs w : List ℕ} {n i : ℕ} {q : Queue} → Noted f ws vs n i → Waits ws n 0 q w → Waits vs n 0 q w

@@ -22,13 +22,10 @@ use Rattle.theory.proofs.Lists.{clash, or-first, or-second}
 use Rattle.statements.specs.Clauses.Layout.{matrix_at}
 use Rattle.statements.specs.Clauses.Ready.{Keeps}
 use Rattle.statements.proofs.Keeps.{keeps-refl, keeps-trans, keeps_widen, keeps-set, keeps-zeroed, ready-keeps}
-use Rattle.solve.specs.declared.Queue.{Queue}
 use Rattle.solve.specs.Clauses.Layout.{nodes_end}
-use Rattle.solve.specs.Clauses.Waiting.{Enqueued}
-use Rattle.solve.proofs.Waiting.{rest-refl}
 use Rattle.live.specs.Clauses.Predecessors.{Noted}
 use Rattle.live.specs.Clauses.Solving.{Sound, Solving}
-use Rattle.live.specs.Clauses.Sweeping.{Settled, SettledOrWaits, Swept}
+use Rattle.live.specs.Clauses.Sweeping.{Settled, Swept}
 use Rattle.live.specs.Clauses.LiveNames.{LiveStart}
 use Rattle.live.proofs.Sweeping.{solving-none, settled-sound, settled-solving}
 
@@ -51,16 +48,6 @@ settled_in {n = n} {ins = ins} t l = subst (λ z. Keeps 0 n ins z) (sym t.live_i
 
 pub settled-out : {f : Flow} {n i : ℕ} {ins ins' outs outs' : List ℕ} {r : Bool} → Settled f i ins ins' outs outs' r → i < n → Keeps 0 n outs outs'
 settled-out {n = n} {outs = outs} t l = subst (λ z. Keeps 0 n outs z) (sym t.live_out) (keeps-set outs _ _ zero-le l)
-
--- a statement that changed joins the back
-
-pub settled-waits : {f : Flow} {n i : ℕ} {ws vs ins ins' outs outs' : List ℕ} {q p : Queue} {r : Bool} → Settled f i ins ins' outs outs' r → r ≡ true → Enqueued ws vs n 0 q i p
-    → SettledOrWaits f n ws vs ins ins' outs outs' q p i
-settled-waits {r = r} t e u = record { changed = r; settled = t; waits = rw e u.waits; kept = u.kept }
-
-pub settled-still : {f : Flow} {n i : ℕ} {ws ins ins' outs outs' : List ℕ} {q : Queue} {r : Bool} → Settled f i ins ins' outs outs' r → r ≡ false
-    → SettledOrWaits f n ws ws ins ins' outs outs' q q i
-settled-still {r = r} t e = record { changed = r; settled = t; waits = rw e (λ w h. h); kept = rest-refl }
 
 -- whether words differ, one store at a time
 

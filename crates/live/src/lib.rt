@@ -28,11 +28,9 @@ fn note_predecessors(file: &[u8], work: &mut [u64], n: usize, i: StmtId)
     ensures { Noted (flow_of file.now) work.old work.new n i.0 }
 {
     let count = fields::successor_count(file, work, n, i);
-    let mut k = 0;
-    while k < count {
+    for k in 0..count {
         let j = fields::successor(file, work, n, i, k);
         words::insert(work, layout::row(n, j), i.0);
-        k += 1;
     }
 }
 
@@ -141,9 +139,7 @@ fn begin(
 {
     clear(work, n);
     let mut queue = Queue { head: 0, len: 0 };
-    let mut i = n;
-    while 0 < i {
-        i -= 1;
+    for i in (0..n).rev() {
         note_predecessors(file, work, n, StmtId(i));
         queue = settle_or_wait(file, work, live_in, live_out, n, queue, StmtId(i));
     }

@@ -22,12 +22,8 @@ fn live_after(file: &[u8], live_in: &[u64], p: usize) -> u64
 {
     let count = records::successor_count(file, p);
     let mut live: u64 = 0;
-    let mut k = 0;
-    while k < count {
-        let j = records::successor(file, p, k);
-        let at = j.0;
-        live = live | live_in[at];
-        k += 1;
+    for k in 0..count {
+        live |= live_in[records::successor(file, p, k).0];
     }
     live
 }
@@ -60,11 +56,8 @@ fn sweep(file: &[u8], work: &[u64], live_in: &mut [u64], live_out: &mut [u64], n
     ensures { Swept (flow_of file.now) n live_in.old live_in.new live_out.old live_out.new result × (result ≡ differs live_in.old live_in.new 0 n) }
 {
     let mut changed = false;
-    let mut i = n;
-    while 0 < i {
-        i -= 1;
-        let more = settle(file, work, live_in, live_out, n, StmtId(i));
-        changed = changed | more;
+    for i in (0..n).rev() {
+        changed |= settle(file, work, live_in, live_out, n, StmtId(i));
     }
     changed
 }
@@ -81,12 +74,10 @@ pub fn sweeps(
     ensures { Swept (flow_of file.now) n live_in.old live_in.new live_out.old live_out.new result }
 {
     words::zero_row(live_in, 0, n);
-    let mut left = MOST_SWEEPS;
-    while 0 < left {
+    for _ in 0..MOST_SWEEPS {
         if !sweep(file, work, live_in, live_out, n) {
             return false;
         }
-        left -= 1;
     }
     true
 }

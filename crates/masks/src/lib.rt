@@ -5,7 +5,28 @@ ghost use Rattle.std.specs.Prelude.{◌≡◌, ◌+◌, ◌*◌, ◌<◌};
 ghost use Rattle.words.specs.Clauses.Row.{bit};
 ghost use Rattle.masks.specs.Step.{step_of};
 ghost use Rattle.masks.specs.Clauses.Table.{TableOf, RowOf};
-ghost use Rattle.masks.specs.Clauses.Sets.{Holders, StepBits, Alike};
+ghost use Rattle.masks.specs.Clauses.Sets.{bit_of, Holders, StepBits, Alike};
+
+// What an array may be.
+#[derive(Clone, Copy, Debug, PartialEq, Eq)]
+pub enum State {
+    None,
+    Auto,
+    Dimmed,
+}
+
+impl State {
+    // The bit of a mask that stands for it.
+    fn bit(self) -> u8
+        ensures { result ≡ bit_of self }
+    {
+        match self {
+            State::None => 0,
+            State::Auto => 1,
+            State::Dimmed => 2,
+        }
+    }
+}
 
 // A mask is a union of states.
 pub const NONE: u8 = 1;
@@ -16,7 +37,7 @@ pub const DIMMED: u8 = 4;
 
 // What a statement or an edge does to one array. CLR and RUN stand here beside the four
 // effects of the paper, so that every change of a mask goes through `step`.
-#[derive(Clone, Copy)]
+#[derive(Clone, Copy, Debug, PartialEq, Eq)]
 pub enum Effect {
     None,
     Reference,
@@ -63,55 +84,56 @@ pub fn step(effect: Effect, mask: u8) -> u8
     entries[mask as usize]
 }
 
-// A word of ones if the mask has bit s, else 0.
-fn spread(mask: u8, s: u8) -> u64
-    requires { s < 8 }
-    ensures { Alike result (bit mask s) }
+// A word of ones if the mask has the state, else 0.
+fn spread(mask: u8, state: State) -> u64
+    ensures { Alike result (bit mask (bit_of state)) }
 {
-    if (mask >> s) % 2 == 1 { !0u64 } else { 0 }
+    if (mask >> state.bit()) % 2 == 1 {
+        u64::MAX
+    } else {
+        0
+    }
 }
 
-// 64 arrays take the effect together; their masks stand as the sets of the arrays that hold NONE, AUTO and DIMMED. Which of them then hold state s, a bit of a mask: each
+// 64 arrays take the effect together; their masks stand as the sets of the arrays that hold NONE, AUTO and DIMMED. Which of them then hold the state: each
 // looks its own mask up, which its three memberships make, one set after the other, so that it is below 8. Here the masks are `mask`, with NONE where the set has the array.
-fn holders_by_none(effect: Effect, mask: u8, s: u8, none: u64) -> u64
-    requires { (mask < 7) × (s < 3) }
-    ensures { StepBits effect (λ j. mask + bit none j) s result }
+fn holders_by_none(effect: Effect, mask: u8, state: State, none: u64) -> u64
+    requires { mask < 7 }
+    ensures { StepBits effect (λ j. mask + bit none j) (bit_of state) result }
 {
-    let with = spread(step(effect, mask + NONE), s);
-    let without = spread(step(effect, mask), s);
+    let with = spread(step(effect, mask + NONE), state);
+    let without = spread(step(effect, mask), state);
     words::choose(none, with, without)
 }
 
 // And with AUTO.
-fn holders_by_auto(effect: Effect, mask: u8, s: u8, none: u64, auto: u64) -> u64
-    requires { (mask < 5) × (s < 3) }
-    ensures { StepBits effect (λ j. mask + bit none j + 2 * bit auto j) s result }
+fn holders_by_auto(effect: Effect, mask: u8, state: State, none: u64, auto: u64) -> u64
+    requires { mask < 5 }
+    ensures { StepBits effect (λ j. mask + bit none j + 2 * bit auto j) (bit_of state) result }
 {
-    let with = holders_by_none(effect, mask + AUTO, s, none);
-    let without = holders_by_none(effect, mask, s, none);
+    let with = holders_by_none(effect, mask + AUTO, state, none);
+    let without = holders_by_none(effect, mask, state, none);
     words::choose(auto, with, without)
 }
 
 // And with DIMMED, which is the whole mask.
-fn holders_of(effect: Effect, s: u8, none: u64, auto: u64, dimmed: u64) -> u64
-    requires { s < 3 }
-    ensures { Holders effect s none auto dimmed result }
+fn holders_of(effect: Effect, state: State, none: u64, auto: u64, dimmed: u64) -> u64
+    ensures { Holders effect (bit_of state) none auto dimmed result }
 {
-    let with = holders_by_auto(effect, DIMMED, s, none, auto);
-    let without = holders_by_auto(effect, 0, s, none, auto);
+    let with = holders_by_auto(effect, DIMMED, state, none, auto);
+    let without = holders_by_auto(effect, 0, state, none, auto);
     words::choose(dimmed, with, without)
 }
 
 // The same, with the effect named in each arm: there the entries are constants, and what is left is so little that it goes into the callers.
-pub fn holders(effect: Effect, s: u8, none: u64, auto: u64, dimmed: u64) -> u64
-    requires { s < 3 }
-    ensures { Holders effect s none auto dimmed result }
+pub fn holders(effect: Effect, state: State, none: u64, auto: u64, dimmed: u64) -> u64
+    ensures { Holders effect (bit_of state) none auto dimmed result }
 {
     match effect {
-        Effect::None => holders_of(Effect::None, s, none, auto, dimmed),
-        Effect::Reference => holders_of(Effect::Reference, s, none, auto, dimmed),
-        Effect::Dim => holders_of(Effect::Dim, s, none, auto, dimmed),
-        Effect::Reset => holders_of(Effect::Reset, s, none, auto, dimmed),
-        Effect::Touched => holders_of(Effect::Touched, s, none, auto, dimmed),
+        Effect::None => holders_of(Effect::None, state, none, auto, dimmed),
+        Effect::Reference => holders_of(Effect::Reference, state, none, auto, dimmed),
+        Effect::Dim => holders_of(Effect::Dim, state, none, auto, dimmed),
+        Effect::Reset => holders_of(Effect::Reset, state, none, auto, dimmed),
+        Effect::Touched => holders_of(Effect::Touched, state, none, auto, dimmed),
     }
 }

@@ -29,16 +29,6 @@ pub record Between (s : List ℕ) (first end l p len : ℕ) : Type 0 where
   pub below : (j : ℕ) → first ≤ j → j < lo → line_number s j < l
   pub above : (j : ℕ) → lo + len ≤ j → j < end → l ≤ line_number s j
 
-pub between-all : (s : List ℕ) (l first n : ℕ) → Between s first (first + n) l (line_place s first) n
-between-all s l first n = record {
-  lo = first;
-  place = refl;
-  from = omega arith;
-  all = omega arith;
-  below = λ j k m. absurd (omega arith);
-  above = λ j m k. absurd (omega arith);
-}
-
 -- what is passed over in a step: a half, or nothing
 pub passed-most : (half : ℕ) (t : Bool) → half * cond t 1 0 ≤ half
 passed-most half true = omega arith
@@ -90,9 +80,6 @@ module _ {s : List ℕ} {first end l p len : ℕ} (fits : FitFile s) (within : e
         below = b.below;
         above = λ j k. from (omega (arith, read, ltb-false (u16_at s (p + 6 * half - 4)) l e)) j (omega arith);
       }
-
-pub rank : {s : List ℕ} {first end l p len : ℕ} → Between s first end l p len → len ≤ 0 → (k : ℕ) × (p ≡ line_place s k) × LineRank s first end l k
-rank b h = (b.lo, b.place, record { from = b.from; all = let a = b.all in omega arith; below = b.below; above = λ j k. b.above j (omega arith) })
 
 -- where the records end, if there are any
 pub lines_end : {s : List ℕ} → FitFile s → lines_place s + 6 * line_count s ≤ max (lines_place s) (length s)

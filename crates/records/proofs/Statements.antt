@@ -1,6 +1,6 @@
 -- The fields that are read by position are those of the `Flow` that the file stands for.
 -- The flow's lists are given by their elements, and the data of a kind by its number.
-use Prim.Native.Nat.{ℕ, ◌+◌, ◌<◌}
+use Prim.Native.Nat.{ℕ, ◌<◌}
 use mathlib.Core.Bool.{Bool, true, false, cond}
 use mathlib.Core.List.{List, [], ◌∷◌}
 use mathlib.Core.Option.{none}
@@ -12,21 +12,10 @@ use native.Mathlib.Omega.{arith}
 use borrow.Author.Tests.{ne_eqb, ltb-true, ltb-false}
 use Rattle.flow.specs.Flow as F
 use Rattle.flow.specs.Flow.{Statement, no_statement, size, statement, items, call_lines, continuation}
-use Rattle.flow.specs.Format.{tabulate, flow_of, statement_at, kind_of, plain_kind, by_data, statements_of, record_place, line_at, kind_at, successor_count, successor_at, reference_count, reference_at, written_at, read_at, data_place, data_count, element_place, elements_end, item_at, continuation_at, u16_at}
+use Rattle.flow.specs.Format.{tabulate, flow_of, statement_at, kind_of, statements_of, record_place, line_at, kind_at, successor_count, successor_at, reference_count, reference_at, written_at, read_at, data_place, data_count, element_place, item_at, u16_at}
 use Rattle.records.specs.Clauses.Fields.{item_count, call_line_count, call_line_at, continuation_in}
 use Rattle.records.proofs.KindNumber.{Number, number, dim, gosub, on_gosub, other}
 use Rattle.records.proofs.Tabulated.{length-tabulate, get_or-tabulate}
-
--- the kind by its number
-pub kind-is : (s : List ℕ) (p k : ℕ) → kind_at s p ≡ k
-    → kind_of s p
-    ≡ by_data k
-    (F.Kind.dim (tabulate (data_count s p) (item_at s p)))
-    (F.Kind.gosub (u16_at s (data_place s p)) (continuation_at s (data_place s p + 2)))
-    (F.Kind.on_gosub (tabulate (data_count s p) (λ j. u16_at s (element_place s p j))) (continuation_at s (elements_end s p)))
-    (plain_kind k)
-unfolding kind_of
-kind-is s p k e = rw (← e)
 
 -- a plain kind has no data
 record Plain (k : F.Kind) : Type 0 where

@@ -1,22 +1,22 @@
 // Fields of a statement's record at p, which was found fit.
 #![tactic(auto)]
 
-ghost use Rattle.std.specs.Prelude.{◌≡◌, ◌+◌, ◌≤◌, ◌<◌, length};
-ghost use Rattle.flow.specs.Format.{line_at, kind_at, successor_count, successor_at, references_place, reference_count, reference_at, names_place, written_at, read_at, data_place, item_at, record_end};
-ghost use Rattle.flow.specs.Clauses.Answers.{FitRecord};
-ghost use Rattle.records.specs.Clauses.Fields.{record_part, item_count, acts_at, call_line_count, call_line_at, continuation_in, continuation_to, bit_in, set_word};
+ghost use Rattle.std.specs.Prelude.{eqb, ◌≡◌, ◌+◌, ◌≤◌, ◌<◌, length};
+ghost use Rattle.flow.specs.Limits.{no_continuation};
+ghost use Rattle.flow.specs.Format.{continuation_from, line_at, kind_at, successor_count, successor_at, references_place, reference_count, reference_at, names_place, written_at, read_at, data_place, item_at, record_end};
+ghost use Rattle.flow.specs.Clauses.Kinds.{kind_number};
+ghost use Rattle.flow.specs.Clauses.Answers.{FitRecord, statement_in};
+ghost use Rattle.records.specs.Clauses.Fields.{record_part, item_count, acts_at, call_line_count, call_line_at, continuation_in, bit_in, set_word};
 
 use flow::bytes::{u8_at, u16_at, u64_at};
-use flow::{
-    Continuation, Item, KIND_CLR, KIND_DIM, KIND_GOSUB, KIND_ON_GOSUB, KIND_RUN, NO_CONTINUATION,
-    StmtId,
-};
+use flow::kind::Kind;
+use flow::{Item, NO_CONTINUATION, StmtId};
 
-pub fn kind(file: &[u8], p: usize) -> usize
+pub fn kind(file: &[u8], p: usize) -> Kind
     requires { FitRecord file.now p }
-    ensures { result ≡ kind_at file.now p }
+    ensures { kind_number result ≡ kind_at file.now p }
 {
-    u8_at(file, p + 4)
+    Kind::try_from(file[p + 4]).unwrap()
 }
 
 pub fn successor_count(file: &[u8], p: usize) -> usize
@@ -69,11 +69,9 @@ pub fn references_word(file: &[u8], p: usize, w: usize) -> u64
 {
     let at = references_place(file, p);
     let n = u8_at(file, at);
-    let mut word: u64 = 0;
-    let mut k = 0;
-    while k < n {
-        word = word | bit_in(w, u8_at(file, at + 1 + k));
-        k += 1;
+    let mut word = 0;
+    for k in 0..n {
+        word |= bit_in(w, u8_at(file, at + 1 + k));
     }
     word
 }
@@ -114,10 +112,9 @@ pub fn item_count(file: &[u8], p: usize) -> usize
     requires { FitRecord file.now p }
     ensures { result ≡ item_count file.now p }
 {
-    if kind(file, p) == KIND_DIM {
-        u8_at(file, data_place(file, p))
-    } else {
-        0
+    match kind(file, p) {
+        Kind::Dim => u8_at(file, data_place(file, p)),
+        _ => 0,
     }
 }
 
@@ -137,11 +134,10 @@ pub fn acts(file: &[u8], p: usize) -> bool
     requires { FitRecord file.now p }
     ensures { result ≡ acts_at file.now p }
 {
-    let kind = kind(file, p);
-    if kind == KIND_CLR || kind == KIND_RUN {
-        return true;
+    match kind(file, p) {
+        Kind::Clr | Kind::Run => true,
+        _ => 0 < item_count(file, p) || 0 < reference_count(file, p),
     }
-    0 < item_count(file, p) || 0 < reference_count(file, p)
 }
 
 // The lines of a call, of which GOSUB has one; other kinds have none.
@@ -150,8 +146,8 @@ pub fn line_count(file: &[u8], p: usize) -> usize
     ensures { result ≡ call_line_count file.now p }
 {
     match kind(file, p) {
-        KIND_GOSUB => 1,
-        KIND_ON_GOSUB => u8_at(file, data_place(file, p)),
+        Kind::Gosub => 1,
+        Kind::OnGosub => u8_at(file, data_place(file, p)),
         _ => 0,
     }
 }
@@ -161,10 +157,9 @@ pub fn call_line(file: &[u8], p: usize, k: usize) -> usize
     ensures { result ≡ call_line_at file.now p k }
 {
     let at = data_place(file, p);
-    if kind(file, p) == KIND_GOSUB {
-        u16_at(file, at + 2 * k)
-    } else {
-        u16_at(file, at + 1 + 2 * k)
+    match kind(file, p) {
+        Kind::Gosub => u16_at(file, at + 2 * k),
+        _ => u16_at(file, at + 1 + 2 * k),
     }
 }
 
@@ -175,26 +170,32 @@ pub fn record_end(file: &[u8], p: usize) -> usize
 {
     let at = data_place(file, p);
     match kind(file, p) {
-        KIND_DIM => at + 1 + 2 * u8_at(file, at),
-        KIND_GOSUB => at + 4,
-        KIND_ON_GOSUB => at + 3 + 2 * u8_at(file, at),
+        Kind::Dim => at + 1 + 2 * u8_at(file, at),
+        Kind::Gosub => at + 4,
+        Kind::OnGosub => at + 3 + 2 * u8_at(file, at),
         _ => at,
     }
 }
 
-// A call's continuation ends its record. The calls are the two kinds of the highest numbers.
-pub fn continuation(file: &[u8], p: usize) -> Continuation
-    requires { FitRecord file.now p }
-    ensures { result ≡ continuation_to (continuation_in file.now p) }
+// What the number of a continuation stands for.
+fn target(t: usize) -> Option<StmtId>
+    ensures { result ≡ statement_in (continuation_from t (eqb t no_continuation)) }
 {
-    if kind(file, p) < KIND_GOSUB {
-        return Continuation::None;
-    }
-    let t = u16_at(file, record_end(file, p) - 2);
     if t == NO_CONTINUATION {
-        Continuation::None
+        None
     } else {
-        Continuation::To(StmtId(t))
+        Some(StmtId(t))
+    }
+}
+
+// A call's continuation ends its record.
+pub fn continuation(file: &[u8], p: usize) -> Option<StmtId>
+    requires { FitRecord file.now p }
+    ensures { result ≡ statement_in (continuation_in file.now p) }
+{
+    match kind(file, p) {
+        Kind::Gosub | Kind::OnGosub => target(u16_at(file, record_end(file, p) - 2)),
+        _ => None,
     }
 }
 

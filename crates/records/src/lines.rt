@@ -4,11 +4,11 @@ ghost use Rattle.std.specs.Prelude.{◌≡◌, cond, ℕ, ◌+◌, ◌%◌, ◌�
 ghost use Rattle.flow.specs.Format.{u16_at, lines_place, line_place, line_count, flow_of};
 ghost use Rattle.flow.specs.Flow.{enters};
 ghost use Rattle.flow.specs.Limits.{max_statements};
-ghost use Rattle.flow.specs.Clauses.Answers.{FitFile};
-ghost use Rattle.records.specs.Clauses.Fields.{LineRank, PartsNoted, LineParts, line_entry_of};
+ghost use Rattle.flow.specs.Clauses.Answers.{FitFile, statement_in};
+ghost use Rattle.records.specs.Clauses.Fields.{LineRank, PartsNoted, LineParts};
 
+use flow::StmtId;
 use flow::bytes::u16_at;
-use flow::{LineEntry, StmtId};
 
 // 1 if the number at `at` is below the line, else 0: by a carry, since a branch on it would be mispredicted at every other step of the search.
 fn below(file: &[u8], at: usize, line: usize) -> usize
@@ -47,12 +47,10 @@ pub fn note_lines(file: &[u8], at: usize, lines: usize, work: &mut [u64], base: 
     requires { FitFile file.now × ((at ≡ lines_place file.now) × (lines ≡ line_count file.now)) × (0 < n) × (n ≤ max_statements) × (base + n ≤ length work.old) × ((k : ℕ) → k < n → get_or work.old (base + k) 0 ≡ 0) }
     ensures { PartsNoted file.now work.old work.new base n (line_count file.now) }
 {
-    let mut r = 0;
-    while r < lines {
+    for r in 0..lines {
         let k = base + u16_at(file, at + 6 * r + 2) * n / 65536;
         let first = first_of(work[k], r as u64);
         work[k] = first + 65536 * (r as u64 + 1);
-        r += 1;
     }
 }
 
@@ -64,22 +62,20 @@ pub fn line_entry(
     base: usize,
     n: usize,
     line: usize,
-) -> LineEntry
+) -> Option<StmtId>
     requires { FitFile file.now × (at ≡ lines_place file.now) × (0 < n) × (n ≤ max_statements) × (base + n ≤ length work.now) × LineParts file.now work.now base n (line_count file.now) }
-    ensures { result ≡ line_entry_of (enters (flow_of file.now) line) }
+    ensures { result ≡ statement_in (enters (flow_of file.now) line) }
 {
     // No file has such a line, but a caller may ask for any; the search is for numbers of 16 bits.
     if 65535 < line {
-        return LineEntry::Nothing;
+        return None;
     }
     let word = work[base + line * n / 65536];
     let first = (word % 65536) as usize;
     let end = (word / 65536) as usize;
     let p = line_place(file, at + 6 * first, end - first, line);
-    if p < at + 6 * end {
-        if u16_at(file, p + 2) == line {
-            return LineEntry::At(StmtId(u16_at(file, p + 4)));
-        }
+    if p < at + 6 * end && u16_at(file, p + 2) == line {
+        return Some(StmtId(u16_at(file, p + 4)));
     }
-    LineEntry::Nothing
+    None
 }

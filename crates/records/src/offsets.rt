@@ -25,10 +25,8 @@ pub fn note_offsets(file: &[u8], offsets: &mut [u64], base: usize, n: usize)
     ensures { offsets.new ≡ noted offsets.old base n (noted_word file.now) }
 {
     let mut p = 8;
-    let mut i = 0;
-    while i < n {
+    for i in 0..n {
         offsets[base + i] = word(file, p);
         p = record_end(file, p);
-        i += 1;
     }
 }

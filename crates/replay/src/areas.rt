@@ -1,89 +1,93 @@
 // The lent areas: filled before a call, and compared after it.
-ghost use Rattle.std.specs.Prelude.{◌≤◌, length};
 
-use crate::data::{byte, number, skip};
+use crate::case::States;
 
 // What an area holds before a call, so that a byte that must stay is seen to stay.
-const FILLED: u64 = 0xa5a5_a5a5_a5a5_a5a5;
+pub const FILLED_BYTE: u8 = 0xa5;
 
-pub fn fill_bytes(s: &mut [u8]) {
-    let mut k = 0;
-    while k < s.len() {
-        s[k] = 0xa5;
-        k += 1;
+pub const FILLED_WORD: u64 = 0xa5a5_a5a5_a5a5_a5a5;
+
+// The first n elements, or as many as there are, filled.
+pub fn filled_area<T: Copy>(room: &mut [T], n: usize, value: T) -> &mut [T] {
+    let n = n.min(room.len());
+    let area = &mut room[..n];
+    fill(area, value);
+    area
+}
+
+fn fill<T: Copy>(area: &mut [T], value: T) {
+    for x in area {
+        *x = value;
     }
 }
 
-pub fn fill_words(ws: &mut [u64]) {
-    let mut k = 0;
-    while k < ws.len() {
-        ws[k] = FILLED;
-        k += 1;
+pub fn is_all<T: Copy + PartialEq>(area: &[T], value: T) -> bool {
+    area.iter().all(|x| *x == value)
+}
+
+// What a case stores of an element.
+pub trait Stored<T>: Copy {
+    fn value(self) -> T;
+}
+
+impl Stored<u8> for u8 {
+    fn value(self) -> u8 {
+        self
     }
 }
 
-// The bytes from `from` on are as they were filled.
-pub fn bytes_kept(s: &[u8], from: usize) -> bool {
-    let mut k = from;
-    while k < s.len() {
-        if s[k] != 0xa5 {
-            return false;
-        }
-        k += 1;
+// Words are stored little-endian.
+impl Stored<u64> for [u8; 8] {
+    fn value(self) -> u64 {
+        u64::from_le_bytes(self)
     }
-    true
 }
 
-pub fn words_kept(ws: &[u64], from: usize) -> bool {
-    all_from(ws, from, FILLED)
-}
-
-pub fn words_zero(ws: &[u64]) -> bool {
-    all_from(ws, 0, 0)
-}
-
-fn all_from(ws: &[u64], from: usize, value: u64) -> bool {
-    let mut k = from;
-    while k < ws.len() {
-        if ws[k] != value {
-            return false;
-        }
-        k += 1;
+// Whether the area begins with what must be written, and is as it was filled behind it.
+pub fn holds<T: Copy + PartialEq, S: Stored<T>>(area: &[T], written: &[S], filled: T) -> bool {
+    if area.len() < written.len() {
+        return false;
     }
-    true
+    let (start, rest) = area.split_at(written.len());
+    start
+        .iter()
+        .zip(written)
+        .all(|(x, stored)| *x == stored.value())
+        && is_all(rest, filled)
 }
 
-// The first n bytes are those stored at `from`.
-pub fn same_bytes(masks: &[u8], n: usize, s: &[u8], from: usize) -> bool
-    requires { from ≤ length s.now }
-{
-    let mut at = from;
-    let mut k = 0;
-    while k < n {
-        if byte(masks, k) != byte(s, at) {
-            return false;
-        }
-        at = skip(s, at, 1);
-        k += 1;
-    }
-    true
+// What the areas of every case are taken from.
+#[derive(Drop)]
+pub struct Room<'a> {
+    pub masks: &'a mut [u8],
+    pub live_in: &'a mut [u64],
+    pub live_out: &'a mut [u64],
+    pub rows: &'a mut [u64],
+    pub work: &'a mut [u64],
 }
 
-// The first n words are those stored at `from`.
-pub fn same_words(ws: &[u64], n: usize, s: &[u8], from: usize) -> bool
-    requires { from ≤ length s.now }
-{
-    let mut at = from;
-    let mut k = 0;
-    while k < n {
-        if ws.len() <= k {
-            return false;
-        }
-        if ws[k] != number(s, at, 8) {
-            return false;
-        }
-        at = skip(s, at, 8);
-        k += 1;
+// The areas that the call for the states was lent.
+#[derive(Clone, Copy)]
+pub struct Areas<'a> {
+    pub masks: &'a [u8],
+    pub live_in: &'a [u64],
+    pub live_out: &'a [u64],
+    pub work: &'a [u64],
+}
+
+impl Areas<'_> {
+    // As it must be after a refusal.
+    pub fn is_untouched(&self) -> bool {
+        is_all(self.masks, FILLED_BYTE)
+            && is_all(self.live_in, FILLED_WORD)
+            && is_all(self.live_out, FILLED_WORD)
+            && is_all(self.work, FILLED_WORD)
     }
-    true
+
+    pub fn holds(&self, states: &States<'_>) -> bool {
+        holds(self.masks, states.masks, FILLED_BYTE)
+            && holds(self.live_in, states.live_in, FILLED_WORD)
+            && holds(self.live_out, states.live_out, FILLED_WORD)
+            && is_all(self.work, 0)
+    }
 }

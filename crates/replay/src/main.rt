@@ -6,13 +6,36 @@ ghost use Rattle.std.specs.Prelude.{◌^◌, ◌<◌};
 
 mod answers;
 mod areas;
-mod cases;
-mod conflicts;
-mod data;
-mod names;
+mod case;
+mod reader;
 
-// Reads the cases into `stored`, and replays them.
-fn replay_read(stored: &mut [u8]) -> cases::Counts {
+use areas::Room;
+use case::Case;
+use reader::Reader;
+
+fn replay(stored: &[u8], file: &mut [u8], room: &mut Room<'_>) {
+    let mut reader = Reader::new(stored);
+    let mut cases = 0u64;
+    let mut different = 0u64;
+    // A byte 1 begins a case.
+    while reader.read_u8() == 1 {
+        let case = Case::read(&mut reader, file);
+        if !case.is_answered(room) {
+            io::write_all(1, b"differs: ");
+            io::print_decimal(1, cases);
+            io::write_all(1, b"\n");
+            different += 1;
+        }
+        cases += 1;
+    }
+    io::print_decimal(1, cases);
+    io::write_all(1, b" cases, ");
+    io::print_decimal(1, different);
+    io::write_all(1, b" different\n");
+}
+
+// Reads the cases into `stored`, and replays them in room that the largest of them fits into.
+fn replay_read(stored: &mut [u8]) {
     let size = io::read_full(0, stored);
     let mut file = [0u8; 262200];
     let mut masks = [0u8; 131200];
@@ -20,29 +43,24 @@ fn replay_read(stored: &mut [u8]) -> cases::Counts {
     let mut live_out = [0u64; 2100];
     let mut rows = [0u64; 200];
     let mut work = [0u64; 131200];
-    cases::replay(
-        &stored[..size],
-        &mut file,
-        &mut masks,
-        &mut live_in,
-        &mut live_out,
-        &mut rows,
-        &mut work,
-    )
+    let mut room = Room {
+        masks: &mut masks,
+        live_in: &mut live_in,
+        live_out: &mut live_out,
+        rows: &mut rows,
+        work: &mut work,
+    };
+    replay(&stored[..size], &mut file, &mut room);
 }
 
 // The cases take at most N bytes. The number is a parameter, so that no proof counts that many bytes one by one.
-fn replay_stored<const N: usize>() -> cases::Counts
+fn replay_stored<const N: usize>()
     requires { N < 2 ^ 63 }
 {
     let mut stored = [0u8; N];
-    replay_read(&mut stored)
+    replay_read(&mut stored);
 }
 
 fn main() {
-    let counts = replay_stored::<600000>();
-    io::print_decimal(1, counts.cases);
-    io::write_all(1, b" cases, ");
-    io::print_decimal(1, counts.different);
-    io::write_all(1, b" different\n");
+    replay_stored::<600000>();
 }

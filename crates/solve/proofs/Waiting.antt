@@ -258,14 +258,6 @@ module _ {n w d : ℕ} {ws : List ℕ} {queue : Queue} (h : (l : List ℕ) × Wa
       (bare-flag d (yes refl))
       (joining 1 (h.0, bare-waits) b (omega arith) refl (omega (arith, bare-state))))
 
--- a number that waits does not join again
-pub waits-again : {n w d : ℕ} {ws : List ℕ} {queue : Queue} {l : List ℕ} → Waits ws n w queue l → d < 2 * n → waits_in ws n w d ≡ 1 → Waits ws n w queue (join l d)
-waits-again {n} {w} {d} {ws} {queue} {l} h b e = at (elem d l) refl
-  where
-    at : (c : Bool) → elem d l ≡ c → Waits ws n w queue (join l d)
-    at true p = rw p h
-    at false p = absurd (omega (arith, e, h.flag d b ∙ ap (λ c. cond c 1 0) p))
-
 -- what is stored, at places that were computed
 pub enqueued : {n w d at b j v : ℕ} {ws : List ℕ} {queue : Queue} (grew : Bool) → (l : List ℕ) × Waits ws n w queue l → d < 2 * n → nodes_end n w ≤ length ws
     → at ≡ state_at n w d → b ≡ queue_at n → j ≡ wrapped (ring_words n) (queue.head + queue.len) → v ≡ joins grew (get_or ws at 0)

@@ -25,6 +25,6 @@ pub fn grow(work: &mut [u64], n: usize, width: usize, from: usize, d: NodeId)
 {
     if words::union(work, layout::mask_row(n, width, d), from, 3 * width) {
         let at = layout::state(n, width, d.0);
-        work[at] = work[at] % 2;
+        work[at] %= 2;
     }
 }

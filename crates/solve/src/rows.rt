@@ -3,6 +3,8 @@ ghost use Rattle.std.specs.Prelude.{◌+◌, ◌*◌, ◌<◌, ◌≤◌, length
 ghost use Rattle.statements.specs.Clauses.Layout.{max_width};
 ghost use Rattle.solve.specs.Clauses.Rows.{mask_at, RowIs, Beside, Aside, WordStepped, step_where, member};
 
+use masks::{Effect, State};
+
 // Word k of the row at `to` becomes that of the row at `from`, of which the arrays in the word `chosen` take the effect.
 fn step_word(
     work: &mut [u64],
@@ -11,7 +13,7 @@ fn step_word(
     from: usize,
     k: usize,
     chosen: u64,
-    effect: masks::Effect,
+    effect: Effect,
 )
     requires { (k < width) × (to + 3 * width ≤ length work.old) × (from + 3 * width ≤ length work.old) }
     ensures { WordStepped work.old work.new width to from k chosen effect }
@@ -19,15 +21,19 @@ fn step_word(
     let none = work[from + k];
     let auto = work[from + width + k];
     let dimmed = work[from + 2 * width + k];
-    work[to + k] = words::choose(chosen, masks::holders(effect, 0, none, auto, dimmed), none);
+    work[to + k] = words::choose(
+        chosen,
+        masks::holders(effect, State::None, none, auto, dimmed),
+        none,
+    );
     work[to + width + k] = words::choose(
         chosen,
-        masks::holders(effect, 1, none, auto, dimmed),
+        masks::holders(effect, State::Auto, none, auto, dimmed),
         auto,
     );
     work[to + 2 * width + k] = words::choose(
         chosen,
-        masks::holders(effect, 2, none, auto, dimmed),
+        masks::holders(effect, State::Dimmed, none, auto, dimmed),
         dimmed,
     );
 }
@@ -39,7 +45,7 @@ pub fn step_members(
     to: usize,
     from: usize,
     set: usize,
-    effect: masks::Effect,
+    effect: Effect,
 )
     requires { (width ≤ max_width) × Aside width set to × (set + width ≤ length work.old) × (to + 3 * width ≤ length work.old) × (from + 3 * width ≤ length work.old) × Beside width to from }
     ensures { RowIs work.old work.new width to (step_where (member work.old set) effect (mask_at work.old width from)) }
@@ -50,10 +56,8 @@ pub fn step_members(
         step_word(work, 1, to, from, 0, chosen, effect);
         return;
     }
-    let mut k = 0;
-    while k < width {
+    for k in 0..width {
         let chosen = work[set + k];
         step_word(work, width, to, from, k, chosen, effect);
-        k += 1;
     }
 }

@@ -5,22 +5,22 @@ use mathlib.Core.Option.{Option, none, some}
 use mathlib.Core.Path.{◌≡◌, refl, ap}
 use native.Mathlib.Omega.{arith}
 use Rattle.flow.specs.declared.StmtId.{StmtId}
-use Rattle.flow.specs.declared.Continuation as C
-use Rattle.flow.specs.declared.LineEntry as E
-use Rattle.records.specs.Clauses.Fields.{continuation_to, line_entry_of}
+use Rattle.std.specs.Prelude.{Some, None}
+use Rattle.std.specs.Prelude.{Some, None}
+use Rattle.flow.specs.Clauses.Answers.{statement_in}
 
-pub continues-to : (o : Option ℕ) (k : StmtId) → continuation_to o ≡ C.TheVariants.To k → o ≡ some k.0
+pub continues-to : (o : Option ℕ) (k : StmtId) → statement_in o ≡ Some k → o ≡ some k.0
 continues-to none k e = let z : ◌≡◌ {A = ℕ} 0 1 = cc in absurd (omega arith)
 continues-to (some t) k e = let q : record { 0 = t } ≡ k = cc in ap (λ (x : StmtId). some x.0) q
 
-pub continues_nowhere : (o : Option ℕ) → continuation_to o ≡ C.TheVariants.None → o ≡ none
+pub continues_nowhere : (o : Option ℕ) → statement_in o ≡ None → o ≡ none
 continues_nowhere none e = refl
 continues_nowhere (some t) e = let z : ◌≡◌ {A = ℕ} 0 1 = cc in absurd (omega arith)
 
-pub enters-at : (o : Option ℕ) (k : StmtId) → line_entry_of o ≡ E.TheVariants.At k → o ≡ some k.0
+pub enters-at : (o : Option ℕ) (k : StmtId) → statement_in o ≡ Some k → o ≡ some k.0
 enters-at none k e = let z : ◌≡◌ {A = ℕ} 0 1 = cc in absurd (omega arith)
 enters-at (some t) k e = let q : record { 0 = t } ≡ k = cc in ap (λ (x : StmtId). some x.0) q
 
-pub enters-nothing : (o : Option ℕ) → line_entry_of o ≡ E.TheVariants.Nothing → o ≡ none
+pub enters-nothing : (o : Option ℕ) → statement_in o ≡ None → o ≡ none
 enters-nothing none e = refl
 enters-nothing (some t) e = let z : ◌≡◌ {A = ℕ} 0 1 = cc in absurd (omega arith)

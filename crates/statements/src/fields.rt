@@ -2,7 +2,8 @@
 ghost use Rattle.std.specs.Prelude.{◌≡◌, ◌<◌, length, get_or};
 ghost use Rattle.flow.specs.Flow.{statement, enters, items};
 ghost use Rattle.flow.specs.Format.{flow_of, record_place};
-ghost use Rattle.records.specs.Clauses.Fields.{record_part, continuation_to, line_entry_of};
+ghost use Rattle.flow.specs.Clauses.Answers.{statement_in};
+ghost use Rattle.records.specs.Clauses.Fields.{record_part};
 ghost use Rattle.theory.specs.Body as body;
 ghost use Rattle.theory.specs.Body.{kind, successors, references, call_lines, continuation_of, is_return};
 ghost use Rattle.theory.specs.Doubled as doubled;
@@ -11,7 +12,8 @@ ghost use Rattle.theory.specs.Sure.{is_gosub};
 ghost use Rattle.statements.specs.Clauses.Ready.{Ready, Indexed, RecordOf, MembersWord, acts_in, no_item};
 
 use crate::layout;
-use flow::{KIND_CLR, KIND_GOSUB, KIND_RETURN, KIND_RUN, StmtId};
+use flow::StmtId;
+use flow::kind::Kind;
 
 // The place of statement i's record.
 pub fn offset(file: &[u8], work: &[u64], n: usize, i: StmtId) -> usize
@@ -35,7 +37,7 @@ pub fn is_return(file: &[u8], work: &[u64], n: usize, i: StmtId) -> bool
     requires { Ready file.now work.now n × (i.0 < n) }
     ensures { result ≡ is_return (kind (flow_of file.now) i.0) }
 {
-    records::kind(file, offset(file, work, n, i)) == KIND_RETURN
+    records::kind(file, offset(file, work, n, i)) == Kind::Return
 }
 
 // CLR and RUN: every array becomes NONE. The record of statement i is at p.
@@ -43,8 +45,7 @@ pub fn resets(file: &[u8], i: StmtId, p: usize) -> bool
     requires { RecordOf file.now i.0 p }
     ensures { result ≡ doubled.resets (kind (flow_of file.now) i.0) }
 {
-    let kind = records::kind(file, p);
-    kind == KIND_CLR || kind == KIND_RUN
+    matches!(records::kind(file, p), Kind::Clr | Kind::Run)
 }
 
 // A plain GOSUB. The record of statement i is at p.
@@ -52,7 +53,7 @@ pub fn is_gosub(file: &[u8], i: StmtId, p: usize) -> bool
     requires { RecordOf file.now i.0 p }
     ensures { result ≡ is_gosub (kind (flow_of file.now) i.0) }
 {
-    records::kind(file, p) == KIND_GOSUB
+    records::kind(file, p) == Kind::Gosub
 }
 
 // CLR, RUN and a DIM that counts.
@@ -67,9 +68,9 @@ pub fn wipes(file: &[u8], work: &[u64], n: usize, i: StmtId) -> bool
     0 < records::item_count(file, p)
 }
 
-pub fn continuation(file: &[u8], work: &[u64], n: usize, i: StmtId) -> flow::Continuation
+pub fn continuation(file: &[u8], work: &[u64], n: usize, i: StmtId) -> Option<StmtId>
     requires { Ready file.now work.now n × (i.0 < n) }
-    ensures { result ≡ continuation_to (continuation_of (kind (flow_of file.now) i.0)) }
+    ensures { result ≡ statement_in (continuation_of (kind (flow_of file.now) i.0)) }
 {
     records::continuation(file, offset(file, work, n, i))
 }
@@ -155,9 +156,9 @@ pub fn line_count(file: &[u8], work: &[u64], n: usize, i: StmtId) -> usize
 }
 
 // The statement that the k-th of them enters, if any.
-pub fn entered(file: &[u8], h: flow::Header, work: &[u64], i: StmtId, k: usize) -> flow::LineEntry
+pub fn entered(file: &[u8], h: flow::Header, work: &[u64], i: StmtId, k: usize) -> Option<StmtId>
     requires { Indexed file.now h work.now × (i.0 < h.statements) × (k < length (call_lines (kind (flow_of file.now) i.0))) }
-    ensures { result ≡ line_entry_of (enters (flow_of file.now) (get_or (call_lines (kind (flow_of file.now) i.0)) k 0)) }
+    ensures { result ≡ statement_in (enters (flow_of file.now) (get_or (call_lines (kind (flow_of file.now) i.0)) k 0)) }
 {
     let n = h.statements;
     let lines_at = h.lines_at;

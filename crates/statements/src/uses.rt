@@ -17,14 +17,12 @@ pub fn gather_uses(file: &[u8], work: &[u64], n: usize) -> Uses
     requires { Ready file.now work.now n }
     ensures { Gathered (flow_of file.now) n result.written result.read }
 {
-    let mut written: u64 = 0;
-    let mut read: u64 = 0;
-    let mut i = 0;
-    while i < n {
+    let mut written = 0;
+    let mut read = 0;
+    for i in 0..n {
         let p = fields::offset(file, work, n, StmtId(i));
-        written = written | records::written(file, p);
-        read = read | records::read(file, p);
-        i += 1;
+        written |= records::written(file, p);
+        read |= records::read(file, p);
     }
     Uses { written, read }
 }

@@ -6,12 +6,9 @@ use mathlib.Core.Bool.{Bool, true, false, cond, true≢false}
 use mathlib.Core.List.Memᴰ
 use mathlib.Core.List.{List, [], ◌∷◌, ◌++◌}
 use mathlib.Core.Option.{Option, none, some}
-use mathlib.Core.Path.{◌≡◌, refl, sym, ◌∙◌, ap, subst}
-use native.Mathlib.Decide.{ℕ_discrete}
+use mathlib.Core.Path.{◌≡◌, refl, sym, ap}
 use native.Mathlib.Omega.{arith}
-use lib.ListN.{length, get_or, set}
-use lib.Seq.{get_or-set_same, get_or-set_other}
-use Rattle.flow.specs.declared.Header.{Header}
+use lib.ListN.{length, get_or}
 use Rattle.flow.specs.Flow.{Flow, Kind, enters}
 use Rattle.flow.specs.Format.{flow_of}
 use Rattle.theory.specs.Lists.{In, concat_map, option_list}
@@ -20,9 +17,9 @@ use Rattle.theory.specs.Sure.{is_gosub, gosub_body}
 use Rattle.theory.proofs.Body.{callees-below}
 use Rattle.theory.proofs.Sure.{gosub_callee}
 use Rattle.statements.specs.Clauses.Layout.{sure_at}
-use Rattle.statements.specs.Clauses.Ready.{Ready, Indexed, Keeps}
-use Rattle.statements.proofs.Keeps.{keeps-refl, keeps-trans, keeps-set, indexed-keeps, ready_formed, ready-below}
-use Rattle.sure.specs.Clauses.Noting.{body_of, body_word, BodiesNoted}
+use Rattle.statements.specs.Clauses.Ready.{Ready, Keeps}
+use Rattle.statements.proofs.Keeps.{ready_formed, ready-below}
+use Rattle.sure.specs.Clauses.Noting.{body_of, body_word}
 
 -- The body, by the kind and the continuation
 
@@ -86,51 +83,7 @@ module _ {s ws : List ℕ} {n : ℕ} (r : Ready s ws n) (c : ℕ) where
 
 -- The words of the first c statements are noted, the others are 0; found says whether one of the first has a body
 pub record BodiesUpTo (f : Flow) (ws vs : List ℕ) (n c : ℕ) (found : Bool) : Type 0 where
-  pub high : c ≤ n
   pub asks : (k : ℕ) → k < c → get_or vs (sure_at n + k) 0 ≡ body_word (gosub_body f k)
   pub rest : (k : ℕ) → c ≤ k → k < n → get_or vs (sure_at n + k) 0 ≡ 0
   pub empty : found ≡ false → (k : ℕ) → k < c → body_word (gosub_body f k) ≡ 0
   pub kept : Keeps (sure_at n) (sure_at n + n) ws vs
-
-pub bodies-none : {f : Flow} {ws : List ℕ} {n : ℕ} {found : Bool} → ((k : ℕ) → k < n → get_or ws (sure_at n + k) 0 ≡ 0) → BodiesUpTo f ws ws n 0 found
-bodies-none zero = record { high = omega arith; asks = λ k l. absurd (omega arith); rest = λ k h l. zero k l; empty = λ e k l. absurd (omega arith); kept = keeps-refl }
-
-module _ {f : Flow} {ws vs : List ℕ} {n c : ℕ} {found : Bool} (p : BodiesUpTo f ws vs n c found) (l : c < n) where
-  -- one more, of which only the word may change
-  bodies-more : {us : List ℕ} {also : Bool} → Keeps (sure_at n) (sure_at n + n) vs us → get_or us (sure_at n + c) 0 ≡ body_word (gosub_body f c)
-      → ((k : ℕ) → (k ≡ c → ⊥) → get_or us (sure_at n + k) 0 ≡ get_or vs (sure_at n + k) 0) → (also ≡ false → (found ≡ false) × (body_word (gosub_body f c) ≡ 0)) → BodiesUpTo f ws us n (c + 1) also
-  bodies-more {us} {also} kept here other says = record {
-    high = omega arith;
-    asks = λ k m. asked k m (ℕ_discrete k c);
-    rest = λ k h m. other k (λ e. omega arith) ∙ p.rest k (omega arith) m;
-    empty = λ e k m. nothing e k m (ℕ_discrete k c);
-    kept = keeps-trans p.kept kept;
-  }
-    where
-      asked : (k : ℕ) → k < c + 1 → Dec (k ≡ c) → get_or us (sure_at n + k) 0 ≡ body_word (gosub_body f k)
-      asked k m (yes e) = subst (λ z. get_or us (sure_at n + z) 0 ≡ body_word (gosub_body f z)) (sym e) here
-      asked k m (no d) = other k d ∙ p.asks k (omega (arith, d))
-
-      nothing : also ≡ false → (k : ℕ) → k < c + 1 → Dec (k ≡ c) → body_word (gosub_body f k) ≡ 0
-      nothing q k m (yes e) = subst (λ z. body_word (gosub_body f z) ≡ 0) (sym e) (says q).1
-      nothing q k m (no d) = p.empty (says q).0 k (omega (arith, d))
-
-  pub body-noted : {b : ℕ} → sure_at n + n ≤ length vs → body_of (gosub_body f c) ≡ some b → BodiesUpTo f ws (set vs (sure_at n + c) (b + 1)) n (c + 1) true
-  body-noted {b} room e =
-      bodies-more (keeps-set vs (sure_at n + c) (b + 1) (omega arith) (omega arith))
-      (get_or-set_same vs (sure_at n + c) (b + 1) 0 (omega arith) ∙ sym (word_some (gosub_body f c) e))
-      (λ k d. get_or-set_other vs (sure_at n + c) (sure_at n + k) (b + 1) 0 (λ q. d (omega arith)))
-      (λ q. absurd (true≢false q))
-
-  pub body-missing : body_of (gosub_body f c) ≡ none → BodiesUpTo f ws vs n (c + 1) found
-  body-missing e =
-      let none : body_word (gosub_body f c) ≡ 0 = word_none (gosub_body f c) e in
-      bodies-more keeps-refl (p.rest c (omega arith) l ∙ sym none) (λ k d. refl) (λ q. (q, none))
-
-pub bodies-all : {f : Flow} {ws vs : List ℕ} {n c : ℕ} {found : Bool} → BodiesUpTo f ws vs n c found → n ≤ c
-    → BodiesNoted f ws vs n × (found ≡ false → (k : ℕ) → k < n → body_word (gosub_body f k) ≡ 0)
-bodies-all p h = (record { asks = λ k l. p.asks k (omega arith); kept = p.kept }, λ e k l. p.empty e k (omega arith))
-
--- what is noted of the file stands below these words
-pub bodies-indexed : {s ws vs : List ℕ} {h : Header} {c : ℕ} {found : Bool} → Indexed s h ws → BodiesUpTo (flow_of s) ws vs h.statements c found → Indexed s h vs
-bodies-indexed x p = indexed-keeps x p.kept (omega arith)

@@ -9,7 +9,7 @@ use mathlib.Core.Path.{◌≡◌, refl, sym, ◌∙◌, ap, subst}
 use native.Mathlib.Decide.{ℕ_discrete, dec_lt}
 use native.Mathlib.Numerals.{add-one}
 use native.Mathlib.Omega.{arith}
-use borrow.Author.Tests.{eq-eqb, ne_eqb}
+use borrow.Author.Tests.{ne_eqb}
 use lib.ListN.{length, get_or, set, take, drop, length-set, take-append-drop}
 use lib.Seq.{get_or-set_same, get_or-set_other, take-suc, take_all}
 use Rattle.words.specs.Clauses.Row.{has}
@@ -177,14 +177,8 @@ notes_all l k {ws} {vs} {n} {i} h p = subst (λ z. NotesFollower ws vs n i z) (t
 
 -- A call: its continuation, and the body of the word w if that names one
 
-asked-none : (w : ℕ) → w ≡ 0 → asked w ≡ []
-asked-none w e = ap (λ b. cond b [] ((w - 1) ∷ [])) (eq-eqb w 0 e)
-
 pub asked-some : (w : ℕ) → w ≢ 0 → asked w ≡ (w - 1) ∷ []
 asked-some w d = ap (λ b. cond b [] ((w - 1) ∷ [])) (ne_eqb w 0 d)
-
-pub call-asks-none : {ws vs : List ℕ} {n i k w : ℕ} → w ≡ 0 → NotesFollower ws vs n i (k ∷ []) → NotesFollower ws vs n i (k ∷ asked w)
-call-asks-none {ws} {vs} {n} {i} {k} {w} e p = subst (λ z. NotesFollower ws vs n i (k ∷ z)) (sym (asked-none w e)) p
 
 pub call_asks : {ws vs us : List ℕ} {n i k w : ℕ} → i < n → k < n → w ≢ 0 → NotesFollower ws vs n i (k ∷ []) → NotesFollower vs us n i ((w - 1) ∷ []) → NotesFollower ws us n i (k ∷ asked w)
 call_asks {ws} {us = us} {n = n} {i} {k} {w} li lk d p q =

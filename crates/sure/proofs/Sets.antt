@@ -13,7 +13,7 @@ use native.Mathlib.Numerals.{add-one}
 use native.Mathlib.Omega.{arith}
 use lib.Bits.{bit_and, bit_or}
 use lib.ListN.{length, get_or, take}
-use lib.Seq.{take-suc, take_all}
+use lib.Seq.{take-suc}
 use Rattle.words.specs.Clauses.Row.{bit, has}
 use Rattle.words.proofs.Bit.{bit-lt, bit-and, bit_not}
 use Rattle.words.proofs.Row.{has-lt}
@@ -66,9 +66,6 @@ pub gathered-more : {ws : List ℕ} {n : ℕ} (l : List ℕ) (k : ℕ) {a b at :
 gathered-more {ws} {n} l k {a} {b} {at} g short e =
     let list : take (k + 1) l ≡ take k l ++ (get_or l k 0 ∷ []) = ap (λ z. take z l) (add-one k) ∙ take-suc l k 0 short in
     subst (λ z. Gathered ws n z (bit_or a (get_or ws at 0) ∷ bit_or b (get_or ws (at + 1) 0) ∷ [])) (sym list) (gathered_both g (gathered-one e))
-
-pub gathered-all : {ws : List ℕ} {n : ℕ} (l : List ℕ) (k : ℕ) {row : List ℕ} → Gathered ws n (take k l) row → length l ≤ k → Gathered ws n l row
-gathered-all {ws} {n} l k {row} g h = subst (λ z. Gathered ws n z row) (take_all k l h) g
 
 -- Where a body walk goes on
 

@@ -107,7 +107,6 @@ statement-noted {n = n} e all p = record {
 
 -- All statements, one after another: the first i are noted
 pub record NotedUpTo (f : Flow) (ws vs : List ℕ) (n i : ℕ) : Type 0 where
-  pub high : i ≤ n
   pub words : Firsts vs n
   pub noted : (j k : ℕ) → j < n → k < i → FollowsFrom f (gosub_body f) j k → Noted vs n j k
   pub returns : (k : ℕ) → k < i → is_return (kind f k) ≡ true → Waits vs n k
@@ -122,7 +121,6 @@ module _ (ws : List ℕ) {vs : List ℕ} (n : ℕ) {at : ℕ} (place : at ≡ li
 
   pub none-noted : {f : Flow} → words_end n ≤ length ws → NotedUpTo f vs vs n 0
   none-noted room = record {
-    high = omega arith;
     words = λ j l. inl (word (first_at n j) (omega arith) (omega arith));
     noted = λ j k lj lk. absurd (omega arith);
     returns = λ k l. absurd (omega arith);
@@ -137,7 +135,6 @@ module _ (ws : List ℕ) {vs : List ℕ} (n : ℕ) {at : ℕ} (place : at ≡ li
 
 pub noted_more : {f : Flow} {ws vs us : List ℕ} {n i : ℕ} → NotedUpTo f ws vs n i → i < n → StatementNoted f vs us n i → NotedUpTo f ws us n (i + 1)
 noted_more {f} {us = us} {n = n} {i} p l q = record {
-  high = omega arith;
   words = q.words;
   noted = λ j k lj lk m. noted j k lj lk m (ℕ_discrete k i);
   returns = λ k lk e. returns k lk e (ℕ_discrete k i);

@@ -38,8 +38,7 @@ fn open_bodies(work: &mut [u64], n: usize)
     requires { (n ≤ max_statements) × (at.words_end n ≤ length work.old) × Bodies work.old n }
     ensures { Opened work.old work.new n }
 {
-    let mut c = 0;
-    while c < n {
+    for c in 0..n {
         let place = statements::layout::sure(n) + c;
         let body = work[place];
         let still = still_asked(work, n, body);
@@ -47,7 +46,6 @@ fn open_bodies(work: &mut [u64], n: usize)
             work[place] = still;
             words::insert(work, waiting(n), mirrored(n, StmtId(c)));
         }
-        c += 1;
     }
 }
 
@@ -66,12 +64,10 @@ fn note_unmissed(work: &mut [u64], n: usize)
     requires { (n ≤ max_statements) × (at.words_end n ≤ length work.old) × Bodies work.old n }
     ensures { WordsBecome (sure.unmissed work.old n) work.old work.new n }
 {
-    let mut c = 0;
-    while c < n {
+    for c in 0..n {
         let place = statements::layout::sure(n) + c;
         let body = work[place];
         work[place] = unmissed(work, n, body);
-        c += 1;
     }
 }
 

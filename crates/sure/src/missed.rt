@@ -11,11 +11,8 @@ ghost use Rattle.sure.specs.Clauses.Missing.{Bodies, Gathered, NextSet, LetThrou
 
 use crate::layout::{first, mirrored, set, waiting};
 use crate::noting::MORE;
-use flow::{Continuation, StmtId};
+use flow::StmtId;
 use statements::{fields, layout};
-
-// Every array.
-const ALL: u64 = 0xffff_ffff_ffff_ffff;
 
 // The two words of a statement.
 #[derive(Clone, Copy)]
@@ -31,14 +28,12 @@ fn listed_set(file: &[u8], work: &[u64], n: usize, i: StmtId) -> Set
 {
     let p = fields::offset(file, work, n, i);
     let count = records::successor_count(file, p);
-    let mut missed: u64 = 0;
-    let mut returns: u64 = 0;
-    let mut k = 0;
-    while k < count {
+    let mut missed = 0;
+    let mut returns = 0;
+    for k in 0..count {
         let at = set(n, fields::successor_at(file, i, p, k));
-        missed = missed | work[at];
-        returns = returns | work[at + 1];
-        k += 1;
+        missed |= work[at];
+        returns |= work[at + 1];
     }
     Set { missed, returns }
 }
@@ -50,19 +45,19 @@ fn next_set(file: &[u8], work: &[u64], n: usize, i: StmtId) -> Set
 {
     if fields::is_return(file, work, n, i) {
         return Set {
-            missed: ALL,
-            returns: ALL,
+            missed: u64::MAX,
+            returns: u64::MAX,
         };
     }
     match fields::continuation(file, work, n, i) {
-        Continuation::To(k) => {
+        Some(k) => {
             let at = set(n, k);
             Set {
                 missed: work[at],
                 returns: work[at + 1],
             }
         }
-        Continuation::None => listed_set(file, work, n, i),
+        None => listed_set(file, work, n, i),
     }
 }
 

@@ -2,7 +2,7 @@
 ghost use Rattle.std.specs.Prelude.{false, [], ◌∷◌, ◌≡◌, ℕ, ◌+◌, ◌<◌, ◌≤◌, length, get_or};
 ghost use Rattle.flow.specs.Limits.{max_statements};
 ghost use Rattle.flow.specs.Format.{flow_of};
-ghost use Rattle.records.specs.Clauses.Fields.{line_entry_of};
+ghost use Rattle.flow.specs.Clauses.Answers.{statement_in};
 ghost use Rattle.theory.specs.Body.{successors};
 ghost use Rattle.theory.specs.Sure.{gosub_body};
 ghost use Rattle.statements.specs.Clauses.Layout.{sure_at};
@@ -11,25 +11,23 @@ ghost use Rattle.sure.specs.Clauses.Layout as at;
 ghost use Rattle.sure.specs.Clauses.Noting.{body_of, body_word, asked, Asks, BodiesNoted, Firsts, NotesFollower, StatementNoted, StatementsNoted};
 
 use crate::layout::{first, mirrored, waiting};
-use flow::{Continuation, LineEntry, StmtId};
+use flow::StmtId;
 use statements::{fields, layout};
 
 // What the word of a first follower has besides where there are more of them.
 pub const MORE: u64 = 65536;
 
 // The body that statement c enters, if it is a plain GOSUB with a continuation.
-fn gosub_body(file: &[u8], h: flow::Header, work: &[u64], c: StmtId) -> LineEntry
+fn gosub_body(file: &[u8], h: flow::Header, work: &[u64], c: StmtId) -> Option<StmtId>
     requires { Indexed file.now h work.now × (c.0 < h.statements) }
-    ensures { result ≡ line_entry_of (body_of (gosub_body (flow_of file.now) c.0)) }
+    ensures { result ≡ statement_in (body_of (gosub_body (flow_of file.now) c.0)) }
 {
     let p = fields::offset(file, work, h.statements, c);
     if !fields::is_gosub(file, c, p) {
-        return LineEntry::Nothing;
+        return None;
     }
-    match records::continuation(file, p) {
-        Continuation::To(_) => fields::entered(file, h, work, c, 0),
-        Continuation::None => LineEntry::Nothing,
-    }
+    records::continuation(file, p)?;
+    fields::entered(file, h, work, c, 0)
 }
 
 // One more than the body of each such GOSUB, in the word of its sure arrays. Says whether there is one.
@@ -39,13 +37,11 @@ pub fn note_bodies(file: &[u8], h: flow::Header, work: &mut [u64]) -> bool
 {
     let n = h.statements;
     let mut found = false;
-    let mut c = 0;
-    while c < n {
-        if let LineEntry::At(b) = gosub_body(file, h, work, StmtId(c)) {
+    for c in 0..n {
+        if let Some(b) = gosub_body(file, h, work, StmtId(c)) {
             work[layout::sure(n) + c] = b.0 as u64 + 1;
             found = true;
         }
-        c += 1;
     }
     found
 }
@@ -75,11 +71,9 @@ fn note_successors(file: &[u8], work: &mut [u64], n: usize, i: StmtId)
 {
     let p = fields::offset(file, work, n, i);
     let count = records::successor_count(file, p);
-    let mut k = 0;
-    while k < count {
+    for k in 0..count {
         let j = fields::successor_at(file, i, p, k);
         note_follower(work, n, j, i);
-        k += 1;
     }
 }
 
@@ -105,8 +99,8 @@ fn note_statement(file: &[u8], work: &mut [u64], n: usize, i: StmtId)
         return;
     }
     match fields::continuation(file, work, n, i) {
-        Continuation::To(k) => note_call(work, n, i, k),
-        Continuation::None => note_successors(file, work, n, i),
+        Some(k) => note_call(work, n, i, k),
+        None => note_successors(file, work, n, i),
     }
 }
 
@@ -116,9 +110,7 @@ pub fn note_statements(file: &[u8], work: &mut [u64], n: usize)
     ensures { StatementsNoted (flow_of file.now) work.old work.new n }
 {
     words::zero_row(work, layout::lists(n), 4 * n);
-    let mut i = 0;
-    while i < n {
+    for i in 0..n {
         note_statement(file, work, n, StmtId(i));
-        i += 1;
     }
 }

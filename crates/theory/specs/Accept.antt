@@ -1,7 +1,7 @@
 -- Request E6, "Masks worked out on the office machine": a proposed table has a mask byte for each doubled number and array. It is accepted exactly when the entry's masks hold NONE (after the handler's touched step, if
 -- there is a handler) and, for each edge leaving a row that is not all zero (DIM, CLR and RUN act on its zero bytes too), the target holds the edge's mask; with an opaque handler, exactly when all bytes are 7; with n 0, always.
 use Rattle.std.specs.Prelude.{ℕ, ◌+◌, ◌*◌, ◌<◌, Bool, true, cond, not, ◌&&◌, ◌||◌, List, [], ◌∷◌, ◌≡◌, eqb, ltb, length, get_or}
-use Rattle.std.proofs.Math.Option.{some}
+use mathlib.Core.Option.{some}
 use Rattle.masks.specs.State.{State, none, auto, dimmed, holds}
 use Rattle.flow.specs.declared.Base.TheVariants.{Zero, N}
 use Rattle.flow.specs.declared.Refusal.TheVariants.{Mask}

@@ -1,7 +1,7 @@
 -- Document 01, "Subroutines and the doubled graph", first paragraph: lines that enter, body walk, touched arrays, opaque bodies and calls.
 -- Each term is an inductive type with one constructor a rule; beside it stands the function that decides it.
 use Rattle.std.specs.Prelude.{ℕ, Bool, true, false, cond, ◌||◌, List, [], ◌∷◌, ◌≡◌}
-use Rattle.std.proofs.Math.Option.{Option, none, some}
+use mathlib.Core.Option.{Option, none, some}
 use Rattle.flow.specs.Flow.{Flow, Kind, Item, size, statement, enters}
 pub use Rattle.flow.specs.Flow.{call_lines, continuation as continuation_of}
 use Rattle.theory.specs.Lists.{In, any, elem, concat_map, option_list}

@@ -1,7 +1,7 @@
 -- Request E1, "Names certainly written": a name is certain when some statement writes it and every statement that reads it is reached and has a write of it
 -- earlier on each walk from the entry, over the listed graph. With a handler (request E3) no name is.
 use Rattle.std.specs.Prelude.{ℕ, ◌<◌, Bool, true, false, not, ◌&&◌, ◌||◌, ◌≡◌}
-use Rattle.std.proofs.Math.Option.{none}
+use mathlib.Core.Option.{none}
 use Rattle.flow.specs.Flow.{Flow, size}
 use Rattle.theory.specs.Lists.{In, any, elem, up_to, all_below}
 use Rattle.theory.specs.Reach.{Reach, reached}

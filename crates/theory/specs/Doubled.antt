@@ -1,7 +1,7 @@
 -- Document 01, the doubled graph: statements exist twice, as doubled numbers i and n + i; each doubled number's edges, in the paper's order, with the
 -- effect of each edge on each array. Order and repeats count for the visits and the bound.
 use Rattle.std.specs.Prelude.{ℕ, ◌+◌, ◌-◌, Bool, true, false, cond, not, ◌&&◌, ◌||◌, List, [], ◌∷◌, ◌++◌, map, eqb, ltb}
-use Rattle.std.proofs.Math.Option.{Option, none, some}
+use mathlib.Core.Option.{Option, none, some}
 use Rattle.masks.specs.declared.Effect.{Effect}
 use Rattle.masks.specs.declared.Effect.TheVariants.{Reference, Dim, Reset, Touched}
 use Rattle.flow.specs.declared.Base.{Base}

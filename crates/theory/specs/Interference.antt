@@ -1,7 +1,7 @@
 -- Request E5, "Names that get in each other's way": two different names interfere exactly when both are live at the start of some statement, or both are in its live-out together with its
 -- writes. With a handler, all names read or written anywhere interfere. How many names are live at once is the size of the largest live-in set, 0 for n 0.
 use Rattle.std.specs.Prelude.{ℕ, ◌<◌, Bool, true, not, ◌&&◌, ◌||◌, ◌≡◌, eqb}
-use Rattle.std.proofs.Math.Option.{some}
+use mathlib.Core.Option.{some}
 use Rattle.flow.specs.Flow.{Flow, size}
 use Rattle.theory.specs.Lists.{any, up_to, sum_below, max_below}
 use Rattle.theory.specs.Key.{on_handler}

@@ -1,6 +1,6 @@
 -- Request E3, "The interrupt key": a key may call the handler before any statement. Its body is what a call of that statement would enter: the same walk, the same touched arrays, opaque by the same rules.
 use Rattle.std.specs.Prelude.{ℕ, Bool, false, ◌≡◌}
-use Rattle.std.proofs.Math.Option.{Option, none, some}
+use mathlib.Core.Option.{Option, none, some}
 use Rattle.flow.specs.Flow.{Flow}
 use Rattle.theory.specs.Body.{Touches, Opaque, touches, opaque}
 

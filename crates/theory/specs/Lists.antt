@@ -2,7 +2,7 @@
 -- `List.Memᴰ`, here called `In`; `elem` is its test.
 use Rattle.std.specs.Prelude.{ℕ, zero, suc, ◌+◌, max, Bool, true, false, cond, not, ◌&&◌, ◌||◌, eqb}
 use mathlib.Core.List.{List, [], ◌∷◌, ◌++◌, Memᴰ}
-use Rattle.std.proofs.Math.Option.{Option, none, some}
+use mathlib.Core.Option.{Option, none, some}
 
 abbrev pub In : {A : Type 0} → A → List A → Type 0
 In x l = Memᴰ x l

@@ -1,7 +1,7 @@
 -- Document 01, "Runs": a configuration, one move, a list of moves, and what a run finds at a statement. A statement acts on the arrays, then moves. Request E3: before any statement a key may call the handler.
 -- The premise of term 3: the statements that a call can enter, and the one after an ON GOSUB, are among its listed successors.
 use Rattle.std.specs.Prelude.{ℕ, ◌<◌, Bool, true, false, List, [], ◌∷◌, ◌≡◌}
-use Rattle.std.proofs.Math.Option.{Option, none, some}
+use mathlib.Core.Option.{Option, none, some}
 use Rattle.masks.specs.declared.Effect.{Effect}
 use Rattle.masks.specs.declared.Effect.TheVariants.{None, Reference, Dim, Reset, Touched}
 use Rattle.masks.specs.State.{State, referenced}

@@ -73,12 +73,9 @@ pub fn union(ws: &mut [u64], to: usize, from: usize, width: usize) -> bool
         return union_three(ws, to, from);
     }
     let mut grew = false;
-    let mut k = 0;
-    while k < width {
+    for k in 0..width {
         let bits = ws[from + k];
-        let more = union_word(ws, to + k, bits);
-        grew = grew | more;
-        k += 1;
+        grew |= union_word(ws, to + k, bits);
     }
     grew
 }
@@ -101,11 +98,7 @@ pub fn zero_row(ws: &mut [u64], base: usize, width: usize)
     requires { base + width ≤ length ws.old }
     ensures { ws.new ≡ zeroed ws.old base width }
 {
-    let mut k = 0;
-    while k < width {
-        ws[base + k] = 0;
-        k += 1;
-    }
+    ws[base..base + width].fill(0);
 }
 
 // The second bound says that every number of the row is a usize, and so is their count.
@@ -113,11 +106,9 @@ pub fn count(ws: &[u64], base: usize, width: usize) -> usize
     requires { (base + width ≤ length ws.now) × (64 * width < 2 ^ 64) }
     ensures { result ≡ members ws.now base width }
 {
-    let mut n: usize = 0;
-    let mut k = 0;
-    while k < width {
-        n += u64::count_ones(ws[base + k]) as usize;
-        k += 1;
+    let mut n = 0;
+    for k in 0..width {
+        n += ws[base + k].count_ones() as usize;
     }
     n
 }
@@ -136,13 +127,11 @@ fn next_by_word(ws: &[u64], base: usize, first: usize, bound: usize) -> usize
     ensures { result ≡ next_member ws.now base (min (64 * first) bound) bound }
 {
     let last = (bound - 1) / 64;
-    let mut k = first;
-    while k <= last {
+    for k in first..last + 1 {
         let word = ws[base + k];
         if word != 0 {
-            return forward(64 * k, u64::trailing_zeros(word) as usize, bound);
+            return forward(64 * k, word.trailing_zeros() as usize, bound);
         }
-        k += 1;
     }
     bound
 }
@@ -161,7 +150,7 @@ pub fn next(ws: &[u64], base: usize, from: usize, bound: usize) -> usize
         return from;
     }
     if rest != 0 {
-        return forward(from, u64::trailing_zeros(rest) as usize, bound);
+        return forward(from, rest.trailing_zeros() as usize, bound);
     }
     next_by_word(ws, base, from / 64 + 1, bound)
 }

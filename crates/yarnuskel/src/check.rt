@@ -9,13 +9,13 @@ pub extern "C" fn yarnuskel_check(file: &[u8], place: &mut u64) -> u64
     ensures place_after { place.new ≡ verdict_place (verdict (file_checks file.now)) }
 {
     match flow::check::check_file(file) {
-        flow::Checked::Fit(_) => {
+        Ok(_) => {
             *place = 0;
             0
         }
-        flow::Checked::Unfit(refusal) => {
-            *place = flow::check::place(refusal);
-            flow::check::number(refusal)
+        Err(refusal) => {
+            *place = refusal.place();
+            refusal.number()
         }
     }
 }

@@ -1,6 +1,8 @@
 // The door of the call that finds the names that get in each other's way.
 ghost use Rattle.yarnuskel.specs.Door.{InterferenceDoor};
 
+use crate::tell::tell;
+
 // 0, place 0 and how many names are live at once where the flow is accepted; else the refusal's number, its place and 0.
 #[unsafe(no_mangle)]
 pub extern "C" fn yarnuskel_interference(
@@ -12,16 +14,6 @@ pub extern "C" fn yarnuskel_interference(
 ) -> u64
     ensures { InterferenceDoor file.now rows.old rows.new work.old work.new place.new most.new result }
 {
-    match dataflow::conflicts::interference(file, rows, work) {
-        dataflow::Answer::Accepted(count) => {
-            *place = 0;
-            *most = count;
-            0
-        }
-        dataflow::Answer::Refused(r) => {
-            *place = flow::check::place(r);
-            *most = 0;
-            flow::check::number(r)
-        }
-    }
+    let answer = dataflow::conflicts::interference(file, rows, work);
+    tell(answer, place, most)
 }

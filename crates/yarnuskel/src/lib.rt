@@ -6,3 +6,4 @@ pub mod conflicts;
 pub mod names;
 pub mod proposals;
 pub mod states;
+mod tell;

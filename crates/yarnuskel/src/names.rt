@@ -1,6 +1,8 @@
 // The door of the call that finds the names certainly written.
 ghost use Rattle.yarnuskel.specs.Door.{CertainDoor};
 
+use crate::tell::tell;
+
 // 0, place 0 and the word of certain names where the flow is accepted; else the refusal's number, its place and 0.
 #[unsafe(no_mangle)]
 pub extern "C" fn yarnuskel_certain(
@@ -11,16 +13,6 @@ pub extern "C" fn yarnuskel_certain(
 ) -> u64
     ensures { CertainDoor file.now work.old work.new place.new certain.new result }
 {
-    match dataflow::names::certain(file, work) {
-        dataflow::Answer::Accepted(word) => {
-            *place = 0;
-            *certain = word;
-            0
-        }
-        dataflow::Answer::Refused(r) => {
-            *place = flow::check::place(r);
-            *certain = 0;
-            flow::check::number(r)
-        }
-    }
+    let answer = dataflow::names::certain(file, work);
+    tell(answer, place, certain)
 }

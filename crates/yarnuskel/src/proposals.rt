@@ -1,6 +1,8 @@
 // The door of the call that accepts a proposed table or not.
 ghost use Rattle.yarnuskel.specs.Door.{AcceptDoor};
 
+use crate::tell::tell;
+
 // 0, place 0 and 1 for yes or 0 for no; else the refusal's number, its place and 0.
 #[unsafe(no_mangle)]
 pub extern "C" fn yarnuskel_accept(
@@ -12,21 +14,6 @@ pub extern "C" fn yarnuskel_accept(
 ) -> u64
     ensures { AcceptDoor file.now proposal.now work.old work.new place.new accepted.new result }
 {
-    match accept::door::accept(file, proposal, work) {
-        accept::Answer::Yes => {
-            *place = 0;
-            *accepted = 1;
-            0
-        }
-        accept::Answer::No => {
-            *place = 0;
-            *accepted = 0;
-            0
-        }
-        accept::Answer::Refused(r) => {
-            *place = flow::check::place(r);
-            *accepted = 0;
-            flow::check::number(r)
-        }
-    }
+    let answer = accept::door::accept(file, proposal, work);
+    tell(answer.map(u64::from), place, accepted)
 }

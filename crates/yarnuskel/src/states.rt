@@ -1,6 +1,8 @@
 // The door of the call that answers a flow file.
 ghost use Rattle.yarnuskel.specs.Door.{Door};
 
+use crate::tell::tell;
+
 // 0, place 0 and the count of visits where the flow is accepted; else the refusal's number, its place and 0.
 #[unsafe(no_mangle)]
 pub extern "C" fn yarnuskel_states(
@@ -14,16 +16,6 @@ pub extern "C" fn yarnuskel_states(
 ) -> u64
     ensures { Door file.now masks.old masks.new live_in.old live_in.new live_out.old live_out.new work.old work.new place.new visits.new result }
 {
-    match dataflow::door::states(file, masks, live_in, live_out, work) {
-        dataflow::Answer::Accepted(count) => {
-            *place = 0;
-            *visits = count;
-            0
-        }
-        dataflow::Answer::Refused(r) => {
-            *place = flow::check::place(r);
-            *visits = 0;
-            flow::check::number(r)
-        }
-    }
+    let answer = dataflow::door::states(file, masks, live_in, live_out, work);
+    tell(answer, place, visits)
 }

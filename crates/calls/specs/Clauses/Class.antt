@@ -1,6 +1,6 @@
 -- A call that is not opaque, and what its edges are made from, read once: where it goes on, its counts, and the place of its row.
 use Rattle.std.specs.Prelude.{ℕ, ◌+◌, ◌/◌, ◌≤◌, ◌<◌, Bool, true, false, cond, List, ◌≡◌, length}
-use Rattle.std.proofs.Math.Option.{some}
+use mathlib.Core.Option.{some}
 use Rattle.words.specs.Clauses.Row.{has}
 use Rattle.flow.specs.Flow.{Flow, size}
 use Rattle.theory.specs.Lists.{elem}

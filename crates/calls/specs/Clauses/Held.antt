@@ -1,7 +1,7 @@
 -- What the phases leave in the work area of a flow of n statements: the walk of a body in its row, the summary of each call, then the
 -- continuations that each RETURN goes to in its row, and the statements that each transparent call enters in its own.
 use Rattle.std.specs.Prelude.{ℕ, ◌+◌, ◌<◌, ◌≤◌, true, false, cond, List, ◌≡◌, length, get_or}
-use Rattle.std.proofs.Math.Option.{none, some}
+use mathlib.Core.Option.{none, some}
 use Rattle.words.specs.Clauses.Row.{has}
 use Rattle.flow.specs.Flow.{Flow, size}
 use Rattle.flow.specs.Limits.{max_statements, work_words}

@@ -3,7 +3,7 @@
 -- Which statements a call enters, or the bodies that it enters walk: a row gains them, and every other word stays.
 -- And rows that become another set: that of each transparent call the statements that it enters, and first that of each RETURN none.
 use Rattle.std.specs.Prelude.{ℕ, ◌+◌, ◌/◌, ◌%◌, ◌≤◌, ◌<◌, max, Bool, true, false, cond, ◌&&◌, List, [], ◌∷◌, ◌⊎◌, ◌≡◌, eqb, length, get_or}
-use Rattle.std.proofs.Math.Option.{some}
+use mathlib.Core.Option.{some}
 use Rattle.words.specs.Clauses.Row.{bit, has}
 use Rattle.flow.specs.Flow.{Flow}
 use Rattle.theory.specs.Lists as lists

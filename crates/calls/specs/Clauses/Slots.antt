@@ -1,7 +1,7 @@
 -- The edges of a doubled number as slots, one for each that is gone through: an edge, or nothing where a line enters no statement or a successor is left out.
 -- Up to repeats, the present slots are the edges of the doubled graph, but for the key's.
 use Rattle.std.specs.Prelude.{ℕ, cond, not, ◌||◌, List, [], ◌∷◌, ◌++◌, map, eqb}
-use Rattle.std.proofs.Math.Option.{Option, none, some}
+use mathlib.Core.Option.{Option, none, some}
 use Rattle.flow.specs.declared.Base.{Base}
 use Rattle.flow.specs.declared.Base.TheVariants.{Zero, N}
 use Rattle.flow.specs.Flow.{Flow, size, enters}

@@ -1,7 +1,7 @@
 -- Summaries while they are made: what the state of each body and of each call says, and that from one moment to a later one summaries are only added.
 -- An open body is on the way: calls lead from it to the body at hand. What is noted as touched is touched; where a summary is transparent, it is all that is touched.
 use Rattle.std.specs.Prelude.{ℕ, ◌+◌, ◌<◌, Bool, true, false, cond, not, ◌||◌, List, ◌≢◌, ◌≡◌, eqb, get_or}
-use Rattle.std.proofs.Math.Option.{some}
+use mathlib.Core.Option.{some}
 use Rattle.std.specs.Int.Bits.{bit_or}
 use Rattle.words.specs.Clauses.Row.{bit}
 use Rattle.words.specs.Clauses.Change.{joined}

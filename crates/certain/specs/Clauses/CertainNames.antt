@@ -1,6 +1,6 @@
 -- What the certain names are found from: the names that are read too early.
 use Rattle.std.specs.Prelude.{ℕ, ◌<◌, true, List, ◌≡◌}
-use Rattle.std.proofs.Math.Option.{none}
+use mathlib.Core.Option.{none}
 use Rattle.words.specs.Clauses.Row.{bit}
 use Rattle.flow.specs.Flow.{Flow}
 use Rattle.flow.specs.Format.{flow_of}

@@ -26,6 +26,12 @@ unfoldable pub cleared : List ℕ → ℕ → ℕ → List ℕ
 cleared ws n w = zeroed (zeroed ws (lines_at n) (matrix_at n - lines_at n)) (edges_end n) (area_end n w - edges_end n)
 
 -- a fit file, its header, and a work area with room
+pub record FitRoom (s : List ℕ) (h : Header) (work : List ℕ) : Type 0 where
+  pub fit : FitFile s
+  pub header : h ≡ header_of s
+  pub work_room : work_words h.statements ≤ length work
+
+-- and statements
 pub record FitFlow (s : List ℕ) (h : Header) (work : List ℕ) : Type 0 where
   pub fit : FitFile s
   pub header : h ≡ header_of s

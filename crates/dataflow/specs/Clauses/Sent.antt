@@ -1,7 +1,7 @@
 -- The masks of a number go on along its edges: each edge's row is joined to the masks of its target, which waits afterwards.
 -- In the order of the edges; every other word is as it was.
 use Rattle.std.specs.Prelude.{ℕ, ◌+◌, ◌*◌, ◌<◌, ◌≤◌, Bool, true, cond, List, [], ◌∷◌, map, ◌⊎◌, ◌≡◌, eqb, ltb, get_or}
-use Rattle.std.proofs.Math.Option.{none, some}
+use mathlib.Core.Option.{none, some}
 use Rattle.std.specs.Int.Bits.{bit_or}
 use Rattle.words.specs.Clauses.Row.{has}
 use Rattle.masks.specs.declared.Effect.{Effect}

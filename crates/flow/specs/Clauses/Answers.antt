@@ -1,19 +1,16 @@
 -- What the reader answers: the header of a file that was found fit, or its refusal; of a part of a file, the place after it.
 -- Each is given by the verdict on the checks of Format.
-use Rattle.std.specs.Prelude.{ℕ, ◌+◌, ◌≤◌, Bool, true, false, ◌≡◌, List, length}
-use Rattle.std.proofs.Math.Option.{Option, none, some}
-use Rattle.flow.specs.declared.Handler.{Handler}
-use Rattle.flow.specs.declared.Handler as H
+use Rattle.std.specs.Prelude.{ℕ, ◌+◌, ◌≤◌, Bool, true, false, ◌≡◌, List, length, Option, Some, None, Result, Ok, Err}
+use mathlib.Core.Option as maybe
+use Rattle.flow.specs.declared.StmtId.{StmtId}
 use Rattle.flow.specs.declared.Header.{Header}
-use Rattle.flow.specs.declared.Checked.{Checked}
-use Rattle.flow.specs.declared.Checked as C
-use Rattle.flow.specs.declared.Passed.{Passed}
-use Rattle.flow.specs.declared.Passed as P
+use Rattle.flow.specs.declared.Refusal.{Refusal}
 use Rattle.flow.specs.Format.{Verdict, fit, unfit, verdict, file_checks, record_checks, statements_of, arrays_of, names_of, entry_of, lines_place, line_count, handler_of}
 
-abbrev pub handler_from : Option ℕ → Handler
-handler_from none = H.TheVariants.None
-handler_from (some i) = H.TheVariants.At (record { 0 = i })
+-- a statement's number, or none, as the code has it
+abbrev pub statement_in : maybe.Option ℕ → Option StmtId
+statement_in maybe.none = None
+statement_in (maybe.some i) = Some (record { 0 = i })
 
 abbrev pub header_of : List ℕ → Header
 header_of s = record {
@@ -23,16 +20,13 @@ header_of s = record {
   entry = record { 0 = entry_of s };
   lines_at = lines_place s;
   lines = line_count s;
-  handler = handler_from (handler_of s);
+  handler = statement_in (handler_of s);
 }
 
-abbrev pub passed_of : Verdict → ℕ → Passed
-passed_of fit e = P.TheVariants.To e
-passed_of (unfit r) e = P.TheVariants.Unfit r
-
-abbrev pub checked_of : Verdict → Header → Checked
-checked_of fit h = C.TheVariants.Fit h
-checked_of (unfit r) h = C.TheVariants.Unfit r
+-- a value where the checks are passed, or the refusal
+abbrev pub answer_of : {T : Type 0} → Verdict → T → Result T Refusal
+answer_of fit x = Ok x
+answer_of (unfit r) x = Err r
 
 -- the reader has come to a place of the record at p: the header, the record's start and all before the place lie within the file
 pub record Reached (s : List ℕ) (p at place : ℕ) : Type 0 where

@@ -1,12 +1,11 @@
 -- "One reader, the file and how far it has read": it reads a part of the file at a time, in file order.
 -- Of each part, where it begins and ends, its checks, and what a reader that has come to it answers and where it stands then.
-use Rattle.std.specs.Prelude.{ℕ, ◌+◌, ◌≤◌, ◌≡◌, List, [], ◌++◌, length}
+use Rattle.std.specs.Prelude.{ℕ, ◌+◌, ◌≤◌, ◌≡◌, List, [], ◌++◌, length, Result, Ok, Err}
 use Rattle.flow.specs.declared.Part.{Part}
 use Rattle.flow.specs.declared.Part.TheVariants.{Header, Statements, Lines, Key, End}
-use Rattle.flow.specs.declared.Passed.{Passed}
-use Rattle.flow.specs.declared.Passed.TheVariants.{To, Unfit}
+use Rattle.flow.specs.declared.Refusal.{Refusal}
 use Rattle.flow.specs.Format.{Check, fit, verdict, each, header_checks, statement_checks, line_count, line_record_checks, key_checks, end_checks, file_checks, lines_place, key_place, end_place}
-use Rattle.flow.specs.Clauses.Answers.{passed_of}
+use Rattle.flow.specs.Clauses.Answers.{answer_of}
 
 -- the length of the header
 abbrev pub header_end : ℕ
@@ -55,26 +54,17 @@ pub record Due (s : List ℕ) (part : Part) (at : ℕ) : Type 0 where
   pub within : at ≤ length s
   pub header : header_read part ≤ length s
 
-abbrev pub part_answer : List ℕ → Part → Passed
-part_answer s part = passed_of (verdict (part_checks s part)) (part_end s part)
-
--- the answer for a part and all before it
-abbrev pub answer_through : List ℕ → Part → Passed
-answer_through s part = passed_of (verdict (checks_before s part ++ part_checks s part)) (part_end s part)
+abbrev pub part_answer : List ℕ → Part → Result ℕ Refusal
+part_answer s part = answer_of (verdict (part_checks s part)) (part_end s part)
 
 -- a reader moves past a part that is fit, and stays where it is at one that is not
-abbrev pub place_after : Passed → ℕ → ℕ
-place_after (To q) at = q
-place_after (Unfit r) at = at
+abbrev pub place_after : Result ℕ Refusal → ℕ → ℕ
+place_after (Ok q) at = q
+place_after (Err r) at = at
 
--- the parts before a part were judged with the answer `before`, and the reader stands where that led it
-pub record Judged (s : List ℕ) (part : Part) (before : Passed) (at : ℕ) : Type 0 where
-  pub told : before ≡ passed_of (verdict (checks_before s part)) (part_start s part)
-  pub stands : at ≡ place_after before at
-
--- all parts were judged with the answer `last`; in a file that is fit, the reader stood at `lines_at` before the lines, at `key_at` before the key and at `end_at` before the end
-pub record Ended (s : List ℕ) (lines_at key_at end_at : ℕ) (last : Passed) : Type 0 where
-  pub told : last ≡ passed_of (verdict (file_checks s)) (part_end s End)
-  pub lines : verdict (file_checks s) ≡ fit → lines_at ≡ lines_place s
-  pub key : verdict (file_checks s) ≡ fit → key_at ≡ key_place s
-  pub ends : verdict (file_checks s) ≡ fit → end_at ≡ end_place s
+-- a file that is fit was read: the lines stand at `lines_at`, the key at `key_at` and the end at `end_at`
+pub record Read (s : List ℕ) (lines_at key_at end_at : ℕ) : Type 0 where
+  pub checked : verdict (file_checks s) ≡ fit
+  pub lines : lines_at ≡ lines_place s
+  pub key : key_at ≡ key_place s
+  pub ends : end_at ≡ end_place s

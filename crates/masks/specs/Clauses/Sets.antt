@@ -3,7 +3,15 @@
 use Rattle.std.specs.Prelude.{ℕ, ◌+◌, ◌*◌, ◌<◌, ◌≡◌}
 use Rattle.words.specs.Clauses.Row.{bit}
 use Rattle.masks.specs.declared.Effect.{Effect}
+use Rattle.masks.specs.declared.State.{State}
+use Rattle.masks.specs.declared.State.TheVariants.{None, Auto, Dimmed}
 use Rattle.masks.specs.Step.{step_of}
+
+-- the bit of a mask that stands for a state
+abbrev pub bit_of : State → ℕ
+bit_of None = 0
+bit_of Auto = 1
+bit_of Dimmed = 2
 
 -- the mask of an array, from whether it is in the sets of NONE, AUTO and DIMMED: 1 or 0 each
 abbrev pub mask_of : ℕ → ℕ → ℕ → ℕ

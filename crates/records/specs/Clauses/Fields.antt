@@ -1,12 +1,8 @@
 -- The fields of a statement's record that was found fit, where Format does not give them by one position: the data of its kind, its references as
 -- a set, the part of the file that the record is, and what the second pass notes of the records.
 use Rattle.std.specs.Prelude.{ℕ, zero, suc, ◌+◌, ◌-◌, ◌*◌, ◌/◌, ◌%◌, ◌^◌, ◌≤◌, ◌<◌, Bool, cond, ◌||◌, List, ◌≡◌, length, get_or, take, drop, eqb, ltb}
-use Rattle.std.proofs.Math.Option.{Option, none, some}
+use mathlib.Core.Option.{Option, none}
 use Rattle.std.specs.Int.Bits.{bit_or}
-use Rattle.flow.specs.declared.Continuation.{Continuation}
-use Rattle.flow.specs.declared.Continuation as C
-use Rattle.flow.specs.declared.LineEntry.{LineEntry}
-use Rattle.flow.specs.declared.LineEntry as E
 use Rattle.flow.specs.Format.{kind_at, kind_clr, kind_run, kind_dim, kind_gosub, kind_on_gosub, reference_count, data_place, data_count, elements_end, continuation_at, record_end, record_place, line_number, u16_at}
 
 -- the record at p, as that part of the file
@@ -41,14 +37,6 @@ unfoldable pub continuation_in : List ℕ → ℕ → Option ℕ
 continuation_in s p =
     cond (eqb (kind_at s p) kind_gosub) (continuation_at s (data_place s p + 2))
     (cond (eqb (kind_at s p) kind_on_gosub) (continuation_at s (elements_end s p)) none)
-
-abbrev pub continuation_to : Option ℕ → Continuation
-continuation_to none = C.TheVariants.None
-continuation_to (some t) = C.TheVariants.To (record { 0 = t })
-
-abbrev pub line_entry_of : Option ℕ → LineEntry
-line_entry_of none = E.TheVariants.Nothing
-line_entry_of (some t) = E.TheVariants.At (record { 0 = t })
 
 -- of the file's FL records from `first` to below `end`, those below r have lines below l, and the others have not
 pub record LineRank (s : List ℕ) (first end l r : ℕ) : Type 0 where

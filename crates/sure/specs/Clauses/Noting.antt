@@ -1,6 +1,6 @@
 -- What is noted of the statements: the body that a plain GOSUB asks, and the statements whose sets follow from that of another.
 use Rattle.std.specs.Prelude.{ℕ, ◌+◌, ◌-◌, ◌%◌, ◌<◌, ◌≤◌, true, cond, List, [], ◌∷◌, ◌⊎◌, ◌≡◌, eqb, get_or}
-use Rattle.std.proofs.Math.Option.{Option, none, some}
+use mathlib.Core.Option.{Option, none, some}
 use Rattle.words.specs.Clauses.Row.{has}
 use Rattle.flow.specs.Flow.{Flow}
 use Rattle.theory.specs.Lists.{In}

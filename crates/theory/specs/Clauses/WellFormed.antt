@@ -1,7 +1,7 @@
 -- What every flow that an accepted file stands for has: its numbers are within their ranges (refusals 3, 5 and 6 of document 01).
 -- The theorems on deciders, the queue rule and runs ask this of a flow and nothing else.
 use Rattle.std.specs.Prelude.{ℕ, ◌<◌, List, ◌≡◌}
-use Rattle.std.proofs.Math.Option.{some}
+use mathlib.Core.Option.{some}
 use Rattle.flow.specs.Flow.{Flow, Kind, Item, size, enters}
 use Rattle.theory.specs.Lists.{In}
 use Rattle.theory.specs.Body.{kind, successors, references, continuation_of}

@@ -8,13 +8,14 @@ use Rattle.theory.specs.Body.{kind, call_lines, callees}
 use Rattle.statements.specs.Clauses.Layout.{matrix_at, calls_at, bodies_at}
 use Rattle.statements.proofs.Keeps.{ready-keeps, ready-size, ready_formed}
 use Rattle.calls.specs.Clauses.Summing.{OnwardBut, Awaits, Opened, Entered, BodySummed, CallSummed}
-use Rattle.calls.proofs.Checked.{enters-at, enters-nothing, located_keeps}
+use Rattle.statements.proofs.Told.{enters-at, enters-nothing}
+use Rattle.calls.proofs.Checked.{located_keeps}
 use Rattle.calls.proofs.Summing.{onward-trans, onward_but, callee_low}
 use Rattle.calls.proofs.BodySummary.{PassedBelow, body-next, passed_none, body_turn, body_done, body_leads, next_low}
 use Rattle.calls.proofs.CallSummary.{CallLoop, call-first, call-nothing, call_line, call-done, leads_onward, line_callee}
 use Rattle.calls.proofs.Summaries.{unentered_count, unentered-le, unentered-falls}
 use Rattle.calls.proofs.summary.+call_summary_sub_effect.Goals as goal
-use Rattle.calls.proofs.summary.+call_summary_sub_effect.Goals.{call_summary-in-At, call_summary-in_default}
+use Rattle.calls.proofs.summary.+call_summary_sub_effect.Goals.{call_summary-in-Some, call_summary-in_default}
 
 -- call_summary
 
@@ -26,12 +27,12 @@ call_summary-sub_effect-requires t c =
     let f = flow_of c.args.file.now in
     let n : ℕ = statements_of c.args.file.now in
     let i : ℕ = c.args.c.0 in
-    let b : ℕ = c.in-At.b.0 in
+    let b : ℕ = c.in-Some.b.0 in
     let r = c.requires.0.ready in
     let inv = c.loop-k.invariant in
     let continued = subst (Awaits f c.args.work.now n i) c.if-not-awaits.false c.awaits.ensures in
     let inside : c.loop-k.k < length (call_lines (kind f i)) = omega (arith, c.loop-k-test.true, c.line_count-count.ensures) in
-    let callee : lists.In b (callees f i) = line_callee f i continued.1 inside (enters-at _ _ (sym c.entered.ensures ∙ c.in-At.is)) in
+    let callee : lists.In b (callees f i) = line_callee f i continued.1 inside (enters-at _ _ (sym c.entered.ensures ∙ c.in-Some.is)) in
     let less : 2 * unentered_count c.loop-k.work n < t = omega (arith, c.decreases, unentered-le inv.onward) in (
       less,
       (
@@ -47,12 +48,12 @@ call_summary-join_body-opaque_body-requires t c =
     let f = flow_of c.args.file.now in
     let n : ℕ = statements_of c.args.file.now in
     let i : ℕ = c.args.c.0 in
-    let b : ℕ = c.in-At.b.0 in
+    let b : ℕ = c.in-Some.b.0 in
     let r = c.requires.0.ready in
     let inv = c.loop-k.invariant in
     let continued = subst (Awaits f c.args.work.now n i) c.if-not-awaits.false c.awaits.ensures in
     let inside : c.loop-k.k < length (call_lines (kind f i)) = omega (arith, c.loop-k-test.true, c.line_count-count.ensures) in
-    let callee : lists.In b (callees f i) = line_callee f i continued.1 inside (enters-at _ _ (sym c.entered.ensures ∙ c.in-At.is)) in
+    let callee : lists.In b (callees f i) = line_callee f i continued.1 inside (enters-at _ _ (sym c.entered.ensures ∙ c.in-Some.is)) in
     let located = located_keeps c.requires.0 inv.onward.keeps (omega arith) in
     (ready-keeps located.ready c.sub_effect.ensures.onward.keeps (omega arith), c.requires.1, callee_low (ready_formed r) (ready-size r) i b callee)
 
@@ -68,12 +69,12 @@ call_summary-loop-k-preserved t c =
     let located = located_keeps c.requires.0 inv.onward.keeps (omega arith) in
     let After : List ℕ → Bool → Type 0 = λ ws opaque. CallLoop f c.args.work.now ws n i opaque (c.loop-k.k + 1) in
     elim c.match-entered.branch [
-      | call_summary-in-At w ↦
-          let entered = enters-at _ _ (sym c.entered.ensures ∙ w.in-At.is) in
-          let callee : lists.In w.in-At.b.0 (callees f i) = line_callee f i continued.1 inside entered in
+      | call_summary-in-Some w ↦
+          let entered = enters-at _ _ (sym c.entered.ensures ∙ w.in-Some.is) in
+          let callee : lists.In w.in-Some.b.0 (callees f i) = line_callee f i continued.1 inside entered in
           subst₂ After (sym w.work-is) (sym w.opaque-is)
           (call_line f i continued.1 (ready_formed r) (ready-size r) c.requires.1 (omega (arith, located.ready.room)) inv inside entered
-          (leads_onward inv.onward (c.requires.3 w.in-At.b.0 callee)) w.sub_effect.ensures w.join_body-opaque_body.ensures)
+          (leads_onward inv.onward (c.requires.3 w.in-Some.b.0 callee)) w.sub_effect.ensures w.join_body-opaque_body.ensures)
       | call_summary-in_default w ↦
           subst₂ After (sym w.work-is) (sym w.opaque-is) (call-nothing inv inside (enters-nothing _ (sym c.entered.ensures ∙ w.in_default.is)))
     ]

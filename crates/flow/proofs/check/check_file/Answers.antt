@@ -1,63 +1,192 @@
--- `check_file` meets its contract: the parts are judged one after the other, each where the reader stands, and the last answer with those places is what `checked` asks.
+-- The parts are judged one after the other, each where the reader stands: the first refusal is the file's, and where there is none the file is fit.
 -- Assumes nothing.
-use Rattle.std.proofs.Common.{◌≡◌, refl, ap, ◌∙◌, List, ℕ, Bor}
+use Prim.Native.Nat.{ℕ}
+use mathlib.Core.List.{List, ◌++◌}
+use mathlib.Core.Path.{◌≡◌, refl, sym, ap, ◌∙◌}
+use Rattle.std.proofs.Common.{Bor}
+use Rattle.std.specs.Prelude.{Result, Ok, Err}
+use Rattle.std.proofs.lemmas.Result.{err_from_is_err_and}
 use Rattle.flow.specs.declared.Part.{Part}
 use Rattle.flow.specs.declared.Part.TheVariants.{Header, Statements, Lines, Key, End}
-use Rattle.flow.specs.declared.Passed.{Passed}
-use Rattle.flow.specs.declared.Passed.TheVariants.{To}
+use Rattle.flow.specs.declared.Refusal.{Refusal}
 use Rattle.flow.specs.declared.reader.Reader.{Reader}
-use Rattle.flow.specs.Format.{verdict}
-use Rattle.flow.specs.Clauses.Answers.{passed_of}
-use Rattle.flow.specs.Clauses.Parts.{Judged, Ended, part_start, part_end, checks_before, answer_through, place_after}
-use Rattle.flow.proofs.FileVerdict.{all-parts, before-end, key_too, lines_too, stands-there, stays}
+use Rattle.flow.specs.Format.{verdict, fit, file_checks}
+use Rattle.flow.specs.Clauses.Answers.{answer_of, header_of}
+use Rattle.flow.specs.Clauses.Parts.{Due, part_start, part_end, part_checks, checks_before, part_answer, place_after}
+use Rattle.flow.proofs.Answers.{refused_by, passed_by}
+use Rattle.flow.proofs.FileVerdict.{all-parts, due, passed-through, refused-through, refused-file}
 use Rattle.flow.proofs.check.check_file.Goals as goal
 
--- what `next` says of its result t and of the struct's last value
-record Moved (d : Reader) (part : Part) (t : Passed) (d' : Reader) : Type 0 where
-  answer : t ≡ answer_through d.file.now part
-  file : d'.file ≡ d.file
-  place : d'.at ≡ place_after t d.at
+-- the reader of s stands at the start of a part before which all is fit
+record Come (s : Bor (List ℕ)) (part : Part) (d : Reader) : Type 0 where
+  file : d.file ≡ s
+  at : d.at ≡ part_start s.now part
+  before : verdict (checks_before s.now part) ≡ fit
 
-moved : {d d' : Reader} {part : Part} {t : Passed} → (t ≡ answer_through d.file.now part) × (d'.file ≡ d.file) × (d'.at ≡ place_after t d.at) → Moved d part t d'
-moved e = record { answer = e.0; file = e.1; place = e.2 }
-
--- the reader of s has come to a part, with the answer `before` for all before it
-module _ (s : Bor (List ℕ)) where
-  record Come (part : Part) (before : Passed) (d : Reader) : Type 0 where
-    file : d.file ≡ s
-    judged : Judged s.now part before d.at
-
-  begins : (r : Reader) → (r.file ≡ s) × (r.at ≡ 0) → Come Header (To 0) r
-  unfolding verdict
-  begins r e = record { file = e.0; judged = record { told = refl; stands = e.1 } }
-
-  answered : {part : Part} {before t : Passed} {d d' : Reader} → Come part before d → Moved d part t d' → t ≡ answer_through s.now part
-  answered {part} c m = m.answer ∙ ap (λ (y : Bor (List ℕ)). answer_through y.now part) c.file
-
-  goes_on : {part next : Part} {before t : Passed} {d d' : Reader} → Come part before d → Moved d part t d'
-      → answer_through s.now part ≡ passed_of (verdict (checks_before s.now next)) (part_start s.now next) → Come next t d'
-  goes_on {part} {next} {before} {t} {d} c m follows =
-      record { file = m.file ∙ c.file; judged = record { told = answered c m ∙ follows; stands = stays s.now t d.at m.place } }
-
-  ends : {before₁ before₂ before₃ t : Passed} {d₁ d₂ d₃ d₄ : Reader} → Come Lines before₁ d₁ → Come Key before₂ d₂ → Come End before₃ d₃ → Moved d₃ End t d₄
-      → Ended s.now d₁.at d₂.at d₃.at t
-  ends c₁ c₂ c₃ m = record {
-    told = answered c₃ m ∙ ap (λ cs. passed_of (verdict cs) (part_end s.now End)) (all-parts s.now);
-    lines = λ h. stands-there s.now Lines c₁.judged (lines_too s.now (key_too s.now (before-end s.now h)));
-    key = λ h. stands-there s.now Key c₂.judged (key_too s.now (before-end s.now h));
-    ends = λ h. stands-there s.now End c₃.judged (before-end s.now h);
-  }
-
-pub next-header-requires : goal.next-header-requires
+begins : {s : Bor (List ℕ)} {r : Reader} → (r.file ≡ s) × (r.at ≡ 0) → Come s Header r
 unfolding verdict
-next-header-requires c = record { told = refl; stands = c.new-r.ensures.1 }
+begins e = record { file = e.0; at = e.1; before = refl }
 
-pub checked-requires : goal.checked-requires
-checked-requires c =
+come-due : {s : Bor (List ℕ)} {part : Part} {d : Reader} → Come s part d → Due d.file.now part d.at
+come-due {s} {part} c = rw c.file (due s.now part c.before c.at)
+
+-- what `next` says of its result t and of the reader's last value, where that part was fit
+record Passed (s : Bor (List ℕ)) (part : Part) (d : Reader) (q : ℕ) : Type 0 where
+  file : d.file ≡ s
+  at : d.at ≡ part_end s.now part
+  place : q ≡ part_end s.now part
+  through : verdict (checks_before s.now part ++ part_checks s.now part) ≡ fit
+
+passed : {s : Bor (List ℕ)} {part : Part} {d d' : Reader} {t : Result ℕ Refusal} {q : ℕ} → Come s part d
+    → (t ≡ part_answer d.file.now part) × (d'.file ≡ d.file) × (d'.at ≡ place_after t d.at) → t ≡ Ok q → Passed s part d' q
+passed {s} {part} {d} c m e =
+    let told = sym e ∙ m.0 ∙ ap (λ (y : Bor (List ℕ)). part_answer y.now part) c.file in
+    let p = passed-through s.now part c.before told in
+    record {
+      file = m.1 ∙ c.file;
+      at = m.2 ∙ ap (λ (x : Result ℕ Refusal). place_after x d.at) e ∙ p.1;
+      place = p.1;
+      through = p.0;
+    }
+
+-- the reader has come to the part that follows
+came : {s : Bor (List ℕ)} {part next : Part} {d : Reader} {q : ℕ} → Passed s part d q → part_end s.now part ≡ part_start s.now next
+    → checks_before s.now part ++ part_checks s.now part ≡ checks_before s.now next → Come s next d
+came p there before = record { file = p.file; at = p.at ∙ there; before = sym (ap verdict before) ∙ p.through }
+
+-- a refusal of the part is the answer
+refused : {s : Bor (List ℕ)} {part : Part} {d : Reader} {r : Refusal} → Come s part d → Err r ≡ part_answer d.file.now part
+    → Err r ≡ answer_of (verdict (file_checks s.now)) (header_of s.now)
+refused {s} {part} c e =
+    refused_by (file_checks s.now) _ (refused-file s.now part (refused-through s.now part c.before (e ∙ ap (λ (y : Bor (List ℕ)). part_answer y.now part) c.file)))
+
+pub returns-in_err-next : goal.returns-in_err-next
+returns-in_err-next c =
     let s = c.args.file in
-    let c₁ : Come s Header (To 0) c.new-r.result = begins s c.new-r.result c.new-r.ensures in
-    let c₂ : Come s Statements c.next-header.result c.next-header.new.r = goes_on s c₁ (moved c.next-header.ensures) refl in
-    let c₃ : Come s Lines c.next-statements.result c.next-statements.new.r = goes_on s c₂ (moved c.next-statements.ensures) refl in
-    let c₄ : Come s Key c.next-lines.result c.next-lines.new.r = goes_on s c₃ (moved c.next-lines.ensures) refl in
-    let c₅ : Come s End c.next-key.result c.next-key.new.r = goes_on s c₄ (moved c.next-key.ensures) refl in
-    ends s c₃ c₄ c₅ (moved {d' = c.next-end.new.r} c.next-end.ensures)
+    let c₁ : Come s Header c.new-reader.result = begins c.new-reader.ensures in
+    let p = err_from_is_err_and c.from_residual.result c.from_residual.ensures.1 in
+    rw (p.1, p.2) (refused c₁ (c.in_err-next.ensures).0)
+
+pub next-requires-2 : goal.next-requires-2
+next-requires-2 c =
+    let s = c.args.file in
+    let c₁ : Come s Header c.new-reader.result = begins c.new-reader.ensures in
+    let p₁ = passed c₁ c.next.ensures c.in_ok-next.was in
+    let c₂ : Come s Statements c.next.new.self = came p₁ refl refl in
+    come-due c₂
+
+pub returns-in_err-lines_at : goal.returns-in_err-lines_at
+returns-in_err-lines_at c =
+    let s = c.args.file in
+    let c₁ : Come s Header c.new-reader.result = begins c.new-reader.ensures in
+    let p₁ = passed c₁ c.next.ensures c.in_ok-next.was in
+    let c₂ : Come s Statements c.next.new.self = came p₁ refl refl in
+    let p = err_from_is_err_and c.from_residual-in_err-lines_at.result c.from_residual-in_err-lines_at.ensures.1 in
+    rw (p.1, p.2) (refused c₂ (c.in_err-lines_at.ensures).0)
+
+pub next-requires-3 : goal.next-requires-3
+next-requires-3 c =
+    let s = c.args.file in
+    let c₁ : Come s Header c.new-reader.result = begins c.new-reader.ensures in
+    let p₁ = passed c₁ c.next.ensures c.in_ok-next.was in
+    let c₂ : Come s Statements c.next.new.self = came p₁ refl refl in
+    let p₂ = passed c₂ c.next-2.ensures c.in_ok-lines_at.was in
+    let c₃ : Come s Lines c.next-2.new.self = came p₂ refl refl in
+    come-due c₃
+
+pub returns-in_err-key_at : goal.returns-in_err-key_at
+returns-in_err-key_at c =
+    let s = c.args.file in
+    let c₁ : Come s Header c.new-reader.result = begins c.new-reader.ensures in
+    let p₁ = passed c₁ c.next.ensures c.in_ok-next.was in
+    let c₂ : Come s Statements c.next.new.self = came p₁ refl refl in
+    let p₂ = passed c₂ c.next-2.ensures c.in_ok-lines_at.was in
+    let c₃ : Come s Lines c.next-2.new.self = came p₂ refl refl in
+    let p = err_from_is_err_and c.from_residual-in_err-key_at.result c.from_residual-in_err-key_at.ensures.1 in
+    rw (p.1, p.2) (refused c₃ (c.in_err-key_at.ensures).0)
+
+pub next-requires-4 : goal.next-requires-4
+next-requires-4 c =
+    let s = c.args.file in
+    let c₁ : Come s Header c.new-reader.result = begins c.new-reader.ensures in
+    let p₁ = passed c₁ c.next.ensures c.in_ok-next.was in
+    let c₂ : Come s Statements c.next.new.self = came p₁ refl refl in
+    let p₂ = passed c₂ c.next-2.ensures c.in_ok-lines_at.was in
+    let c₃ : Come s Lines c.next-2.new.self = came p₂ refl refl in
+    let p₃ = passed c₃ c.next-3.ensures c.in_ok-key_at.was in
+    let c₄ : Come s Key c.next-3.new.self = came p₃ refl refl in
+    come-due c₄
+
+pub returns-in_err-end_at : goal.returns-in_err-end_at
+returns-in_err-end_at c =
+    let s = c.args.file in
+    let c₁ : Come s Header c.new-reader.result = begins c.new-reader.ensures in
+    let p₁ = passed c₁ c.next.ensures c.in_ok-next.was in
+    let c₂ : Come s Statements c.next.new.self = came p₁ refl refl in
+    let p₂ = passed c₂ c.next-2.ensures c.in_ok-lines_at.was in
+    let c₃ : Come s Lines c.next-2.new.self = came p₂ refl refl in
+    let p₃ = passed c₃ c.next-3.ensures c.in_ok-key_at.was in
+    let c₄ : Come s Key c.next-3.new.self = came p₃ refl refl in
+    let p = err_from_is_err_and c.from_residual-in_err-end_at.result c.from_residual-in_err-end_at.ensures.1 in
+    rw (p.1, p.2) (refused c₄ (c.in_err-end_at.ensures).0)
+
+pub next-requires-5 : goal.next-requires-5
+next-requires-5 c =
+    let s = c.args.file in
+    let c₁ : Come s Header c.new-reader.result = begins c.new-reader.ensures in
+    let p₁ = passed c₁ c.next.ensures c.in_ok-next.was in
+    let c₂ : Come s Statements c.next.new.self = came p₁ refl refl in
+    let p₂ = passed c₂ c.next-2.ensures c.in_ok-lines_at.was in
+    let c₃ : Come s Lines c.next-2.new.self = came p₂ refl refl in
+    let p₃ = passed c₃ c.next-3.ensures c.in_ok-key_at.was in
+    let c₄ : Come s Key c.next-3.new.self = came p₃ refl refl in
+    let p₄ = passed c₄ c.next-4.ensures c.in_ok-end_at.was in
+    let c₅ : Come s End c.next-4.new.self = came p₄ refl refl in
+    come-due c₅
+
+pub returns-in_err-next-2 : goal.returns-in_err-next-2
+returns-in_err-next-2 c =
+    let s = c.args.file in
+    let c₁ : Come s Header c.new-reader.result = begins c.new-reader.ensures in
+    let p₁ = passed c₁ c.next.ensures c.in_ok-next.was in
+    let c₂ : Come s Statements c.next.new.self = came p₁ refl refl in
+    let p₂ = passed c₂ c.next-2.ensures c.in_ok-lines_at.was in
+    let c₃ : Come s Lines c.next-2.new.self = came p₂ refl refl in
+    let p₃ = passed c₃ c.next-3.ensures c.in_ok-key_at.was in
+    let c₄ : Come s Key c.next-3.new.self = came p₃ refl refl in
+    let p₄ = passed c₄ c.next-4.ensures c.in_ok-end_at.was in
+    let c₅ : Come s End c.next-4.new.self = came p₄ refl refl in
+    let p = err_from_is_err_and c.from_residual-in_err-next-2.result c.from_residual-in_err-next-2.ensures.1 in
+    rw (p.1, p.2) (refused c₅ (c.in_err-next-2.ensures).0)
+
+pub header-requires : goal.header-requires
+header-requires c =
+    let s = c.args.file in
+    let c₁ : Come s Header c.new-reader.result = begins c.new-reader.ensures in
+    let p₁ = passed c₁ c.next.ensures c.in_ok-next.was in
+    let c₂ : Come s Statements c.next.new.self = came p₁ refl refl in
+    let p₂ = passed c₂ c.next-2.ensures c.in_ok-lines_at.was in
+    let c₃ : Come s Lines c.next-2.new.self = came p₂ refl refl in
+    let p₃ = passed c₃ c.next-3.ensures c.in_ok-key_at.was in
+    let c₄ : Come s Key c.next-3.new.self = came p₃ refl refl in
+    let p₄ = passed c₄ c.next-4.ensures c.in_ok-end_at.was in
+    let c₅ : Come s End c.next-4.new.self = came p₄ refl refl in
+    let p₅ = passed c₅ c.next-5.ensures c.in_ok-next-2.was in
+    let whole : verdict (file_checks s.now) ≡ fit = sym (ap verdict (all-parts s.now)) ∙ p₅.through in
+    record { checked = whole; lines = p₂.place; key = p₃.place; ends = p₄.place }
+
+pub returns : goal.returns
+returns c =
+    let s = c.args.file in
+    let c₁ : Come s Header c.new-reader.result = begins c.new-reader.ensures in
+    let p₁ = passed c₁ c.next.ensures c.in_ok-next.was in
+    let c₂ : Come s Statements c.next.new.self = came p₁ refl refl in
+    let p₂ = passed c₂ c.next-2.ensures c.in_ok-lines_at.was in
+    let c₃ : Come s Lines c.next-2.new.self = came p₂ refl refl in
+    let p₃ = passed c₃ c.next-3.ensures c.in_ok-key_at.was in
+    let c₄ : Come s Key c.next-3.new.self = came p₃ refl refl in
+    let p₄ = passed c₄ c.next-4.ensures c.in_ok-end_at.was in
+    let c₅ : Come s End c.next-4.new.self = came p₄ refl refl in
+    let p₅ = passed c₅ c.next-5.ensures c.in_ok-next-2.was in
+    let whole : verdict (file_checks s.now) ≡ fit = sym (ap verdict (all-parts s.now)) ∙ p₅.through in
+    ap Ok c.header.ensures ∙ passed_by (file_checks s.now) _ whole

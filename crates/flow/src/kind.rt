@@ -1,0 +1,36 @@
+// The kinds of statements, and their numbers in a file.
+ghost use Rattle.flow.specs.Clauses.Kinds.{Decodes};
+
+#[derive(Clone, Copy, Debug, PartialEq, Eq)]
+pub enum Kind {
+    Other,
+    Return,
+    Clr,
+    Run,
+    Dim,
+    Gosub,
+    OnGosub,
+}
+
+// A number that stands for no kind.
+#[derive(Clone, Copy, Debug, PartialEq, Eq)]
+pub struct UnknownKind(pub u8);
+
+impl TryFrom<u8> for Kind {
+    type Error = UnknownKind;
+
+    ghost try_from_gives = { Decodes };
+
+    fn try_from(number: u8) -> Result<Kind, UnknownKind> {
+        match number {
+            0 => Ok(Kind::Other),
+            1 => Ok(Kind::Return),
+            2 => Ok(Kind::Clr),
+            3 => Ok(Kind::Run),
+            4 => Ok(Kind::Dim),
+            5 => Ok(Kind::Gosub),
+            6 => Ok(Kind::OnGosub),
+            _ => Err(UnknownKind(number)),
+        }
+    }
+}

@@ -1,0 +1,11 @@
+-- `read` meets its contract: the names lie within the file, since the record was found fit.
+-- Assumes nothing.
+use Rattle.flow.proofs.Records.{data-fits}
+use native.Mathlib.Omega.{arith}
+use Rattle.records.proofs.read.Goals as goal
+
+pub overflow_add-names_place : goal.overflow_add-names_place
+overflow_add-names_place c = omega (arith, data-fits c.requires)
+
+pub u64_at-requires : goal.u64_at-requires
+u64_at-requires c = omega (arith, data-fits c.requires)

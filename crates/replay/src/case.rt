@@ -1,0 +1,221 @@
+// The stored cases: what is asked of the library, and what it must answer.
+ghost use Rattle.std.specs.Prelude.{◌≤◌, length};
+
+use crate::reader::Reader;
+
+#[derive(Clone, Copy)]
+pub struct Case<'a, 'f> {
+    pub file: &'f [u8],
+    pub lengths: Lengths,
+    pub states: Result<States<'a>, Refused>,
+    // The word of the certain names.
+    pub certain: Result<u64, Refused>,
+    // How many rows the call that finds interference is lent.
+    pub rows: usize,
+    pub interference: Result<Interference<'a>, Refused>,
+}
+
+impl<'a, 'f> Case<'a, 'f> {
+    // Puts the file of the case together at the start of `file`.
+    pub fn read(reader: &mut Reader<'a>, file: &'f mut [u8]) -> Self
+        ensures { length reader.new.rest.now ≤ length reader.old.rest.now }
+    {
+        let size = read_file(reader, file);
+        let file = &file[..size];
+        let counts = Counts::of(file);
+        Case {
+            file,
+            lengths: Lengths::read(reader),
+            states: match read_refusal(reader) {
+                None => Ok(States::read(reader, counts)),
+                Some(refused) => Err(refused),
+            },
+            certain: read_answer(reader),
+            rows: read_length(reader),
+            interference: Interference::read(reader, counts),
+        }
+    }
+}
+
+// The lengths of the areas that the call for the states is lent.
+#[derive(Clone, Copy)]
+pub struct Lengths {
+    pub masks: usize,
+    pub live_in: usize,
+    pub live_out: usize,
+    pub work: usize,
+}
+
+impl Lengths {
+    fn read(reader: &mut Reader<'_>) -> Self
+        ensures { length reader.new.rest.now ≤ length reader.old.rest.now }
+    {
+        Lengths {
+            masks: read_length(reader),
+            live_in: read_length(reader),
+            live_out: read_length(reader),
+            work: read_length(reader),
+        }
+    }
+}
+
+// Words stand as they are stored, 8 bytes each.
+#[derive(Clone, Copy)]
+pub struct States<'a> {
+    pub visits: u64,
+    pub masks: &'a [u8],
+    pub live_in: &'a [[u8; 8]],
+    pub live_out: &'a [[u8; 8]],
+}
+
+impl<'a> States<'a> {
+    fn read(reader: &mut Reader<'a>, counts: Counts) -> Self
+        ensures { length reader.new.rest.now ≤ length reader.old.rest.now }
+    {
+        let masks = usize::from(counts.statements) * usize::from(counts.arrays);
+        States {
+            visits: u64::from(reader.read_u32()),
+            masks: reader.take(masks),
+            live_in: read_words(reader, counts.statements),
+            live_out: read_words(reader, counts.statements),
+        }
+    }
+}
+
+#[derive(Clone, Copy)]
+pub struct Interference<'a> {
+    // The most names that are live at once.
+    pub most_live: u64,
+    pub rows: &'a [[u8; 8]],
+}
+
+impl<'a> Interference<'a> {
+    // The rows stand behind every answer whose number is that of no refusal.
+    fn read(reader: &mut Reader<'a>, counts: Counts) -> Result<Self, Refused>
+        ensures { length reader.new.rest.now ≤ length reader.old.rest.now }
+    {
+        let answer = read_answer(reader);
+        if let Err(refused) = answer {
+            if refused.number != 0 {
+                return Err(refused);
+            }
+        }
+        let rows = read_words(reader, u16::from(counts.names));
+        answer.map(|most_live| Interference { most_live, rows })
+    }
+}
+
+// A refusal's number and place, and what was found, which is nothing.
+#[derive(Clone, Copy, PartialEq, Eq)]
+pub struct Refused {
+    pub number: u64,
+    pub place: u64,
+    pub found: u64,
+}
+
+impl From<flow::Refusal> for Refused {
+    fn from(refusal: flow::Refusal) -> Self {
+        Refused {
+            number: refusal.number(),
+            place: refusal.place(),
+            found: 0,
+        }
+    }
+}
+
+// What the header of a file says of the size of the answers.
+#[derive(Clone, Copy)]
+struct Counts {
+    statements: u16,
+    arrays: u8,
+    names: u8,
+}
+
+impl Counts {
+    fn of(file: &[u8]) -> Self {
+        let mut header = Reader::new(file);
+        let _mark = header.take(2);
+        Counts {
+            statements: header.read_u16(),
+            arrays: header.read_u8(),
+            names: header.read_u8(),
+        }
+    }
+}
+
+// A file is stored in blocks, each behind how often it is repeated, up to a count of 0.
+fn read_file(reader: &mut Reader<'_>, file: &mut [u8]) -> usize
+    ensures size { result ≤ length file.new }
+    ensures rest { length reader.new.rest.now ≤ length reader.old.rest.now }
+{
+    let mut size = 0;
+    while !reader.rest.is_empty() {
+        let times = reader.read_u16();
+        if times == 0 {
+            break;
+        }
+        let block_size = reader.read_u16();
+        let block = reader.take(usize::from(block_size));
+        for _ in 0..times {
+            size += append(block, &mut file[size..]);
+        }
+    }
+    size
+}
+
+// Copies the block as far as there is room, and answers how many bytes that were.
+fn append(block: &[u8], room: &mut [u8]) -> usize
+    ensures { result ≤ length room.old }
+{
+    let n = block.len().min(room.len());
+    room[..n].copy_from_slice(&block[..n]);
+    n
+}
+
+fn read_length(reader: &mut Reader<'_>) -> usize
+    ensures { length reader.new.rest.now ≤ length reader.old.rest.now }
+{
+    reader.read_u32() as usize
+}
+
+fn read_words<'a>(reader: &mut Reader<'a>, n: u16) -> &'a [[u8; 8]]
+    ensures { length reader.new.rest.now ≤ length reader.old.rest.now }
+{
+    let (words, _) = reader.take(8 * usize::from(n)).as_chunks::<8>();
+    words
+}
+
+// The number 0 stands for no refusal.
+fn read_refusal(reader: &mut Reader<'_>) -> Option<Refused>
+    ensures { length reader.new.rest.now ≤ length reader.old.rest.now }
+{
+    let number = u64::from(reader.read_u8());
+    let place = u64::from(reader.read_u32());
+    if number == 0 {
+        None
+    } else {
+        Some(Refused {
+            number,
+            place,
+            found: 0,
+        })
+    }
+}
+
+// What was found stands after a refusal too, as a place does after an answer that is none: both are 0 there, or nothing is answered so.
+fn read_answer(reader: &mut Reader<'_>) -> Result<u64, Refused>
+    ensures { length reader.new.rest.now ≤ length reader.old.rest.now }
+{
+    let number = u64::from(reader.read_u8());
+    let place = u64::from(reader.read_u32());
+    let found = reader.read_u64();
+    if number == 0 && place == 0 {
+        Ok(found)
+    } else {
+        Err(Refused {
+            number,
+            place,
+            found,
+        })
+    }
+}
