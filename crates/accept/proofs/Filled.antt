@@ -8,7 +8,7 @@ use native.Mathlib.Decide.{dec_lt}
 use native.Mathlib.Numerals.{add-one}
 use native.Mathlib.Omega.{arith}
 use borrow.Author.Tests.{eq-eqb, eqb-true}
-use lib.Bits.{bit_or, or_lt, or_add_and, and_le_l, and_le_r}
+use lib.Bits.{bit_or, bit_xor, or_lt, or_add_and, xor_add_and, and_le_l, and_le_r}
 use lib.Count.{count_trailing_zeros}
 use lib.Dec.{eqb}
 use lib.ListN.{get_or}
@@ -19,12 +19,15 @@ use Rattle.theory.specs.Lists.{all_below}
 use Rattle.theory.specs.Queue.{union_below}
 use Rattle.theory.proofs.Below.{all_below-at, all_below-all}
 use Rattle.solve.specs.Clauses.Rows.{mask_at}
-use Rattle.accept.specs.Clauses.Bytes.{apart}
 
 -- one number more
 pub below_more : (k : ℕ) (p : ℕ → Bool) (b : Bool) → b ≡ all_below k p → (b && p k) ≡ all_below (k + 1) p
 unfolding all_below
 below_more k p b e = rw add-one (ap (λ c. c && p k) e)
+
+pub union_more : (k : ℕ) (f : ℕ → ℕ) {u : ℕ} → u ≡ union_below k f → bit_or u (f k) ≡ union_below (k + 1) f
+unfolding union_below
+union_more k f e = rw add-one (ap (λ u. bit_or u (f k)) e)
 
 -- a union is no less than what it joins
 pub union_most : (k : ℕ) (f : ℕ → ℕ) (j : ℕ) → j < k → f j ≤ union_below k f
@@ -37,8 +40,8 @@ union_most (suc k) f j l = go (dec_lt j k) (union_most k f j)
     go (no b) h = let e : j ≡ k = omega (arith, b) in subst (λ (i : ℕ). f i ≤ bit_or (union_below k f) (f k)) (sym e) (omega (arith, or_add_and (union_below k f) (f k), and_le_l (union_below k f) (f k)))
 
 -- two bytes that differ in no bit are one
-pub apart_none : (a b : ℕ) → apart a b ≡ 0 → a ≡ b
-apart_none a b e = omega (arith, e, or_add_and a b, and_le_l a b, and_le_r a b)
+pub apart_none : (a b : ℕ) → bit_xor a b ≡ 0 → a ≡ b
+apart_none a b e = omega (arith, e, xor_add_and a b, and_le_l a b, and_le_r a b)
 
 -- what holds of each number below k and of k
 pub each_more : (P : ℕ → Type 0) (k : ℕ) → ((j : ℕ) → j < k → P j) → P k → (j : ℕ) → j < k + 1 → P j

@@ -8,7 +8,8 @@ use native.Mathlib.Nat.{mod-lt, div-add-mod', div-lt_iff_lt-mul, mul-le-mul_righ
 use native.Mathlib.Omega.{arith}
 use borrow.Author.Tests.{lt-ltb, le-ltb}
 use lib.Dec.{eqb, ltb, leb}
-use lib.ListN.{length, get_or, replicate}
+use lib.ListN.{length, get_or, take, replicate}
+use Rattle.std.proofs.lemmas.List.{get_or-take, length-take-le}
 use Rattle.flow.specs.declared.Refusal.{Refusal}
 use Rattle.flow.specs.declared.Refusal.TheVariants.{Areas, Mask}
 use Rattle.std.specs.Prelude.{Result, Ok, Err}
@@ -32,6 +33,7 @@ use Rattle.dataflow.proofs.Judging.{not_both, same_refusal}
 use Rattle.accept.specs.Promise.{judged_proposal, AcceptPromise}
 use Rattle.accept.specs.Clauses.Bytes.{FirstOver, Masks}
 use Rattle.accept.specs.Clauses.Table.{Bytes}
+use Rattle.accept.proofs.Passing.{below_cut}
 
 -- The bytes
 
@@ -51,6 +53,17 @@ mask-unfit s count r h l =
 pub masks-all : {s : List ℕ} {count r : ℕ} → FirstOver s count r → (r < count → ⊥) → count ≤ length s → Masks s count
 masks-all h n room = let high = h.high in record { room = room; below = λ j l. h.before j (omega (arith, n)) }
 
+-- what was found in the first bytes alone
+pub over-part : {s : List ℕ} (count : ℕ) {r : ℕ} → count ≤ length s → FirstOver (take count s) (length (take count s)) r → FirstOver s count r
+over-part {s} count {r} room h =
+    let size : length (take count s) ≡ count = length-take-le count s room in
+    let high : r ≤ count = omega (arith, h.high) in
+    record {
+      high = high;
+      before = λ j l. subst (λ (x : ℕ). x < 8) (get_or-take count s j 0 (omega arith)) (h.before j l);
+      over = λ l. subst (λ (x : ℕ). 8 ≤ x) (get_or-take count s r 0 l) (h.over (omega arith));
+    }
+
 -- the bytes of all rows, one after the other
 
 pub byte_within : (n : ℕ) {arrays d a : ℕ} → d < 2 * n → a < arrays → d * arrays + a < 2 * (n * arrays)
@@ -61,7 +74,14 @@ pub table_bytes : (f : Flow) (s : List ℕ) (n arrays : ℕ) → size f ≡ n �
 table_bytes f s n arrays sized count m d a l b =
     (subst (λ k. Masks s (2 * (n * k))) count m).below (d * f.arrays + a) (byte_within n (omega (arith, sized)) b)
 
--- Whether all are 7, row by row
+-- Whether the first bytes are all 7
+pub any-part : (s : List ℕ) (count : ℕ) → count ≤ length s → all_below (length (take count s)) (λ k. eqb (get_or (take count s) k 0) any_state) ≡ all_below count (λ k. eqb (get_or s k 0) any_state)
+any-part s count room =
+    let size : length (take count s) ≡ count = length-take-le count s room in
+    below_cut (length (take count s)) count (λ k. eqb (get_or (take count s) k 0) any_state) (λ k. eqb (get_or s k 0) any_state) (omega arith)
+    (λ a l. ap (λ (x : ℕ). eqb x any_state) (get_or-take count s a 0 l)) (λ a l b. absurd (omega arith))
+
+-- and all rows
 pub any-rows : (f : Flow) (s : List ℕ) → all_below (proposal_bytes f) (λ k. eqb (get_or s k 0) any_state) ≡ is_all_any f (proposed f s)
 unfolding is_all_any
 any-rows f s =

@@ -4,15 +4,17 @@ use Prim.Native.Nat.{ℕ, suc, ◌+◌, ◌-◌, ◌*◌, ◌/◌, ◌%◌, ◌�
 use mathlib.Core.Bool.{Bool, cond}
 use mathlib.Core.List.{List}
 use mathlib.Core.Logic.{◌≢◌, inr}
-use mathlib.Core.Path.{◌≡◌, refl, sym, ap, ap₂, subst, ◌∙◌}
+use mathlib.Core.Path.{◌≡◌, refl, sym, ap, subst, ◌∙◌}
 use native.Mathlib.Decide.{dec_lt}
-use native.Mathlib.Nat.{mul-le-mul_right, mul_assoc, suc-mul, mul-zero}
+use native.Mathlib.Nat.{le_refl, one-mul, mul-le-mul_right, mul_assoc, suc-mul, mul-zero}
 use native.Mathlib.Omega.{arith}
 use borrow.Author.Tests.{lt-ltb, le-ltb}
 use lib.Dec.{ltb}
-use lib.Bits.{bit_or, or_zero_l}
+use lib.Bits.{bit_or, bit_xor, or_zero_l}
 use lib.ListN.{length, get_or, set, length-set}
 use lib.Seq.{get_or-set_same, get_or-set_other}
+use Rattle.std.specs.List.{between}
+use Rattle.std.proofs.lemmas.List.Edits.{length-between, get_or-between}
 use Rattle.words.specs.Clauses.Row.{bit, has}
 use Rattle.words.specs.Clauses.Change.{Unioned}
 use Rattle.masks.specs.Clauses.Sets.{mask_of}
@@ -28,38 +30,53 @@ use Rattle.solve.proofs.Masks.{mask-cong, unioned-mask}
 use Rattle.solve.proofs.Growing.{source_first}
 use Rattle.dataflow.specs.Clauses.Sent.{masks_below}
 use Rattle.dataflow.proofs.Sharing.{zero-mask}
-use Rattle.accept.specs.Clauses.Bytes.{Masks, RowMasks}
-use Rattle.accept.specs.Clauses.Rows.{SetOf, SetsOf, bytes_from, row_of, LoadedBefore, Unloaded, Loaded}
+use Rattle.theory.specs.Queue.{union_below}
+use Rattle.accept.specs.Clauses.Bytes.{Masks}
+use Rattle.accept.specs.Clauses.Rows.{SetOf, SetsOf, row_of, LoadedBefore, Unloaded, Loaded}
+use Rattle.accept.proofs.Filled.{union_most, apart_none}
 
 -- A row, a word of its three sets at a time
 
 -- whether the mask of array a has the state of bit t
-abbrev plane : List ℕ → ℕ → ℕ → ℕ → ℕ → ℕ
-plane s at arrays t a = cond (ltb a arrays) (bit (get_or s (at + a) 0) t) 0
+abbrev plane : List ℕ → ℕ → ℕ → ℕ
+plane s t a = cond (ltb a (length s)) (bit (get_or s a 0) t) 0
+
+-- the bytes of word k
+pub record WordOf (s q : List ℕ) (k : ℕ) : Type 0 where
+  pub size : length q ≡ min 64 (length s - 64 * k)
+  pub same : (j : ℕ) → j < length q → get_or q j 0 ≡ get_or s (64 * k + j) 0
+
+pub word-of : (s : List ℕ) (k count : ℕ) → count ≡ min 64 (length s - 64 * k) → 64 * k ≤ length s → WordOf s (between (64 * k) (64 * k + count) s) k
+word-of s k count e l = record {
+  size = length-between s (64 * k) (64 * k + count) (omega arith) ∙ omega arith;
+  same = λ j m. get_or-between s (64 * k) (64 * k + count) j 0 (omega (arith, length-between s (64 * k) (64 * k + count) (omega arith)));
+}
 
 -- the first k words are loaded
-pub record RowLoading (s ws vs : List ℕ) (row at arrays w k : ℕ) : Type 0 where
+pub record RowLoading (s ws vs : List ℕ) (row w k : ℕ) : Type 0 where
   pub some : k ≤ w
-  pub none : (a : ℕ) → a < 64 * k → has vs row a ≡ plane s at arrays 0 a
-  pub auto : (a : ℕ) → a < 64 * k → has vs (row + w) a ≡ plane s at arrays 1 a
-  pub dimmed : (a : ℕ) → a < 64 * k → has vs (row + 2 * w) a ≡ plane s at arrays 2 a
+  pub none : (a : ℕ) → a < 64 * k → has vs row a ≡ plane s 0 a
+  pub auto : (a : ℕ) → a < 64 * k → has vs (row + w) a ≡ plane s 1 a
+  pub dimmed : (a : ℕ) → a < 64 * k → has vs (row + 2 * w) a ≡ plane s 2 a
   pub keeps : Keeps row (row + 3 * w) ws vs
 
-pub loading_none : {s ws : List ℕ} {row at arrays w : ℕ} → RowLoading s ws ws row at arrays w 0
+pub loading_none : {s ws : List ℕ} {row w : ℕ} → RowLoading s ws ws row w 0
 loading_none = record { some = zero-le; none = λ a l. absurd (omega arith); auto = λ a l. absurd (omega arith); dimmed = λ a l. absurd (omega arith); keeps = keeps-refl }
 
 -- one word more of one of the sets
-plane-more : (s vs os : List ℕ) (to at arrays t k word : ℕ) → get_or os (to + k) 0 ≡ word → ((q : ℕ) → q < k → get_or os (to + q) 0 ≡ get_or vs (to + q) 0)
-    → SetOf s (at + 64 * k) (min 64 (arrays - 64 * k)) t 0 word → ((a : ℕ) → a < 64 * k → has vs to a ≡ plane s at arrays t a)
-    → (a : ℕ) → a < 64 * (k + 1) → has os to a ≡ plane s at arrays t a
+plane-more : (s q vs os : List ℕ) (to t k word : ℕ) → get_or os (to + k) 0 ≡ word → ((q : ℕ) → q < k → get_or os (to + q) 0 ≡ get_or vs (to + q) 0)
+    → WordOf s q k → SetOf q t 0 word → ((a : ℕ) → a < 64 * k → has vs to a ≡ plane s t a)
+    → (a : ℕ) → a < 64 * (k + 1) → has os to a ≡ plane s t a
 unfolding has
-plane-more s vs os to at arrays t k word here others is before a m = go (dec_lt a (64 * k))
+plane-more s q vs os to t k word here others part is before a m = go (dec_lt a (64 * k))
   where
-    within : (j : ℕ) → 64 * k + j ≡ a → j < 64 → Dec (a < arrays) → ltb (0 + j) (min 64 (arrays - 64 * k)) ≡ ltb a arrays
-    within j e b (yes c) = lt-ltb (0 + j) (min 64 (arrays - 64 * k)) (omega arith) ∙ sym (lt-ltb a arrays c)
-    within j e b (no c) = le-ltb (0 + j) (min 64 (arrays - 64 * k)) (omega (arith, c)) ∙ sym (le-ltb a arrays (omega (arith, c)))
+    within : (j : ℕ) → 64 * k + j ≡ a → j < 64 → Dec (a < length s) → cond (ltb (0 + j) (length q)) (bit (get_or q (0 + j) 0) t) 0 ≡ plane s t a
+    within j e b (yes c) =
+        let own : get_or q (0 + j) 0 ≡ get_or s a 0 = part.same (0 + j) (omega (arith, part.size)) ∙ ap (λ (x : ℕ). get_or s x 0) (omega arith) in
+        rw (lt-ltb (0 + j) (length q) (omega (arith, part.size)), lt-ltb a (length s) c) (ap (λ (x : ℕ). bit x t) own)
+    within j e b (no c) = rw (le-ltb (0 + j) (length q) (omega (arith, part.size, c)), le-ltb a (length s) (omega (arith, c))) refl
 
-    go : Dec (a < 64 * k) → has os to a ≡ plane s at arrays t a
+    go : Dec (a < 64 * k) → has os to a ≡ plane s t a
     go (yes b) = ap (λ (y : ℕ). bit y (a % 64)) (others (a / 64) (omega arith)) ∙ before a b
     go (no b) =
         let j : ℕ = a % 64 in
@@ -67,15 +84,15 @@ plane-more s vs os to at arrays t k word here others is before a m = go (dec_lt 
         let array : 64 * k + j ≡ a = omega (arith, b) in
         ap (λ (y : ℕ). bit y j) (ap (λ (q : ℕ). get_or os (to + q) 0) word_is ∙ here)
         ∙ is j (omega arith)
-        ∙ ap₂ (λ (c : Bool) (p : ℕ). cond c (bit (get_or s p 0) t) 0) (within j array (omega arith) (dec_lt a arrays)) (omega arith)
+        ∙ within j array (omega arith) (dec_lt a (length s))
 
-pub loading_more : {s ws vs : List ℕ} {row at arrays w k : ℕ} (x y z : ℕ) → RowLoading s ws vs row at arrays w k → k < w → row + 3 * w ≤ length ws
-    → SetsOf s (at + 64 * k) (min 64 (arrays - 64 * k)) 0 x y z → RowLoading s ws (set (set (set vs (row + k) x) (row + w + k) y) (row + 2 * w + k) z) row at arrays w (k + 1)
-loading_more {s} {ws} {vs} {row} {at} {arrays} {w} {k} x y z h l room is = record {
+pub loading_more : {s q ws vs : List ℕ} {row w k : ℕ} (x y z : ℕ) → RowLoading s ws vs row w k → k < w → row + 3 * w ≤ length ws → WordOf s q k
+    → SetsOf q 0 x y z → RowLoading s ws (set (set (set vs (row + k) x) (row + w + k) y) (row + 2 * w + k) z) row w (k + 1)
+loading_more {s} {q} {ws} {vs} {row} {w} {k} x y z h l room part is = record {
   some = omega arith;
-  none = plane-more s vs os row at arrays 0 k x (third (row + k) (λ e. omega arith) ∙ second (row + k) (λ e. omega arith) ∙ get_or-set_same vs (row + k) x 0 (omega arith)) (λ q m. else (row + q) (λ e. omega arith) (λ e. omega arith) (λ e. omega arith)) is.none_is h.none;
-  auto = plane-more s vs os (row + w) at arrays 1 k y (third (row + w + k) (λ e. omega arith) ∙ get_or-set_same (set vs (row + k) x) (row + w + k) y 0 (omega (arith, length-set vs (row + k) x))) (λ q m. else (row + w + q) (λ e. omega arith) (λ e. omega arith) (λ e. omega arith)) is.auto_is h.auto;
-  dimmed = plane-more s vs os (row + 2 * w) at arrays 2 k z (get_or-set_same (set (set vs (row + k) x) (row + w + k) y) (row + 2 * w + k) z 0 (omega (arith, length-set vs (row + k) x, length-set (set vs (row + k) x) (row + w + k) y))) (λ q m. else (row + 2 * w + q) (λ e. omega arith) (λ e. omega arith) (λ e. omega arith)) is.dimmed_is h.dimmed;
+  none = plane-more s q vs os row 0 k x (third (row + k) (λ e. omega arith) ∙ second (row + k) (λ e. omega arith) ∙ get_or-set_same vs (row + k) x 0 (omega arith)) (λ q m. else (row + q) (λ e. omega arith) (λ e. omega arith) (λ e. omega arith)) part is.none_is h.none;
+  auto = plane-more s q vs os (row + w) 1 k y (third (row + w + k) (λ e. omega arith) ∙ get_or-set_same (set vs (row + k) x) (row + w + k) y 0 (omega (arith, length-set vs (row + k) x))) (λ q m. else (row + w + q) (λ e. omega arith) (λ e. omega arith) (λ e. omega arith)) part is.auto_is h.auto;
+  dimmed = plane-more s q vs os (row + 2 * w) 2 k z (get_or-set_same (set (set vs (row + k) x) (row + w + k) y) (row + 2 * w + k) z 0 (omega (arith, length-set vs (row + k) x, length-set (set vs (row + k) x) (row + w + k) y))) (λ q m. else (row + 2 * w + q) (λ e. omega arith) (λ e. omega arith) (λ e. omega arith)) part is.dimmed_is h.dimmed;
   keeps = keeps-trans h.keeps
       (keeps-trans (keeps-set vs (row + k) x (omega arith) (omega arith))
       (keeps-trans (keeps-set (set vs (row + k) x) (row + w + k) y (omega arith) (omega arith))
@@ -97,19 +114,29 @@ loading_more {s} {ws} {vs} {row} {at} {arrays} {w} {k} x y z h l room is = recor
     else : (p : ℕ) → p ≢ row + k → p ≢ row + w + k → p ≢ row + 2 * w + k → get_or os p 0 ≡ get_or vs p 0
     else p a b c = third p c ∙ second p b ∙ get_or-set_other vs (row + k) p x 0 a
 
-pub loading_all : {s ws vs : List ℕ} {row at arrays w k : ℕ} → RowLoading s ws vs row at arrays w k → k ≡ w → RowMasks s at arrays → RowIs ws vs w row (masks_below arrays (bytes_from s at))
+pub loading_all : {s ws vs : List ℕ} {row w k : ℕ} → RowLoading s ws vs row w k → k ≡ w → Masks s (length s) → RowIs ws vs w row (masks_below (length s) (λ a. get_or s a 0))
 unfolding mask_at masks_below
-loading_all {s} {ws} {vs} {row} {at} {arrays} {w} x whole masks = record {
+loading_all {s} {ws} {vs} {row} {w} x whole masks = record {
   keeps = x.keeps;
   masks = λ a l.
-      let all : mask_of (has vs row a) (has vs (row + w) a) (has vs (row + 2 * w) a) ≡ mask_of (plane s at arrays 0 a) (plane s at arrays 1 a) (plane s at arrays 2 a) =
+      let all : mask_of (has vs row a) (has vs (row + w) a) (has vs (row + 2 * w) a) ≡ mask_of (plane s 0 a) (plane s 1 a) (plane s 2 a) =
       omega (arith, x.none a (omega arith), x.auto a (omega arith), x.dimmed a (omega arith)) in
-      all ∙ go a (dec_lt a arrays);
+      all ∙ go a (dec_lt a (length s));
 }
   where
-    go : (a : ℕ) → Dec (a < arrays) → mask_of (plane s at arrays 0 a) (plane s at arrays 1 a) (plane s at arrays 2 a) ≡ cond (ltb a arrays) (get_or s (at + a) 0) 0
-    go a (yes l) = rw (lt-ltb a arrays l) (sets.mask_of_bits (get_or s (at + a) 0) (masks.below a l))
-    go a (no l) = rw (le-ltb a arrays (omega (arith, l)))
+    go : (a : ℕ) → Dec (a < length s) → mask_of (plane s 0 a) (plane s 1 a) (plane s 2 a) ≡ cond (ltb a (length s)) (get_or s a 0) 0
+    go a (yes l) = rw (lt-ltb a (length s) l) (sets.mask_of_bits (get_or s a 0) (masks.below a l))
+    go a (no l) = rw (le-ltb a (length s) (omega (arith, l)))
+
+-- a row that was cut out of the proposal is that of its number
+pub loaded_row : (s q : List ℕ) (d : ℕ) {ws vs : List ℕ} {w row arrays : ℕ} → length q ≡ arrays → ((a : ℕ) → a < arrays → get_or q a 0 ≡ row_of s arrays d a)
+    → RowIs ws vs w row (masks_below (length q) (λ a. get_or q a 0)) → RowIs ws vs w row (masks_below arrays (row_of s arrays d))
+unfolding masks_below
+loaded_row s q d {arrays = arrays} size same x = record { keeps = x.keeps; masks = λ a l. x.masks a l ∙ ap (λ (n : ℕ). cond (ltb a n) (get_or q a 0) 0) size ∙ go a (dec_lt a arrays) }
+  where
+    go : (a : ℕ) → Dec (a < arrays) → cond (ltb a arrays) (get_or q a 0) 0 ≡ cond (ltb a arrays) (row_of s arrays d a) 0
+    go a (yes l) = ap (λ (v : ℕ). cond (ltb a arrays) v 0) (same a l)
+    go a (no l) = ap (λ (b : Bool). cond b (get_or q a 0) 0) (le-ltb a arrays (omega (arith, l))) ∙ sym (ap (λ (b : Bool). cond b (row_of s arrays d a) 0) (le-ltb a arrays (omega (arith, l))))
 
 -- A row whose bytes are those of the row before it: the masks there are joined to its own, which are still zero
 pub repeated : {s ws vs : List ℕ} {n w arrays d : ℕ} {r : Bool} → d < 2 * n → 0 < d → nodes_end n w ≤ length ws → LoadedBefore s ws n w arrays d
@@ -136,10 +163,33 @@ row_before (suc d) arrays l = let e : d ≡ suc d - 1 = omega arith in let less 
 -- The rows one after the other
 
 -- the row of d lies within the proposal
-pub row-masks : {s : List ℕ} (n arrays : ℕ) {d : ℕ} → Masks s (2 * (n * arrays)) → d < 2 * n → RowMasks s (d * arrays) arrays
+pub row-room : {s : List ℕ} (n arrays : ℕ) {d : ℕ} → Masks s (2 * (n * arrays)) → d < 2 * n → d * arrays + arrays ≤ 2 * (n * arrays)
+row-room {s} n arrays {d} m l = omega (arith, mul-le-mul_right arrays l, suc-mul d arrays, mul_assoc 2 n arrays)
+
+pub row-at : (s : List ℕ) (arrays d : ℕ) (a : ℕ) → a < arrays → get_or (between (d * arrays) (d * arrays + arrays) s) a 0 ≡ row_of s arrays d a
+row-at s arrays d a l = get_or-between s (d * arrays) (d * arrays + arrays) a 0 (omega arith)
+
+pub row-size : {s : List ℕ} (n arrays : ℕ) {d : ℕ} → Masks s (2 * (n * arrays)) → d < 2 * n → length (between (d * arrays) (d * arrays + arrays) s) ≡ arrays
+row-size {s} n arrays {d} m l = length-between s (d * arrays) (d * arrays + arrays) (omega (arith, row-room n arrays m l, m.room)) ∙ omega arith
+
+-- no bit is another in the row before
+pub repeats : {s : List ℕ} (n arrays : ℕ) {d : ℕ} → Masks s (2 * (n * arrays)) → d < 2 * n → 0 < d
+    → let before : List ℕ = between (d * arrays - arrays) (d * arrays) s in
+    let own : List ℕ = between (d * arrays) (d * arrays + arrays) s in
+    union_below (length before) (λ k. bit_xor (get_or before k 0) (get_or own k 0)) ≡ 0 → (a : ℕ) → a < arrays → row_of s arrays d a ≡ row_of s arrays (d - 1) a
+repeats {s} n arrays {d} m l some none a b =
+    let before : List ℕ = between (d * arrays - arrays) (d * arrays) s in
+    let own : List ℕ = between (d * arrays) (d * arrays + arrays) s in
+    let least : arrays ≤ d * arrays = subst (λ (x : ℕ). x ≤ d * arrays) (one-mul arrays) (mul-le-mul_right arrays some) in
+    let size : length before ≡ arrays = length-between s (d * arrays - arrays) (d * arrays) (omega (arith, row-room n arrays m l, m.room)) ∙ omega arith in
+    let bit : bit_xor (get_or before a 0) (get_or own a 0) ≡ 0 = omega (arith, union_most (length before) (λ k. bit_xor (get_or before k 0) (get_or own k 0)) a (omega arith), none) in
+    sym (row-at s arrays d a b) ∙ sym (apart_none (get_or before a 0) (get_or own a 0) bit)
+    ∙ get_or-between s (d * arrays - arrays) (d * arrays) a 0 (omega arith) ∙ ap (λ (x : ℕ). get_or s (x + a) 0) (row_before d arrays some)
+
+pub row-masks : {s : List ℕ} (n arrays : ℕ) {d : ℕ} → Masks s (2 * (n * arrays)) → d < 2 * n → Masks (between (d * arrays) (d * arrays + arrays) s) (length (between (d * arrays) (d * arrays + arrays) s))
 row-masks {s} n arrays {d} m l =
-    let fits : d * arrays + arrays ≤ 2 * (n * arrays) = omega (arith, mul-le-mul_right arrays l, suc-mul d arrays, mul_assoc 2 n arrays) in
-    record { room = omega (arith, m.room); below = λ a b. m.below (d * arrays + a) (omega arith) }
+    let size = row-size n arrays m l in
+    record { room = le_refl _; below = λ a b. let low : a < arrays = omega (arith, size, b) in subst (λ (x : ℕ). x < 8) (sym (row-at s arrays d a low)) (m.below (d * arrays + a) (omega (arith, row-room n arrays m l))) }
 
 pub rows_none : {s ws : List ℕ} {n arrays : ℕ} → Loaded s ws ws n arrays 0
 rows_none = record { masks = λ d a l. absurd (omega arith); settled = λ d l. absurd (omega arith); waits = λ d l. absurd (omega arith); keeps = keeps-refl }

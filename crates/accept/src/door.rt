@@ -11,7 +11,8 @@ use crate::{bytes, rows, table};
 use dataflow::call::check_call;
 use flow::areas::area_fits;
 use flow::{Base, Header, Refusal};
-use solve::{layout, push};
+use solve::layout::Layout;
+use solve::push;
 use statements::doubled::node;
 use statements::layout::set_words;
 
@@ -22,12 +23,13 @@ fn holds(file: &[u8], h: Header, proposal: &[u8], work: &mut [u64]) -> bool
 {
     let n = h.statements;
     let width = set_words(h.arrays);
-    let back = layout::back_row(n, width);
+    let layout = Layout { n, width };
+    let back = layout.back_row();
     dataflow::boundary::begin_row(file, h, work, width, back);
     rows::load_rows(work, proposal, n, h.arrays);
-    push::grow(work, n, width, back, node(n, Base::Zero, h.entry));
+    push::grow(work, layout, back, node(n, Base::Zero, h.entry));
     table::pass_rows(file, h, work, width);
-    table::all_settled(work, n, width)
+    table::all_settled(work, layout)
 }
 
 // Whether a table is accepted, of a file, a proposal and a work area that are fit. An opaque handler may leave any array in any state, so that no edge is asked for.
@@ -37,7 +39,7 @@ fn accepts(file: &[u8], h: Header, proposal: &[u8], work: &mut [u64]) -> bool
 {
     dataflow::door::summarize(file, h, work);
     if dataflow::door::opaque_handler(file, h, work) {
-        return bytes::all_any(proposal, 2 * (h.statements * h.arrays));
+        return bytes::all_any(&proposal[..2 * (h.statements * h.arrays)]);
     }
     dataflow::door::note_key(file, h, work);
     dataflow::door::link(file, h, work);
@@ -54,7 +56,7 @@ pub fn accept(file: &[u8], proposal: &[u8], work: &mut [u64]) -> Result<bool, Re
     if !area_fits(count, proposal.len()) {
         return Err(Refusal::Areas);
     }
-    if let Some(over) = bytes::first_over(proposal, count) {
+    if let Some(over) = bytes::first_over(&proposal[..count]) {
         return Err(Refusal::Mask(over));
     }
     // With no statements there is nothing that a table could leave out.

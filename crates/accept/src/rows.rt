@@ -1,17 +1,18 @@
 // The bytes of a proposal become rows of masks: of eight arrays at a time, the bits that say whether a mask has the state.
-ghost use Rattle.std.specs.Prelude.{◌+◌, ◌*◌, ◌<◌, ◌≤◌, ◌≡◌, length};
+ghost use Rattle.std.specs.Prelude.{◌+◌, ◌*◌, ◌<◌, ◌≤◌, ◌≡◌, length, get_or};
 ghost use Rattle.flow.specs.Format.{le_at};
 ghost use Rattle.flow.specs.Limits.{max_statements, max_arrays};
 ghost use Rattle.statements.specs.Clauses.Layout.{set_words};
 ghost use Rattle.solve.specs.Clauses.Layout.{mask_row_at, nodes_end};
 ghost use Rattle.solve.specs.Clauses.Rows.{RowIs};
 ghost use Rattle.dataflow.specs.Clauses.Sent.{masks_below};
-ghost use Rattle.accept.specs.Clauses.Bytes.{Masks, RowMasks};
-ghost use Rattle.accept.specs.Clauses.Rows.{Gathered, SetsOf, bytes_from, row_of, LoadedBefore, Unloaded, Loaded};
+ghost use Rattle.accept.specs.Clauses.Bytes.{Masks};
+ghost use Rattle.accept.specs.Clauses.Rows.{Gathered, SetsOf, row_of, LoadedBefore, Unloaded, Loaded};
 
 use crate::bytes;
 use flow::NodeId;
-use solve::{layout, nodes};
+use solve::layout::Layout;
+use solve::nodes;
 use statements::layout::set_words;
 
 // The lowest bits of the eight bytes of a word, side by side.
@@ -24,14 +25,14 @@ fn gather(word: u64) -> u64
     (fours | (fours >> 28)) % 256
 }
 
-// Fewer than eight bytes as a word.
-fn short_word(s: &[u8], at: usize, count: usize) -> u64
-    requires { (count < 8) × RowMasks s.now at count }
-    ensures { result ≡ le_at count s.now at }
+// Fewer than eight bytes as a word. One by one: copied for `from_le_bytes` they cost a call of memcpy for each row, and a small file takes longer to accept than to solve.
+fn short_word(s: &[u8]) -> u64
+    requires { length s.now < 8 }
+    ensures { result ≡ le_at (length s.now) s.now 0 }
 {
-    let mut word = 0u64;
-    for k in (0..count).rev() {
-        word = 256 * word + s[at + k] as u64;
+    let mut word = 0;
+    for k in (0..s.len()).rev() {
+        word = 256 * word + u64::from(s[k]);
     }
     word
 }
@@ -44,18 +45,18 @@ pub struct Sets {
     pub dimmed: u64,
 }
 
-// The sets of `count` arrays, whose bytes begin at `at`, by the states that their masks have. Eight bytes are read at once for all three; the last, short group comes first.
-fn sets_of(s: &[u8], at: usize, count: usize) -> Sets
-    requires { (count ≤ 64) × RowMasks s.now at count }
-    ensures { SetsOf s.now at count 0 result.none result.auto result.dimmed }
+// The sets of up to 64 arrays by the states that their masks have. Eight bytes are read at once for all three; the last, short group comes first.
+fn sets_of(s: &[u8]) -> Sets
+    requires { length s.now ≤ 64 }
+    ensures { SetsOf s.now 0 result.none result.auto result.dimmed }
 {
-    let groups = count / 8;
-    let last = short_word(s, at + 8 * groups, count % 8);
+    let groups = s.len() / 8;
+    let last = short_word(&s[8 * groups..]);
     let mut none = gather(last);
     let mut auto = gather(last >> 1);
     let mut dimmed = gather(last >> 2);
     for g in (0..groups).rev() {
-        let eight = flow::bytes::u64_at(s, at + 8 * g);
+        let eight = flow::bytes::u64_at(s, 8 * g);
         none = (none << 8) | gather(eight);
         auto = (auto << 8) | gather(eight >> 1);
         dimmed = (dimmed << 8) | gather(eight >> 2);
@@ -63,14 +64,15 @@ fn sets_of(s: &[u8], at: usize, count: usize) -> Sets
     Sets { none, auto, dimmed }
 }
 
-// The row of masks at `row` becomes that of the bytes from `at` on.
-fn load_row(work: &mut [u64], s: &[u8], row: usize, at: usize, arrays: usize, width: usize)
-    requires { (width ≡ set_words arrays) × (arrays ≤ max_arrays) × (row + 3 * width ≤ length work.old) × RowMasks s.now at arrays }
-    ensures { RowIs work.old work.new width row (masks_below arrays (bytes_from s.now at)) }
+// The row of masks at `row` becomes that of the bytes. By words and not by chunks of the bytes: with no arrays there are no chunks, and still one word.
+fn load_row(work: &mut [u64], s: &[u8], row: usize, width: usize)
+    requires { (width ≡ set_words (length s.now)) × (length s.now ≤ max_arrays) × (row + 3 * width ≤ length work.old) × Masks s.now (length s.now) }
+    ensures { RowIs work.old work.new width row (masks_below (length s.now) (λ a. get_or s.now a 0)) }
 {
     for k in 0..width {
-        let count = dataflow::write::in_word(arrays, k);
-        let sets = sets_of(s, at + 64 * k, count);
+        let at = 64 * k;
+        let count = dataflow::write::in_word(s.len(), k);
+        let sets = sets_of(&s[at..at + count]);
         work[row + k] = sets.none;
         work[row + width + k] = sets.auto;
         work[row + 2 * width + k] = sets.dimmed;
@@ -78,20 +80,19 @@ fn load_row(work: &mut [u64], s: &[u8], row: usize, at: usize, arrays: usize, wi
 }
 
 // The masks of d, whose row is still zero, become those of its bytes. Most numbers have the masks of the one before them: those are joined to the row.
-fn load_next(work: &mut [u64], s: &[u8], n: usize, arrays: usize, width: usize, d: NodeId)
-    requires { (n ≤ max_statements) × (arrays ≤ max_arrays) × (width ≡ set_words arrays) × (d.0 < 2 * n) × (nodes_end n width ≤ length work.old) × Masks s.now (2 * (n * arrays)) × LoadedBefore s.now work.old n width arrays d.0 }
-    ensures { RowIs work.old work.new width (mask_row_at n width d.0) (masks_below arrays (row_of s.now arrays d.0)) }
+fn load_next(work: &mut [u64], s: &[u8], layout: Layout, arrays: usize, d: NodeId)
+    requires { (arrays ≤ max_arrays) × (layout.width ≡ set_words arrays) × (d.0 < 2 * layout.n) × (nodes_end layout.n layout.width ≤ length work.old) × Masks s.now (2 * (layout.n * arrays)) × LoadedBefore s.now work.old layout.n layout.width arrays d.0 }
+    ensures { RowIs work.old work.new layout.width (mask_row_at layout.n layout.width d.0) (masks_below arrays (row_of s.now arrays d.0)) }
 {
-    let row = layout::mask_row(n, width, d);
+    let row = layout.mask_row(d);
     let at = d.0 * arrays;
-    if 0 < d.0 {
-        if bytes::join_apart(s, at - arrays, at, arrays) == 0 {
-            let before = layout::mask_row(n, width, NodeId(d.0 - 1));
-            words::union(work, row, before, 3 * width);
-            return;
-        }
+    let own = &s[at..at + arrays];
+    if 0 < d.0 && bytes::join_apart(&s[at - arrays..at], own) == 0 {
+        let before = layout.mask_row(NodeId(d.0 - 1));
+        words::union(work, row, before, 3 * layout.width);
+        return;
     }
-    load_row(work, s, row, at, arrays, width);
+    load_row(work, own, row, layout.width);
 }
 
 // Every number has the masks of its row, and is settled.
@@ -100,8 +101,9 @@ pub fn load_rows(work: &mut [u64], s: &[u8], n: usize, arrays: usize)
     ensures { Loaded s.now work.old work.new n arrays (2 * n) }
 {
     let width = set_words(arrays);
+    let layout = Layout { n, width };
     for d in 0..2 * n {
-        load_next(work, s, n, arrays, width, NodeId(d));
-        nodes::settle(work, n, width, NodeId(d));
+        load_next(work, s, layout, arrays, NodeId(d));
+        nodes::settle(work, layout, NodeId(d));
     }
 }

@@ -13,8 +13,9 @@ use borrow.Author.Tests.{eqb-true, eqb-false}
 use lib.Bits.{bit_or}
 use lib.Dec.{eqb}
 use lib.ListN.{length, set}
-use Rattle.words.specs.Clauses.Row.{bit, next_member}
-use Rattle.words.proofs.NextMember.{first}
+use Rattle.std.specs.Prelude.{Some, None}
+use Rattle.words.specs.Clauses.Row.{bit, has, next_member, found_below}
+use Rattle.words.proofs.Found.{next-some, next-none}
 use Rattle.words.proofs.Bit.{bit-or, bit-lt}
 use Rattle.flow.specs.Flow.{Flow, Kind, size}
 use Rattle.theory.specs.Lists as lists
@@ -28,6 +29,7 @@ use Rattle.theory.proofs.Body.{walked-sound, touches-sound, touches-complete, to
 use Rattle.theory.proofs.Transparent.{Transparent, transparent-opaque, callee_transparent}
 use Rattle.statements.specs.Clauses.Layout.{bodies_at, touched_at, matrix_at, row_at}
 use Rattle.statements.specs.Clauses.Ready.{MembersWord}
+pub use Rattle.sure.proofs.Bodies.{return-ends as return-ordinary}
 use Rattle.calls.specs.Clauses.Held.{unentered, opened, transparent, opaque, WalkRow}
 use Rattle.calls.specs.Clauses.Summing.{body, call, touched_by, call_touched_by, summary_state, Within, Holds, BodyState, CallState, Summing, OnwardBut, Onward, Leads, WalkPassed, BodySummed, CallSummed}
 use Rattle.calls.proofs.Summing.{joined-has, onward-refl, onward-trans, onward_but, onward-all, walk_low, onward-touched, summing-touched, body-set, body-other, onward-body, summing-body, rows-set, walk_kept}
@@ -106,15 +108,6 @@ return-wipes (Kind.dim items) h = clash false h refl
 return-wipes (Kind.gosub l c) h = refl
 return-wipes (Kind.on_gosub ls c) h = refl
 
-pub return-ordinary : (k : Kind) → is_return k ≡ true → continuation_of k ≡ none
-return-ordinary Kind.other h = refl
-return-ordinary Kind.return h = refl
-return-ordinary Kind.clr h = refl
-return-ordinary Kind.run h = refl
-return-ordinary (Kind.dim items) h = refl
-return-ordinary (Kind.gosub l c) h = clash false h refl
-return-ordinary (Kind.on_gosub ls c) h = clash false h refl
-
 return_stops : (f : Flow) (e j : ℕ) → is_return (kind f e) ≡ true → In j (walk_next f e) → ⊥
 unfolding walk_next
 return_stops f e j h m = Memᴰ.not-nil (subst (λ b. In j (cond b [] (or_else (continuation_of (kind f e)) (successors f e)))) h m)
@@ -140,38 +133,42 @@ pub record PassedBelow (f : Flow) (ws₀ ws : List ℕ) (n e : ℕ) (found-opaqu
   pub passed : (j : ℕ) → j < i → Walks f e j → found-opaque ≡ false → Passed f ws n e j
   pub found : found-opaque ≡ true → theory.opaque f e ≡ true
 
-pub record BodyLoop (f : Flow) (ws₀ ws : List ℕ) (n e : ℕ) (found-opaque : Bool) (i : ℕ) : Type 0 where
+pub record BodyLoop (f : Flow) (ws₀ ws : List ℕ) (n e : ℕ) (found-opaque : Bool) (from : ℕ) : Type 0 where
+  pub below : PassedBelow f ws₀ ws n e found-opaque from
+  pub high : from ≤ n
+
+-- the next statement of the walk is i
+pub record Reached (f : Flow) (ws₀ ws : List ℕ) (n e : ℕ) (found-opaque : Bool) (from i : ℕ) : Type 0 where
   pub below : PassedBelow f ws₀ ws n e found-opaque i
-  pub high : i ≤ n
-  pub member : i < n → Walks f e i
+  pub later : from ≤ i
+  pub low : i < n
+  pub member : Walks f e i
 
--- to the next statement of the walk
-pub body-next : {f : Flow} {ws₀ ws : List ℕ} {n e from : ℕ} {found-opaque : Bool} → e < n → from ≤ n → PassedBelow f ws₀ ws n e found-opaque from → {i : ℕ} → i ≡ next_member ws (row_at n e) from n
-    → BodyLoop f ws₀ ws n e found-opaque i
-body-next {f} {ws₀} {ws} {n} {e} {from} {found-opaque} le l p {i} is = record {
-  below = record {
-    summing = p.summing;
-    onward = p.onward;
-    is_open = p.is_open;
+module _ {f : Flow} {ws₀ ws : List ℕ} {n e from : ℕ} {found-opaque : Bool} (le : e < n) (p : BodyLoop f ws₀ ws n e found-opaque from) where
+  walk_row : WalkRow f ws n e
+  walk_row = open_row p.below.is_open (p.below.summing.bodies e le)
+
+  -- no statement of the walk is passed over
+  passed-to : {i : ℕ} → ((j : ℕ) → from ≤ j → j < i → has ws (row_at n e) j ≡ 0) → PassedBelow f ws₀ ws n e found-opaque i
+  passed-to {i} absent = record {
+    summing = p.below.summing;
+    onward = p.below.onward;
+    is_open = p.below.is_open;
     passed = λ j h r z. passed j h r z (dec_lt j from);
-    found = p.found;
-  };
-  high = rw is is-first.high;
-  member = λ h. row.sound i h (rw is (is-first.member (rw is at h)));
-}
-  where
-    row : WalkRow f ws n e
-    row = open_row p.is_open (p.summing.bodies e le)
+    found = p.below.found;
+  }
+    where
+      passed : (j : ℕ) → j < i → Walks f e j → found-opaque ≡ false → Dec (j < from) → Passed f ws n e j
+      passed j h r z (yes k) = p.below.passed j k r z
+      passed j h r z (no k) = absurd (omega (arith, absent j (omega (arith, k)) h, walk_row.complete j r))
 
-    is-first : Rattle.words.specs.Clauses.Row.First ws (row_at n e) from n (next_member ws (row_at n e) from n)
-    is-first = first ws (row_at n e) from n l
+  pub reached : {i : ℕ} → Some i ≡ found_below (next_member ws (row_at n e) from n) n → Reached f ws₀ ws n e found-opaque from i
+  reached {i} is =
+      let found = next-some ws (row_at n e) from n p.high is in
+      record { below = passed-to found.0.none; later = found.0.low; low = found.1; member = walk_row.sound i found.1 (found.0.member found.1) }
 
-    passed : (j : ℕ) → j < i → Walks f e j → found-opaque ≡ false → Dec (j < from) → Passed f ws n e j
-    passed j h r z (yes k) = p.passed j k r z
-    passed j h r z (no k) = absurd (let w : j < next_member ws (row_at n e) from n = rw is at h in omega (arith, is-first.none j (omega (arith, k)) w, row.complete j r))
-
-pub next_low : (ws : List ℕ) (base : ℕ) {from n i : ℕ} → from ≤ n → i ≡ next_member ws base from n → from ≤ i
-next_low ws base {from} {n} l q = rw q (first ws base from n l).low
+  pub walk_passed : None ≡ found_below (next_member ws (row_at n e) from n) n → PassedBelow f ws₀ ws n e found-opaque n
+  walk_passed is = passed-to (next-none ws (row_at n e) from n p.high is)
 
 pub passed_none : {f : Flow} {ws : List ℕ} {n e : ℕ} → Summing f ws n → body ws n e ≡ opened → PassedBelow f ws ws n e false 0
 passed_none {ws = ws} {n} s h = record {
@@ -283,9 +280,9 @@ module _ {f : Flow} {n : ℕ} (w : WellFormed f) (sz : size f ≡ n) where
         passed x l t h (no d) = further (p.passed x (omega (arith, d)) t (or-first before found-opaque h))
 
   -- the walk is passed by: the body is summary_state
-  module _ {ws₀ ws : List ℕ} {e i : ℕ} {found-opaque : Bool} (room : matrix_at n ≤ length ws) (le : e < n) (p : PassedBelow f ws₀ ws n e found-opaque i) (end : n ≤ i) where
+  module _ {ws₀ ws : List ℕ} {e : ℕ} {found-opaque : Bool} (room : matrix_at n ≤ length ws) (le : e < n) (p : PassedBelow f ws₀ ws n e found-opaque n) where
     passed_all : {j : ℕ} → Walks f e j → found-opaque ≡ false → Passed f ws n e j
-    passed_all {j} r h = p.passed j (let l : j < n = walk_low w sz le j r in omega arith) r h
+    passed_all {j} r h = p.passed j (walk_low w sz le j r) r h
 
     is_transparent : found-opaque ≡ false → Transparent f e
     is_transparent h = Transparent.transparent (λ j r. (passed_all r h).keeps) (λ b k. go b k)

@@ -3,7 +3,7 @@
 use Prim.Native.Nat.{ℕ, zero, suc, ◌+◌, ◌/◌, ◌≤◌, ◌<◌}
 use mathlib.Core.List.{List}
 use mathlib.Core.Option.{none, some}
-use mathlib.Core.Path.{◌≡◌, refl, sym, ap, subst, ◌∙◌}
+use mathlib.Core.Path.{◌≡◌, refl, sym, ap, ◌∙◌}
 use native.Mathlib.Omega.{arith}
 use lib.ListN.{length, get_or}
 use Rattle.flow.specs.Limits.{max_file}
@@ -12,8 +12,8 @@ use Rattle.flow.specs.declared.StmtId.{StmtId}
 use Rattle.std.specs.Prelude.{Some, None}
 use Rattle.flow.specs.declared.Header.{Header}
 use Rattle.flow.specs.Clauses.Answers.{FitFile, FitRecord}
-use Rattle.records.specs.Clauses.Fields.{LineParts, call_line_count, call_line_at}
-use Rattle.flow.specs.Format.{flow_of, statements_of, line_count, handler_of, record_place, successor_count, successor_at}
+use Rattle.records.specs.Clauses.Fields.{call_line_count, call_line_at}
+use Rattle.flow.specs.Format.{flow_of, statements_of, handler_of, record_place, successor_count, successor_at}
 use Rattle.records.proofs.Files.{limited, record-fit}
 use Rattle.records.proofs.KindData.{call-line-fits}
 use Rattle.flow.proofs.Records.{references-fit}
@@ -23,10 +23,9 @@ use Rattle.theory.specs.Lists.{In}
 use Rattle.theory.specs.Body.{kind, call_lines, successors, walk_next}
 use Rattle.theory.proofs.Body.{walk_next-below}
 use Rattle.theory.proofs.Lists.{get_or-In}
-use Rattle.statements.specs.Clauses.Layout.{lines_at, calls_at, row_at, row_words}
-use Rattle.statements.specs.Clauses.Ready.{Ready, Indexed, Keeps}
-use Rattle.statements.proofs.Keeps.{ready_formed, ready-below, ready-room, ready-keeps, parts_keep}
-use Rattle.calls.specs.Clauses.Summing.{Located}
+use Rattle.statements.specs.Clauses.Layout.{row_at, row_words}
+use Rattle.statements.specs.Clauses.Ready.{Ready, Indexed}
+use Rattle.statements.proofs.Keeps.{ready_formed, ready-below, ready-room}
 use Rattle.statements.proofs.WellFormed.{well_formed}
 -- a handler is told as an entered statement is; dataflow cites these names
 pub use Rattle.statements.proofs.Told.{enters-at, enters-nothing, enters-at as told_at, enters-nothing as told_none}
@@ -67,16 +66,6 @@ module _ {s ws : List ℕ} {n : ℕ} (r : Ready s ws n) where
 
 pub successor-below : {s : List ℕ} → FitFile s → (i k : ℕ) → k < length (successors (flow_of s) i) → get_or (successors (flow_of s) i) k 0 < size (flow_of s)
 successor-below {s} h i k l = (well_formed h).successor i (get_or (successors (flow_of s) i) k 0) (get_or-In (successors (flow_of s) i) k 0 l)
-
--- what is noted of the file, by its header; it stands below the calls
-
-pub located : {s ws : List ℕ} {h : Header} → Indexed s h ws → Located s ws h.lines_at
-located {s} {ws} x =
-    let e = x.ready.count in
-    record { ready = subst (Ready s ws) e x.ready; parts = subst (λ (n : ℕ). LineParts s ws (lines_at n) n (line_count s)) e x.lines; lines = ap (λ (h : Header). h.lines_at) x.header }
-
-pub located_keeps : {s ws vs : List ℕ} {place lo hi : ℕ} → Located s ws place → Keeps lo hi ws vs → calls_at (statements_of s) ≤ lo → Located s vs place
-located_keeps l k h = record { ready = ready-keeps l.ready k (omega arith); parts = parts_keep l.parts k (omega arith); lines = l.lines }
 
 -- where the number of statements was read again
 pub ready-again : {s ws : List ℕ} {n : ℕ} → n ≡ statements_of s → Ready s ws (statements_of s) → Ready s ws n

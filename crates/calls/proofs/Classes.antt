@@ -1,17 +1,22 @@
 -- Which slots a doubled number has: by the kind of statement and by what its call is.
 -- A call's row holds the statements that it enters, and where it names one line, the statement that the line enters is the only one.
-use Prim.Native.Nat.{ℕ, ◌+◌, ◌/◌, ◌≤◌, ◌<◌}
+use Prim.Native.Nat.{ℕ, ◌+◌, ◌/◌, ◌≤◌, ◌<◌, zero-le}
 use mathlib.Core.Bool.{Bool, true, false, cond}
 use mathlib.Core.List.{List, [], ◌∷◌, append-nil}
 use mathlib.Core.Option.{Option, none, some}
-use mathlib.Core.Path.{◌≡◌, refl, sym, ◌∙◌, ap, subst}
+use mathlib.Core.Path.{◌≡◌, refl, sym, ◌∙◌, ap}
 use native.Mathlib.Omega.{arith}
 use native.Mathlib.Decide.{ℕ_discrete}
 use borrow.Author.Tests.{ne_eqb, eq-eqb}
 use lib.Dec.{eqb}
 use lib.ListN.{length, get_or}
-use Rattle.words.specs.Clauses.Row.{has, next_member, First}
-use Rattle.words.proofs.NextMember.{first}
+use Rattle.words.specs.Clauses.Row.{has, next_member, found_below, First}
+use Rattle.words.proofs.Found.{next-some, next-none}
+use Rattle.std.specs.Prelude as told
+use Rattle.std.specs.Prelude.{Some, None, MatchOption}
+use Rattle.std.specs.Option.{IsSomeAnd}
+use Rattle.flow.specs.declared.StmtId.{StmtId}
+use Rattle.flow.specs.Clauses.Answers.{statement_in}
 use Rattle.flow.specs.declared.Base.{Base}
 use Rattle.flow.specs.Flow.{Flow, size, enters}
 use Rattle.theory.specs.Lists.{elem, concat_map, option_list}
@@ -125,12 +130,9 @@ one_line f [] l e m = absurd (omega arith)
 one_line f (y ∷ []) l e m = let z : l ≡ 0 = omega arith in rw z (append-nil (option_list (enters f y)))
 one_line f (y ∷ (x ∷ ls)) l e m = absurd (omega arith)
 
-module _ {f : Flow} {ws : List ℕ} {n i : ℕ} {x : Call} (z : size f ≡ n) (h : CallOf f ws i x) (one : x.lines ≡ 1) {l : ℕ} (m : l < x.lines) {r : ℕ} (e : r ≡ next_member ws x.row 0 n) where
+module _ {f : Flow} {ws : List ℕ} {n i : ℕ} {x : Call} (z : size f ≡ n) (h : CallOf f ws i x) (one : x.lines ≡ 1) {l : ℕ} (m : l < x.lines) where
   entry : Option ℕ
   entry = enters f (get_or (call_lines (kind f i)) l 0)
-
-  member : First ws x.row 0 n r
-  member = subst (λ (k : ℕ). First ws x.row 0 n k) (sym e) (first ws x.row 0 n (omega arith))
 
   holds : (o : Option ℕ) → entry ≡ o → (j : ℕ) → j < n → has ws x.row j ≡ cond (elem j (option_list o)) 1 0
   unfolding entered entry
@@ -138,22 +140,33 @@ module _ {f : Flow} {ws : List ℕ} {n i : ℕ} {x : Call} (z : size f ≡ n) (h
       let c = h.lines in
       h.entered j (omega arith) ∙ ap (λ (bs : List ℕ). cond (elem j bs) 1 0) (one_line f (call_lines (kind f i)) l (omega arith) (omega arith) ∙ ap option_list q)
 
-  pub line-member : r < n → enters f (get_or (call_lines (kind f i)) l 0) ≡ some r
-  unfolding entry option_list elem
-  line-member b = go entry refl
+  line-member : {r : ℕ} → Some r ≡ found_below (next_member ws x.row 0 n) n → entry ≡ some r
+  unfolding option_list elem
+  line-member {r} e = go entry refl
     where
+      found : First ws x.row 0 n r × (r < n)
+      found = next-some ws x.row 0 n zero-le e
+
       go : (o : Option ℕ) → entry ≡ o → entry ≡ some r
-      go none q = absurd (omega (arith, holds none q r b, member.member b))
+      go none q = absurd (omega (arith, holds none q r found.1, found.0.member found.1))
       go (some d) q = at (ℕ_discrete r d)
         where
           at : Dec (r ≡ d) → entry ≡ some r
           at (yes s) = q ∙ ap some (sym s)
-          at (no s) = let has-none = rw (ne_eqb r d s) at (holds (some d) q r b) in absurd (omega (arith, has-none, member.member b))
+          at (no s) = let has-none = rw (ne_eqb r d s) at (holds (some d) q r found.1) in absurd (omega (arith, has-none, found.0.member found.1))
 
-  pub line_nowhere : n ≤ r → ((d : ℕ) → enters f (get_or (call_lines (kind f i)) l 0) ≡ some d → d < n) → enters f (get_or (call_lines (kind f i)) l 0) ≡ none
-  unfolding entry option_list elem
-  line_nowhere b below = go entry refl
+  line_nowhere : None ≡ found_below (next_member ws x.row 0 n) n → ((d : ℕ) → entry ≡ some d → d < n) → entry ≡ none
+  unfolding option_list elem
+  line_nowhere e below = go entry refl
     where
       go : (o : Option ℕ) → entry ≡ o → entry ≡ none
       go none q = q
-      go (some d) q = let s = below d q in let one = rw (eq-eqb d d refl) at (holds (some d) q d s) in absurd (omega (arith, one, member.none d (omega arith) (omega arith)))
+      go (some d) q = let s = below d q in let one = rw (eq-eqb d d refl) at (holds (some d) q d s) in absurd (omega (arith, one, next-none ws x.row 0 n zero-le e d zero-le s))
+
+  -- so the row's first member is what the line enters
+  pub line-first : (o : told.Option ℕ) (r : told.Option StmtId) → o ≡ found_below (next_member ws x.row 0 n) n → ((d : ℕ) → enters f (get_or (call_lines (kind f i)) l 0) ≡ some d → d < n)
+      → MatchOption o (r ≡ None) (λ b. IsSomeAnd r (λ s. s.0 ≡ b)) → r ≡ statement_in (enters f (get_or (call_lines (kind f i)) l 0))
+  unfolding entry
+  line-first None r e below is = is ∙ sym (ap statement_in (line_nowhere e below))
+  line-first (Some b) None e below is = absurd is
+  line-first (Some b) (Some s) e below is = ap (λ (k : ℕ). Some (record { 0 = k })) is ∙ sym (ap statement_in (line-member e))

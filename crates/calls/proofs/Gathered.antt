@@ -1,7 +1,7 @@
 -- Where the RETURNs of a call's bodies go: bit by bit of a word, word by word of a row that has the walks and of the row of RETURNs, and call by call.
 -- Each step adds what its part gives, so that the whole is what the definitions say.
 use Prim.Native.Nat.{ℕ, ◌+◌, ◌*◌, ◌/◌, ◌%◌, ◌^◌, ◌≤◌, ◌<◌, min, max}
-use mathlib.Core.Bool.{Bool, true, false, cond, not, ◌&&◌, ◌||◌, or-false, and_comm, and-false}
+use mathlib.Core.Bool.{Bool, true, false, cond, ◌&&◌, ◌||◌, or-false, and_comm, and-false}
 use mathlib.Core.List.{List, [], ◌∷◌, ◌++◌, append-nil}
 use mathlib.Core.Logic.{◌⊎◌, inl, inr}
 use mathlib.Core.Option.{Option, none, some}
@@ -27,7 +27,7 @@ use Rattle.theory.specs.Body.{kind, continuation_of, is_return, entered, callees
 use Rattle.theory.specs.Sure.{sure}
 use Rattle.theory.specs.Clauses.WellFormed.{WellFormed}
 use Rattle.theory.specs.Doubled.{returns_to, is_some}
-use Rattle.theory.proofs.Lists.{clash, same_test, not_so, eqb_sym, says_one, any_append, In-elem, elem-In, elem-not, elem-append, concat_map-append}
+use Rattle.theory.proofs.Lists.{same_test, not_so, eqb_sym, says_one, any_append, In-elem, elem-In, elem-not, elem-append, concat_map-append}
 use Rattle.theory.proofs.Body.{entered_below, walked-sound, walked-complete}
 use Rattle.statements.specs.Clauses.Layout.{sure_at, calls_at, call_touched_at, bodies_at, matrix_at, row_at, row_words, queue_at, solver_at, returns_row_at}
 use Rattle.statements.specs.Clauses.Ready.{Keeps, MembersWord}
@@ -153,10 +153,9 @@ return_walk {f} {e} w l is s =
     (λ q. eq-eqb s e (return-stays f is (walked-sound f e (elem-In s (walked f e) q))))
 
 -- a body that joins a row by itself, since no walk is asked for or its walk is itself
-pub adds_alone : {f : Flow} {ws vs : List ℕ} {n to e : ℕ} (whole ret : Bool) → (whole && not ret) ≡ false → WellFormed f → e < size f → ret ≡ is_return (kind f e) → Adds to ws vs n (e ∷ []) → Adds to ws vs n (body_of f whole e)
-adds_alone false ret h w l is a = a
-adds_alone true true h w l is a = adds_same a (return_walk w l (sym is))
-adds_alone true false h w l is a = clash true refl h
+pub adds_alone : {f : Flow} {ws vs : List ℕ} {n to e : ℕ} (whole : Bool) → (whole ≡ true → is_return (kind f e) ≡ true) → WellFormed f → e < size f → Adds to ws vs n (e ∷ []) → Adds to ws vs n (body_of f whole e)
+adds_alone false is w l a = a
+adds_alone true is w l a = adds_same a (return_walk w l (is refl))
 
 -- rows of walks stay where their members do
 

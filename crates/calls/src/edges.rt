@@ -10,10 +10,10 @@ ghost use Rattle.statements.specs.Clauses.Ready.{Ready, Indexed, RecordOf};
 ghost use Rattle.calls.specs.Clauses.Held.{Linked};
 ghost use Rattle.calls.specs.Clauses.Class.{transparent_call, CallOf};
 
-use crate::TRANSPARENT;
+use crate::SummaryState;
 use flow::StmtId;
 use flow::kind::Kind;
-use statements::layout;
+use statements::layout::{Layout, lines};
 
 // Where the call goes on, how many lines it names and successors it lists, and the place of its row of the matrix, which holds the statements that it enters.
 #[derive(Clone, Copy)]
@@ -26,14 +26,12 @@ pub struct Call {
 
 // Whether statement i, whose record stands at `place`, is a call that is not opaque. The kind is looked at first: most statements are no calls, and their
 // record is read anyway.
-pub fn is_call(file: &[u8], work: &[u64], n: usize, i: StmtId, place: usize) -> bool
-    requires { Ready file.now work.now n × Linked (flow_of file.now) work.now n × (i.0 < n) × RecordOf file.now i.0 place }
+pub fn is_call(file: &[u8], work: &[u64], layout: Layout, i: StmtId, place: usize) -> bool
+    requires { Ready file.now work.now layout.n × Linked (flow_of file.now) work.now layout.n × (i.0 < layout.n) × RecordOf file.now i.0 place }
     ensures { result ≡ transparent_call (flow_of file.now) i.0 }
 {
-    match records::kind(file, place) {
-        Kind::Gosub | Kind::OnGosub => work[layout::calls(n) + i.0] == TRANSPARENT,
-        _ => false,
-    }
+    matches!(records::kind(file, place), Kind::Gosub | Kind::OnGosub)
+        && work[layout.calls() + i.0] == SummaryState::Transparent as u64
 }
 
 // Where the call i goes on, which is not opaque.
@@ -46,15 +44,15 @@ fn continuation_of(file: &[u8], i: StmtId, place: usize) -> StmtId
 }
 
 // The call i that is not opaque.
-pub fn call_of(file: &[u8], work: &[u64], n: usize, i: StmtId, place: usize) -> Call
-    requires { Ready file.now work.now n × Linked (flow_of file.now) work.now n × (i.0 < n) × RecordOf file.now i.0 place × (transparent_call (flow_of file.now) i.0 ≡ true) }
+pub fn call_of(file: &[u8], work: &[u64], layout: Layout, i: StmtId, place: usize) -> Call
+    requires { Ready file.now work.now layout.n × Linked (flow_of file.now) work.now layout.n × (i.0 < layout.n) × RecordOf file.now i.0 place × (transparent_call (flow_of file.now) i.0 ≡ true) }
     ensures { CallOf (flow_of file.now) work.now i.0 result }
 {
     Call {
         continuation: continuation_of(file, i, place),
         lines: records::line_count(file, place),
         successors: records::successor_count(file, place),
-        row: layout::row(n, i),
+        row: layout.row(i),
     }
 }
 
@@ -74,14 +72,11 @@ pub fn line_entered(
 {
     let n = h.statements;
     if call.lines == 1 {
-        let b = words::next(work, call.row, 0, n);
-        if b < n {
-            return Some(StmtId(b));
-        }
-        return None;
+        return words::next(work, call.row, 0, n).map(StmtId);
     }
+    // The place of the record is at hand, which `fields::entered` looks up: a visit looks nothing up twice.
     let line = records::call_line(file, place, l);
-    records::lines::line_entry(file, h.lines_at, work, layout::lines(n), n, line)
+    records::lines::line_entry(file, h.lines_at, work, lines(n), n, line)
 }
 
 // Whether the successor s of a call is left out: it is the continuation, or entered.

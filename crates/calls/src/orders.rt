@@ -1,8 +1,7 @@
 // The order in which a call of several lines enters statements, each once: what a visit needs of its lines. It is noted once, as a list of 12-bit numbers, five in a word, as far as
 // there is room behind the matrix; a call whose list finds none looks its lines up.
-ghost use Rattle.std.specs.Prelude.{◌+◌, ◌/◌, ◌%◌, ◌^◌, ◌<◌, ◌≤◌, [], ◌∷◌, true, ◌≡◌, length, get_or};
+ghost use Rattle.std.specs.Prelude.{◌+◌, ◌/◌, ◌%◌, ◌^◌, ◌<◌, ◌≤◌, [], ◌∷◌, true, MatchOption, ◌≢◌, ◌≡◌, length, get_or};
 ghost use Rattle.flow.specs.Flow.{enters};
-ghost use Rattle.flow.specs.Limits.{max_statements};
 ghost use Rattle.flow.specs.Format.{flow_of};
 ghost use Rattle.theory.specs.Lists.{option_list};
 ghost use Rattle.theory.specs.Body.{kind, call_lines};
@@ -11,27 +10,31 @@ ghost use Rattle.statements.specs.Clauses.Ready.{Indexed};
 ghost use Rattle.calls.specs.Clauses.Held.{Area, Empty, CallSummaries};
 ghost use Rattle.calls.specs.Clauses.Orders.{order, several, entry_at, list_end, order_word, Put, Listing, Lists, OrderNoted, OrdersNoted};
 
-use crate::{TRANSPARENT, rows};
+use crate::{SummaryState, rows};
 use flow::StmtId;
-use statements::{fields, layout};
+use statements::fields;
+use statements::layout::Layout;
 
-// Where the list stands, or 0, and how many entries it has.
+// Where the list stands, and how many entries it has.
 #[derive(Clone, Copy)]
 pub struct Order {
     pub at: usize,
     pub count: usize,
 }
 
-// The order of the call i, as it is noted.
-pub fn order_of(work: &[u64], n: usize, i: StmtId) -> Order
-    requires { (n ≤ max_statements) × (i.0 < n) × (touched_at n + i.0 < length work.now) }
-    ensures { (result.at ≡ order_word work.now n i.0 % 2 ^ 32) × (result.count ≡ order_word work.now n i.0 / 2 ^ 32) }
+// The order of the call i, if a list of it is noted.
+pub fn order_of(work: &[u64], layout: Layout, i: StmtId) -> Option<Order>
+    requires { (i.0 < layout.n) × (touched_at layout.n + i.0 < length work.now) }
+    ensures { MatchOption result (order_word work.now layout.n i.0 ≡ 0) (λ order. (order.at ≡ order_word work.now layout.n i.0 % 2 ^ 32) × (order.count ≡ order_word work.now layout.n i.0 / 2 ^ 32) × (order_word work.now layout.n i.0 ≢ 0)) }
 {
-    let word = work[layout::touched(n) + i.0];
-    Order {
+    let word = work[layout.touched() + i.0];
+    if word == 0 {
+        return None;
+    }
+    Some(Order {
         at: (word % 0x1_0000_0000) as usize,
         count: (word >> 32) as usize,
-    }
+    })
 }
 
 // Entry k of the list at `at`.
@@ -54,11 +57,11 @@ fn put(work: &mut [u64], at: usize, k: usize, b: StmtId)
 }
 
 // b becomes an entry of the list, which has k, unless it is one. How many it has then comes back.
-fn list_statement(work: &mut [u64], n: usize, at: usize, k: usize, b: StmtId) -> usize
-    requires { Area work.old n × (b.0 < n) × (list_end at (k + 1) ≤ queue_at n) }
-    ensures { Lists work.old work.new n at k (b.0 ∷ []) result }
+fn list_statement(work: &mut [u64], layout: Layout, at: usize, k: usize, b: StmtId) -> usize
+    requires { Area work.old layout.n × (b.0 < layout.n) × (list_end at (k + 1) ≤ queue_at layout.n) }
+    ensures { Lists work.old work.new layout.n at k (b.0 ∷ []) result }
 {
-    if words::insert(work, layout::entered_row(n), b.0) {
+    if words::insert(work, layout.entered_row(), b.0) {
         put(work, at, k, b);
         return k + 1;
     }
@@ -78,8 +81,8 @@ fn list_line(
     requires { Indexed file.now h work.old × (c.0 < h.statements) × (l < length (call_lines (kind (flow_of file.now) c.0))) × (list_end at (k + 1) ≤ queue_at h.statements) }
     ensures { Lists work.old work.new h.statements at k (option_list (enters (flow_of file.now) (get_or (call_lines (kind (flow_of file.now) c.0)) l 0))) result }
 {
-    match fields::entered(file, h, work, c, l) {
-        Some(b) => list_statement(work, h.statements, at, k, b),
+    match fields::entered(file, work, h.statements, h.lines_at, c, l) {
+        Some(b) => list_statement(work, Layout { n: h.statements }, at, k, b),
         None => k,
     }
 }
@@ -115,10 +118,10 @@ fn note_list(
     requires { Indexed file.now h work.old × (c.0 < h.statements) × (count ≡ length (call_lines (kind (flow_of file.now) c.0))) × (lists_at h.statements ≤ at) × (list_end at count ≤ queue_at h.statements) × (several (flow_of file.now) c.0 ≡ true) }
     ensures { OrderNoted (flow_of file.now) work.old work.new h.statements c.0 at result }
 {
-    let n = h.statements;
-    rows::zero_row(work, n, layout::entered_row(n));
+    let layout = Layout { n: h.statements };
+    rows::zero_row(work, layout, layout.entered_row());
     let k = list_lines(file, h, work, c, at, count);
-    work[layout::touched(n) + c.0] = at as u64 + 0x1_0000_0000 * (k as u64);
+    work[layout.touched() + c.0] = at as u64 + 0x1_0000_0000 * (k as u64);
     at + (k + 4) / 5
 }
 
@@ -127,16 +130,16 @@ fn note_order(file: &[u8], h: flow::Header, work: &mut [u64], c: StmtId, at: usi
     requires { Indexed file.now h work.old × CallSummaries (flow_of file.now) work.old h.statements × (c.0 < h.statements) × (lists_at h.statements ≤ at) × (at ≤ queue_at h.statements) }
     ensures { OrderNoted (flow_of file.now) work.old work.new h.statements c.0 at result }
 {
-    let n = h.statements;
-    if work[layout::calls(n) + c.0] != TRANSPARENT {
+    let layout = Layout { n: h.statements };
+    if work[layout.calls() + c.0] != SummaryState::Transparent as u64 {
         return at;
     }
-    let count = fields::line_count(file, work, n, c);
+    let count = fields::line_count(file, work, layout.n, c);
     if count < 2 {
         return at;
     }
-    if layout::queue(n) < at + (count + 4) / 5 {
-        work[layout::touched(n) + c.0] = 0;
+    if layout.queue() < at + (count + 4) / 5 {
+        work[layout.touched() + c.0] = 0;
         return at;
     }
     note_list(file, h, work, c, at, count)
@@ -147,9 +150,9 @@ pub fn note_orders(file: &[u8], h: flow::Header, work: &mut [u64])
     requires { Indexed file.now h work.old × CallSummaries (flow_of file.now) work.old h.statements }
     ensures { OrdersNoted (flow_of file.now) work.old work.new h.statements h.statements }
 {
-    let n = h.statements;
-    let mut at = layout::lists(n);
-    for c in 0..n {
+    let layout = Layout { n: h.statements };
+    let mut at = layout.lists();
+    for c in 0..layout.n {
         at = note_order(file, h, work, StmtId(c), at);
     }
 }

@@ -11,59 +11,61 @@ ghost use Rattle.statements.specs.Clauses.Ready.{Ready, Indexed, Keeps};
 ghost use Rattle.calls.specs.Clauses.Held.{Area, Summarized, Linked};
 ghost use Rattle.calls.specs.Clauses.Joins.{Joins, Gains, Apart, Gathers, Adds, Summary, BodyRows, ReturnSet, if_return, in_word, is_shared, from_bodies};
 
-use crate::{OPAQUE, leaders, orders, rows};
+use crate::{SummaryState, leaders, orders, rows};
 use flow::StmtId;
-use statements::{fields, layout};
+use statements::fields;
+use statements::layout::Layout;
 
 // Statement r, if it is a RETURN, joins the row of RETURNs.
-fn note_return(file: &[u8], work: &mut [u64], n: usize, r: StmtId)
-    requires { Ready file.now work.old n × (r.0 < n) }
-    ensures { Adds (returns_row_at n) work.old work.new n (if_return (flow_of file.now) r.0) }
+fn note_return(file: &[u8], work: &mut [u64], layout: Layout, r: StmtId)
+    requires { Ready file.now work.old layout.n × (r.0 < layout.n) }
+    ensures { Adds (returns_row_at layout.n) work.old work.new layout.n (if_return (flow_of file.now) r.0) }
 {
-    if fields::is_return(file, work, n, r) {
-        words::insert(work, layout::returns_row(n), r.0);
+    if fields::is_return(file, work, layout.n, r) {
+        words::insert(work, layout.returns_row(), r.0);
     }
 }
 
 // The row of RETURNs.
-fn note_returns(file: &[u8], work: &mut [u64], n: usize)
-    requires { Ready file.now work.old n }
-    ensures { ReturnSet (flow_of file.now) work.new n × Keeps (returns_row_at n) (returns_row_at n + row_words n) work.old work.new }
+fn note_returns(file: &[u8], work: &mut [u64], layout: Layout)
+    requires { Ready file.now work.old layout.n }
+    ensures { ReturnSet (flow_of file.now) work.new layout.n × Keeps (returns_row_at layout.n) (returns_row_at layout.n + row_words layout.n) work.old work.new }
 {
-    rows::zero_row(work, n, layout::returns_row(n));
-    for r in 0..n {
-        note_return(file, work, n, StmtId(r));
+    rows::zero_row(work, layout, layout.returns_row());
+    for r in 0..layout.n {
+        note_return(file, work, layout, StmtId(r));
     }
 }
 
 // The statements that are bits of the word, which is word j of a row, go to k.
-fn note_word(work: &mut [u64], n: usize, word: u64, j: usize, k: StmtId)
-    requires { Area work.old n × (j < row_words n) × (k.0 < n) }
-    ensures { Gains work.old work.new n (queue_at n) (in_word word j) k.0 }
+fn note_word(work: &mut [u64], layout: Layout, word: u64, j: usize, k: StmtId)
+    requires { Area work.old layout.n × (j < row_words layout.n) × (k.0 < layout.n) }
+    ensures { Gains work.old work.new layout.n (queue_at layout.n) (in_word word j) k.0 }
 {
     let mut rest = word;
+    // No range: what is left is made by the body, and an iterator over bits would be a type of its own, longer than this loop.
     while rest != 0 {
         let lowest = rest.trailing_zeros() as usize;
         let r = 64 * j + lowest;
         // What the last word of a row has from n on is no statement.
-        if n <= r {
+        if layout.n <= r {
             return;
         }
-        words::insert(work, layout::row(n, StmtId(r)), k.0);
+        words::insert(work, layout.row(StmtId(r)), k.0);
         rest = words::difference(rest, 1u64 << lowest);
     }
 }
 
 // The RETURNs in the row at `row` go to k. The row is not the one of a RETURN, so that it stays while they are noted.
-fn note_shared(work: &mut [u64], n: usize, row: usize, k: StmtId)
-    requires { Area work.old n × Apart work.old n row × (k.0 < n) }
-    ensures { Gains work.old work.new n (queue_at n) (is_shared work.old n row) k.0 }
+fn note_shared(work: &mut [u64], layout: Layout, row: usize, k: StmtId)
+    requires { Area work.old layout.n × Apart work.old layout.n row × (k.0 < layout.n) }
+    ensures { Gains work.old work.new layout.n (queue_at layout.n) (is_shared work.old layout.n row) k.0 }
 {
-    let returns = layout::returns_row(n);
-    let width = layout::row_words(n);
+    let returns = layout.returns_row();
+    let width = layout.row_words();
     for j in 0..width {
         let word = work[row + j] & work[returns + j];
-        note_word(work, n, word, j, k);
+        note_word(work, layout, word, j, k);
     }
 }
 
@@ -72,9 +74,9 @@ fn gather_lines(file: &[u8], h: flow::Header, work: &mut [u64], c: StmtId) -> us
     requires { Indexed file.now h work.old × (c.0 < h.statements) × BodyRows (flow_of file.now) work.old h.statements c.0 }
     ensures { Gathers (flow_of file.now) work.old work.new h.statements (entered (flow_of file.now) c.0) result }
 {
-    let n = h.statements;
-    let row = layout::entered_row(n);
-    rows::zero_row(work, n, row);
+    let layout = Layout { n: h.statements };
+    let row = layout.entered_row();
+    rows::zero_row(work, layout, row);
     rows::add_lines(file, h, work, row, c, true);
     row
 }
@@ -84,13 +86,12 @@ fn gather(file: &[u8], h: flow::Header, work: &mut [u64], c: StmtId) -> usize
     requires { Indexed file.now h work.old × (c.0 < h.statements) × BodyRows (flow_of file.now) work.old h.statements c.0 × ReturnSet (flow_of file.now) work.old h.statements }
     ensures { Gathers (flow_of file.now) work.old work.new h.statements (entered (flow_of file.now) c.0) result }
 {
-    let n = h.statements;
-    if fields::line_count(file, work, n, c) == 1 {
-        if let Some(b) = fields::entered(file, h, work, c, 0) {
-            if !fields::is_return(file, work, n, b) {
-                return layout::row(n, b);
-            }
-        }
+    let layout = Layout { n: h.statements };
+    if fields::line_count(file, work, layout.n, c) == 1
+        && let Some(b) = fields::entered(file, work, layout.n, h.lines_at, c, 0)
+        && !fields::is_return(file, work, layout.n, b)
+    {
+        return layout.row(b);
     }
     gather_lines(file, h, work, c)
 }
@@ -100,9 +101,9 @@ fn note_bodies(file: &[u8], h: flow::Header, work: &mut [u64], c: StmtId, k: Stm
     requires { Indexed file.now h work.old × (c.0 < h.statements) × (k.0 < h.statements) × BodyRows (flow_of file.now) work.old h.statements c.0 × ReturnSet (flow_of file.now) work.old h.statements }
     ensures { Joins (flow_of file.now) work.old work.new h.statements (solver_at h.statements) (from_bodies (flow_of file.now) (entered (flow_of file.now) c.0) k.0) }
 {
-    let n = h.statements;
+    let layout = Layout { n: h.statements };
     let row = gather(file, h, work, c);
-    note_shared(work, n, row, k);
+    note_shared(work, layout, row, k);
 }
 
 // Statement c, if it is an opaque call with a continuation.
@@ -110,12 +111,12 @@ fn note_call(file: &[u8], h: flow::Header, work: &mut [u64], c: StmtId)
     requires { Indexed file.now h work.old × (c.0 < h.statements) × Summary (flow_of file.now) work.old h.statements c.0 × ReturnSet (flow_of file.now) work.old h.statements }
     ensures { Joins (flow_of file.now) work.old work.new h.statements (solver_at h.statements) (λ r k. returns_to (flow_of file.now) r k c.0) }
 {
-    let n = h.statements;
-    if work[layout::calls(n) + c.0] != OPAQUE {
+    let layout = Layout { n: h.statements };
+    if work[layout.calls() + c.0] != SummaryState::Opaque as u64 {
         return;
     }
     // A call that has a summary has a continuation, so there is nothing to do otherwise.
-    if let Some(k) = fields::continuation(file, work, n, c) {
+    if let Some(k) = fields::continuation(file, work, layout.n, c) {
         note_bodies(file, h, work, c, k);
     }
 }
@@ -127,13 +128,13 @@ pub fn note_edges(file: &[u8], h: flow::Header, work: &mut [u64])
     ensures linked { Linked (flow_of file.now) work.new h.statements }
     ensures keeps { Keeps (bodies_at h.statements) (returns_row_at h.statements + row_words h.statements) work.old work.new }
 {
-    let n = h.statements;
-    note_returns(file, work, n);
-    rows::clear_rows(file, work, n);
-    for c in 0..n {
+    let layout = Layout { n: h.statements };
+    note_returns(file, work, layout);
+    rows::clear_rows(file, work, layout);
+    for c in 0..layout.n {
         note_call(file, h, work, StmtId(c));
     }
     rows::note_rows(file, h, work);
-    leaders::note_leaders(file, work, n);
+    leaders::note_leaders(file, work, layout);
     orders::note_orders(file, h, work);
 }

@@ -2,39 +2,44 @@
 // calls, and a call's summary needs its subroutines, so the two functions call each other; the number of unentered entries falls.
 // What the two keep across a call of each other stands on the machine's stack once a level of a nest of subroutines. So they keep little, and
 // all else is done in functions of their own, which read again what they need: what is made from a number that is kept is kept with it.
-ghost use Rattle.std.specs.Prelude.{ℕ, ◌+◌, ◌<◌, ◌≤◌, ◌≡◌, length, get_or};
-ghost use Rattle.words.specs.Clauses.Row.{next_member};
-ghost use Rattle.flow.specs.Flow.{enters};
+ghost use Rattle.std.specs.Prelude.{ℕ, ◌+◌, ◌<◌, ◌≤◌, ◌≡◌, get_or};
+ghost use Rattle.words.specs.Clauses.Row.{next_member, found_below};
 ghost use Rattle.flow.specs.Limits.{max_statements};
 ghost use Rattle.flow.specs.Format.{flow_of, statements_of};
-ghost use Rattle.flow.specs.Clauses.Answers.{FitFile, statement_in};
+ghost use Rattle.flow.specs.Clauses.Answers.{FitFile};
 ghost use Rattle.statements.specs.Clauses.Layout.{sure_at, calls_at, row_at, entered_row_at};
-ghost use Rattle.statements.specs.Clauses.Ready.{Ready, Indexed, Keeps};
+ghost use Rattle.statements.specs.Clauses.Ready.{Ready, Indexed, Located, Keeps};
 ghost use Rattle.theory.specs.Lists.{In};
-ghost use Rattle.theory.specs.Body.{kind, call_lines, callees};
+ghost use Rattle.theory.specs.Body.{callees};
 ghost use Rattle.sure.specs.Clauses.SureArrays.{SureWords};
 ghost use Rattle.calls.specs.Clauses.Held.{NoSummaries, Summarized};
 ghost use Rattle.calls.specs.Clauses.Summing as state;
-ghost use Rattle.calls.specs.Clauses.Summing.{Summing, Leads, Located, WalkPassed, BodyJoined, Entered, Awaits, BodySummed, CallSummed, HandlerSummed};
+ghost use Rattle.calls.specs.Clauses.Summing.{Summing, Leads, WalkPassed, BodyJoined, Entered, Awaits, BodySummed, CallSummed, HandlerSummed};
 
 use crate::walk::walk;
-use crate::{OPAQUE, OPEN, TRANSPARENT, UNENTERED, rows};
+use crate::{SummaryState, rows};
 use flow::StmtId;
 use flow::bytes::u16_at;
-use statements::{fields, layout};
+use statements::fields;
+use statements::layout::Layout;
 
-// How many statements there are, as the header has it.
-fn statement_count(file: &[u8]) -> usize
+// Where the parts of the work area stand, by the number of statements that the header has.
+fn layout_of(file: &[u8]) -> Layout
     requires { FitFile file.now }
-    ensures { (result ≡ statements_of file.now) × (result ≤ max_statements) }
+    ensures { result.n ≡ statements_of file.now }
 {
-    u16_at(file, 2)
+    let n = u16_at(file, 2);
+    Layout { n }
 }
 
 fn summary_state(opaque: bool) -> u64
     ensures { result ≡ state.summary_state opaque }
 {
-    if opaque { OPAQUE } else { TRANSPARENT }
+    if opaque {
+        SummaryState::Opaque as u64
+    } else {
+        SummaryState::Transparent as u64
+    }
 }
 
 // Joins the references of statement i, and what it touches as a call, to what body e touches, and says whether it makes the body opaque.
@@ -42,13 +47,13 @@ fn pass_by(file: &[u8], work: &mut [u64], e: StmtId, i: StmtId) -> bool
     requires { Ready file.now work.old (statements_of file.now) × (e.0 < statements_of file.now) × (i.0 < statements_of file.now) }
     ensures { WalkPassed (flow_of file.now) work.old work.new (statements_of file.now) e.0 i.0 result }
 {
-    let n = statement_count(file);
-    let refs = fields::references_word(file, work, n, i);
-    let inner = work[layout::call_touched(n) + i.0];
-    let opaque_call = work[layout::calls(n) + i.0] == OPAQUE;
-    let wiped = fields::wipes(file, work, n, i);
-    words::union_word(work, layout::touched(n) + e.0, refs | inner);
-    opaque_call | wiped
+    let layout = layout_of(file);
+    let refs = fields::references_word(file, work, layout.n, i);
+    let inner = work[layout.call_touched() + i.0];
+    let opaque_call = work[layout.calls() + i.0] == SummaryState::Opaque as u64;
+    let wiped = fields::wipes(file, work, layout.n, i);
+    words::union_word(work, layout.touched() + e.0, refs | inner);
+    opaque_call || wiped
 }
 
 // Opens the body that starts at e, unless it was entered before, and says whether its walk is to be gone through. A RETURN's walk is
@@ -57,50 +62,49 @@ fn enter(file: &[u8], work: &mut [u64], e: StmtId) -> bool
     requires { Ready file.now work.old (statements_of file.now) × (e.0 < statements_of file.now) × Summing (flow_of file.now) work.old (statements_of file.now) }
     ensures { Entered (flow_of file.now) work.old work.new (statements_of file.now) e.0 result }
 {
-    let n = statement_count(file);
-    let at = layout::bodies(n) + e.0;
-    if work[at] != UNENTERED {
+    let layout = layout_of(file);
+    let at = layout.bodies() + e.0;
+    if work[at] != SummaryState::Unentered as u64 {
         return false;
     }
-    if fields::is_return(file, work, n, e) {
+    if fields::is_return(file, work, layout.n, e) {
         pass_by(file, work, e, e);
-        work[at] = TRANSPARENT;
+        work[at] = SummaryState::Transparent as u64;
         return false;
     }
-    work[at] = OPEN;
+    work[at] = SummaryState::Open as u64;
     // The matrix is not zeroed before: each row is when it is first needed.
-    rows::zero_row(work, n, layout::row(n, e));
-    walk(file, work, n, e);
+    rows::zero_row(work, layout, layout.row(e));
+    walk(file, work, layout, e);
     true
 }
 
-// The first statement of the walk of e from that one on; past the last there is none.
-fn next_walked(file: &[u8], work: &[u64], e: StmtId, from: usize) -> usize
+// The first statement of the walk of e from that one on.
+fn next_walked(file: &[u8], work: &[u64], e: StmtId, from: usize) -> Option<usize>
     requires { Ready file.now work.now (statements_of file.now) × (e.0 < statements_of file.now) }
-    ensures { result ≡ next_member work.now (row_at (statements_of file.now) e.0) from (statements_of file.now) }
+    ensures { result ≡ found_below (next_member work.now (row_at (statements_of file.now) e.0) from (statements_of file.now)) (statements_of file.now) }
 {
-    let n = statement_count(file);
-    words::next(work, layout::row(n, e), from, n)
+    let layout = layout_of(file);
+    words::next(work, layout.row(e), from, layout.n)
 }
 
 // The body that starts at e gets its summary, once. The file's lines stand at `lines_at`.
 #[cycle(call_summary_sub_effect)]
 fn sub_effect(file: &[u8], work: &mut [u64], lines_at: usize, e: StmtId)
-    requires { Located file.now work.old lines_at × (e.0 < statements_of file.now) × Summing (flow_of file.now) work.old (statements_of file.now) × Leads (flow_of file.now) work.old (statements_of file.now) e.0 }
+    requires { Located file.now work.old (statements_of file.now) lines_at × (e.0 < statements_of file.now) × Summing (flow_of file.now) work.old (statements_of file.now) × Leads (flow_of file.now) work.old (statements_of file.now) e.0 }
     ensures { BodySummed (flow_of file.now) work.old work.new (statements_of file.now) e.0 }
 {
     if !enter(file, work, e) {
         return;
     }
     let mut opaque = false;
-    let mut i = next_walked(file, work, e, 0);
-    while i < statement_count(file) {
+    let mut from = 0;
+    while let Some(i) = next_walked(file, work, e, from) {
         call_summary(file, work, lines_at, StmtId(i));
-        let hides = pass_by(file, work, e, StmtId(i));
-        opaque = opaque | hides;
-        i = next_walked(file, work, e, i + 1);
+        opaque |= pass_by(file, work, e, StmtId(i));
+        from = i + 1;
     }
-    work[layout::bodies(statement_count(file)) + e.0] = summary_state(opaque);
+    work[layout_of(file).bodies() + e.0] = summary_state(opaque);
 }
 
 // Whether statement c is a call with a continuation that has no summary yet.
@@ -108,22 +112,11 @@ fn awaits(file: &[u8], work: &[u64], c: StmtId) -> bool
     requires { Ready file.now work.now (statements_of file.now) × (c.0 < statements_of file.now) }
     ensures { Awaits (flow_of file.now) work.now (statements_of file.now) c.0 result }
 {
-    let n = statement_count(file);
-    if work[layout::calls(n) + c.0] != UNENTERED {
+    let layout = layout_of(file);
+    if work[layout.calls() + c.0] != SummaryState::Unentered as u64 {
         return false;
     }
-    fields::continuation(file, work, n, c).is_some()
-}
-
-// The statement that line k of the call c enters, if any.
-fn entered(file: &[u8], work: &[u64], lines_at: usize, c: StmtId, k: usize) -> Option<StmtId>
-    requires { Located file.now work.now lines_at × (c.0 < statements_of file.now) × (k < length (call_lines (kind (flow_of file.now) c.0))) }
-    ensures { result ≡ statement_in (enters (flow_of file.now) (get_or (call_lines (kind (flow_of file.now) c.0)) k 0)) }
-{
-    let n = statement_count(file);
-    let place = fields::offset(file, work, n, c);
-    let line = records::call_line(file, place, k);
-    records::lines::line_entry(file, lines_at, work, layout::lines(n), n, line)
+    fields::continuation(file, work, layout.n, c).is_some()
 }
 
 // Joins what body b touches to what the call c touches, and says whether the body is not transparent: an open one is opaque, since it
@@ -132,10 +125,10 @@ fn join_body(file: &[u8], work: &mut [u64], c: StmtId, b: StmtId) -> bool
     requires { Ready file.now work.old (statements_of file.now) × (c.0 < statements_of file.now) × (b.0 < statements_of file.now) }
     ensures { BodyJoined work.old work.new (statements_of file.now) c.0 b.0 result }
 {
-    let n = statement_count(file);
-    let opaque_body = work[layout::bodies(n) + b.0] != TRANSPARENT;
-    let inner = work[layout::touched(n) + b.0];
-    words::union_word(work, layout::call_touched(n) + c.0, inner);
+    let layout = layout_of(file);
+    let opaque_body = work[layout.bodies() + b.0] != SummaryState::Transparent as u64;
+    let inner = work[layout.touched() + b.0];
+    words::union_word(work, layout.call_touched() + c.0, inner);
     opaque_body
 }
 
@@ -143,24 +136,21 @@ fn join_body(file: &[u8], work: &mut [u64], c: StmtId, b: StmtId) -> bool
 // arrays that they touch.
 #[cycle(call_summary_sub_effect)]
 fn call_summary(file: &[u8], work: &mut [u64], lines_at: usize, c: StmtId)
-    requires { Located file.now work.old lines_at × (c.0 < statements_of file.now) × Summing (flow_of file.now) work.old (statements_of file.now) × ((b : ℕ) → In b (callees (flow_of file.now) c.0) → Leads (flow_of file.now) work.old (statements_of file.now) b) }
+    requires { Located file.now work.old (statements_of file.now) lines_at × (c.0 < statements_of file.now) × Summing (flow_of file.now) work.old (statements_of file.now) × ((b : ℕ) → In b (callees (flow_of file.now) c.0) → Leads (flow_of file.now) work.old (statements_of file.now) b) }
     ensures { CallSummed (flow_of file.now) work.old work.new (statements_of file.now) c.0 }
 {
     if !awaits(file, work, c) {
         return;
     }
-    let count = fields::line_count(file, work, statement_count(file), c);
+    let count = fields::line_count(file, work, layout_of(file).n, c);
     let mut opaque = false;
-    let mut k = 0;
-    while k < count {
-        if let Some(b) = entered(file, work, lines_at, c, k) {
+    for k in 0..count {
+        if let Some(b) = fields::entered(file, work, layout_of(file).n, lines_at, c, k) {
             sub_effect(file, work, lines_at, b);
-            let opaque_body = join_body(file, work, c, b);
-            opaque = opaque | opaque_body;
+            opaque |= join_body(file, work, c, b);
         }
-        k += 1;
     }
-    work[layout::calls(statement_count(file)) + c.0] = summary_state(opaque);
+    work[layout_of(file).calls() + c.0] = summary_state(opaque);
 }
 
 // The body of the handler, if there is one, gets its summary.

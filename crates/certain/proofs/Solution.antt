@@ -8,7 +8,8 @@ use mathlib.Core.Path.{◌≡◌, refl, sym, ◌∙◌, ap, subst}
 use native.Mathlib.Decide.{dec_lt, ℕ_discrete}
 use native.Mathlib.Omega.{arith}
 use lib.ListN.{length, get_or, get_or-eq_default}
-use Rattle.words.specs.Clauses.Row.{SomeMember}
+use Rattle.std.specs.Prelude.{None}
+use Rattle.words.specs.Clauses.Row.{has, SomeMember}
 use Rattle.words.specs.Clauses.Change.{zeroed}
 use Rattle.words.proofs.Pair.{full_row}
 use Rattle.words.proofs.Zeroed.{zeroed-word}
@@ -23,7 +24,7 @@ use Rattle.statements.proofs.Members.{zero_has}
 use Rattle.solve.specs.Clauses.Sets.{Comes, Leaves}
 use Rattle.solve.proofs.Sets.{takes_all, complete}
 use Rattle.certain.specs.Clauses.Layout.{set_at, waiting_at, waiting_end, elements}
-use Rattle.certain.specs.Clauses.Unwritten.{forward, sets, Waits, Held, Pushed, Visited, Begun, Solved}
+use Rattle.certain.specs.Clauses.Unwritten.{forward, sets, Waits, Held, Pushed, Begun, Solved}
 
 -- Walks of the law and of the definition
 
@@ -78,24 +79,22 @@ begun_held f {ws} {vs} {n} {entry} e b = record {
 
 -- The loop
 
-pub record Solving (f : Flow) (ws₀ ws : List ℕ) (n i : ℕ) : Type 0 where
+pub record Solving (f : Flow) (ws₀ ws : List ℕ) (n last : ℕ) : Type 0 where
   pub held : Held f ws n
-  pub next : SomeMember ws (waiting_at n) n i
+  pub low : last ≤ n
   pub kept : Keeps n (waiting_end n) ws₀ ws
 
 pub solving-first : (f : Flow) {ws vs : List ℕ} {n entry : ℕ} → entry < n → entry ≡ f.entry → Begun ws vs n entry → Solving f vs vs n entry
-solving-first f l e b = record {
-  held = begun_held f e b;
-  next = record { high = omega arith; member = λ m. b.waits; none = λ m. absurd (omega arith) };
-  kept = keeps-refl;
-}
+solving-first f l e b = record { held = begun_held f e b; low = omega arith; kept = keeps-refl }
 
-pub solving-more : {f : Flow} {ws₀ ws vs : List ℕ} {n i row r : ℕ} → Solving f ws₀ ws n i → Visited f ws vs n i → row ≡ waiting_at n → SomeMember vs row n r → Solving f ws₀ vs n r
-solving-more {vs = vs} {n} {r = r} h v e next = record { held = v.held h.held; next = subst (λ z. SomeMember vs z n r) e next; kept = keeps-trans h.kept v.kept }
-
-pub solved : {f : Flow} {ws₀ ws vs : List ℕ} {n i : ℕ} → size f ≡ n → Keeps n (waiting_end n) ws₀ ws → Solving f ws vs n i → n ≤ i → Solved f ws₀ vs n
-solved {f} {n = n} size k h l = record {
-  sound = λ a x b m e. comes-unwritten (h.held.sound a x b m e);
-  complete = λ a x b m u. complete takes_all h.held (λ k m w. absurd (omega (arith, h.next.none l k m))) (λ c j e. subst (λ z. j < z) size (successor_of f c j e)) b m (unwritten-comes u);
+-- where no statement waits
+pub solved : {f : Flow} {ws₀ ws vs : List ℕ} {n last row : ℕ} → size f ≡ n → Keeps n (waiting_end n) ws₀ ws → Solving f ws vs n last → row ≡ waiting_at n → SomeMember vs row n None
+    → Solved f ws₀ vs n
+solved {f} {vs = vs} {n} size k h e none = record {
+  sound = λ a x b m p. comes-unwritten (h.held.sound a x b m p);
+  complete = λ a x b m u. complete takes_all h.held (λ j l w. absurd (omega (arith, still j l, w))) (λ c j p. subst (λ z. j < z) size (successor_of f c j p)) b m (unwritten-comes u);
   kept = keeps-trans k h.kept;
 }
+  where
+    still : (j : ℕ) → j < n → has vs (waiting_at n) j ≡ 0
+    still = subst (λ z. SomeMember vs z n None) e none

@@ -12,15 +12,17 @@ use Rattle.flow.specs.declared.StmtId.{StmtId}
 use Rattle.flow.specs.declared.Header.{Header}
 use Rattle.flow.specs.Limits.{max_arrays}
 use Rattle.flow.specs.Format.{flow_of}
+use Rattle.flow.specs.declared.Base.TheVariants.{N}
+use Rattle.theory.specs.Doubled.{at, number, number_in}
 use Rattle.records.proofs.Files.{limited}
 use Rattle.statements.specs.Clauses.Layout.{set_words, max_width}
 use Rattle.statements.specs.Clauses.Ready.{Indexed}
-use Rattle.statements.proofs.Keeps.{ready-size, ready_formed}
+use Rattle.statements.proofs.Keeps.{ready-most, ready-size, ready_formed}
 use Rattle.statements.proofs.WellFormed.{arrays-is}
 use Rattle.calls.proofs.Checked.{handler-at, handler-none}
 use Rattle.calls.proofs.Summing.{handler-low}
 use Rattle.solve.specs.Clauses.Layout.{area_end}
-use Rattle.solve.proofs.Room.{solver_room}
+use Rattle.solve.proofs.Room.{key-room, nodes-room, solver_room}
 
 module _ {s ws : List ℕ} {h : Header} (x : Indexed s h ws) where
   pub arrays_told : h.arrays ≡ (flow_of s).arrays
@@ -45,6 +47,10 @@ module _ {s ws : List ℕ} {h : Header} (x : Indexed s h ws) where
   pub handler-within : {k : StmtId} → h.handler ≡ Some k → k.0 < h.statements
   handler-within {k} e = let r = x.ready in handler-low (ready_formed r) (ready-size r) _ (handler-at x k e)
 
+  -- and n + the handler has that number
+  pub handler-number : (e : ℕ) {d : ℕ} → d ≡ number_in h.statements (at N e) → d ≡ number (flow_of s) (at N e)
+  handler-number e q = q ∙ ap (λ (m : ℕ). number_in m (at N e)) (sym (ready-size x.ready))
+
   is-some : (o : Option StmtId) → true ≡ is_some o → (k : StmtId) × (o ≡ Some k)
   is-some None e = let z : ◌≡◌ {A = ℕ} 0 1 = cc in absurd (omega arith)
   is-some (Some k) e = (k, refl)
@@ -58,3 +64,6 @@ module _ {s ws : List ℕ} {h : Header} (x : Indexed s h ws) where
 
   pub unhandled : false ≡ is_some h.handler → (flow_of s).handler ≡ none
   unhandled e = handler-none x (is-none h.handler e)
+
+-- how many statements there are, and the words that the area has for them
+pub ruleset sizes = (ready-most, ready-size, arrays-few, narrow, room, key-room, nodes-room, handler-within)

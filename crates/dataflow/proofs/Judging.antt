@@ -3,7 +3,7 @@
 use Prim.Native.Nat.{ℕ, ◌*◌, ◌≤◌}
 use native.Mathlib.Omega.{arith}
 use mathlib.Core.Bool.{Bool, true, false, cond, ◌&&◌}
-use mathlib.Core.List.{List}
+use mathlib.Core.List.{List, [], ◌∷◌, ◌++◌}
 use mathlib.Core.Path.{◌≡◌, refl, ap, sym, ◌∙◌, subst}
 use lib.Dec.{leb}
 use lib.ListN.{length, replicate}
@@ -16,7 +16,7 @@ use Rattle.flow.specs.declared.Header.{Header}
 use Rattle.std.specs.Prelude.{Result, Ok, Err}
 use Rattle.flow.specs.Limits.{work_words}
 use Rattle.flow.specs.Flow.{size}
-use Rattle.flow.specs.Format.{Verdict, fit, unfit, verdict, file_checks, area_checks, flow_of, statements_of, arrays_of}
+use Rattle.flow.specs.Format.{Verdict, Check, fit, unfit, first, verdict, file_checks, area_check, area_checks, flow_of, statements_of, arrays_of}
 use Rattle.flow.specs.Clauses.Answers.{FitFile, is_fit}
 use Rattle.flow.specs.Clauses.Answers.{header_of, answer_of}
 use Rattle.flow.proofs.Verdicts.{fit_append, unfit-append}
@@ -37,6 +37,15 @@ not_both e h = let z : ◌≡◌ {A = ℕ} 0 1 = cc in omega arith
 
 pub same_refusal : {T : Type 0} {r x : Refusal} {v : Verdict} → v ≡ unfit r → v ≡ unfit x → ◌≡◌ {A = Result T Refusal} (Err r) (Err x)
 same_refusal e h = cc
+
+-- an area is judged after checks that are fit
+pub area-judged : (checks : List Check) {n m : ℕ} (have : ℕ) → verdict checks ≡ fit → n ≡ m → (b : Bool) → leb m have ≡ b → verdict (checks ++ (area_check n have ∷ [])) ≡ cond b fit (unfit Areas)
+unfolding verdict
+area-judged checks have e count b d = fit_append checks _ e ∙ ap (λ n. first (leb n have) Areas fit) count ∙ ap (λ z. first z Areas fit) d ∙ go b
+  where
+    go : (b : Bool) → first b Areas fit ≡ cond b fit (unfit Areas)
+    go true = refl
+    go false = refl
 
 module _ (s masks live_in live_out work : List ℕ) where
   -- a refusal changes nothing

@@ -16,9 +16,9 @@ use Rattle.flow.specs.declared.Header.{Header}
 use Rattle.std.specs.Prelude.{Ok, Err}
 use Rattle.flow.specs.Limits.{work_words}
 use Rattle.flow.specs.Flow.{Flow, size}
-use Rattle.flow.specs.Format.{fit, unfit, first, area_check, verdict, file_checks, flow_of, statements_of, names_of}
+use Rattle.flow.specs.Format.{fit, unfit, area_check, verdict, file_checks, flow_of, statements_of, names_of}
 use Rattle.flow.specs.Clauses.Answers.{FitFile}
-use Rattle.flow.proofs.Verdicts.{fit_append, unfit-append}
+use Rattle.flow.proofs.Verdicts.{unfit-append}
 use Rattle.records.specs.Clauses.Fields.{noted_word}
 use Rattle.records.proofs.Statements.{size_is}
 use Rattle.theory.specs.Lists.{max_below}
@@ -36,7 +36,7 @@ use Rattle.interference.proofs.Counted.{most_is}
 use Rattle.dataflow.specs.Certain.{judged_work}
 use Rattle.dataflow.specs.Interference.{judged_rows, InterferenceFound, InterferencePromise}
 use Rattle.dataflow.specs.Clauses.Conflicts.{FitRows, ConflictsFound}
-use Rattle.dataflow.proofs.Judging.{not_both, same_refusal}
+use Rattle.dataflow.proofs.Judging.{not_both, same_refusal, area-judged}
 
 -- what was found keeps the promise
 
@@ -65,17 +65,7 @@ module _ (s rows work : List ℕ) where
   judged-rows = ap verdict (sym (append_assoc (file_checks s) (area_check (work_words (size (flow_of s))) (length work) ∷ []) (area_check (flow_of s).names (length rows) ∷ [])))
 
   rows-judged : judged_work s (length work) ≡ fit → (b : Bool) → leb (names_of s) (length rows) ≡ b → judged_rows s (length rows) (length work) ≡ cond b fit (unfit Areas)
-  unfolding verdict
-  rows-judged e b d =
-      judged-rows
-      ∙ fit_append (file_checks s ++ (area_check (work_words (size (flow_of s))) (length work) ∷ [])) _ e
-      ∙ ap (λ n. first (leb n (length rows)) Areas fit) (names_is s)
-      ∙ ap (λ z. first z Areas fit) d
-      ∙ go b
-    where
-      go : (b : Bool) → first b Areas fit ≡ cond b fit (unfit Areas)
-      go true = refl
-      go false = refl
+  rows-judged e b d = judged-rows ∙ area-judged (file_checks s ++ (area_check (work_words (size (flow_of s))) (length work) ∷ [])) (length rows) e (names_is s) b d
 
   -- a refusal changes nothing
   refusing : (r : Refusal) → judged_rows s (length rows) (length work) ≡ unfit r → InterferencePromise s rows rows work work (Err r)

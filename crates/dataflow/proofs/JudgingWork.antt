@@ -14,9 +14,9 @@ use Rattle.flow.specs.declared.StmtId.{StmtId}
 use Rattle.std.specs.Prelude.{Ok, Err, Some, None}
 use Rattle.flow.specs.declared.Header.{Header}
 use Rattle.flow.specs.Limits.{work_words}
-use Rattle.flow.specs.Format.{fit, unfit, first, verdict, file_checks, flow_of, statements_of, handler_of}
+use Rattle.flow.specs.Format.{fit, unfit, verdict, file_checks, flow_of, statements_of, handler_of}
 use Rattle.flow.specs.Clauses.Answers.{FitFile, header_of, answer_of}
-use Rattle.flow.proofs.Verdicts.{fit_append, unfit-append, fit-left}
+use Rattle.flow.proofs.Verdicts.{unfit-append, fit-left}
 use Rattle.flow.proofs.Answers.{verdict-passed, verdict-refused}
 use Rattle.records.proofs.Statements.{size_is}
 use Rattle.words.specs.Clauses.Change.{noted}
@@ -29,21 +29,12 @@ use Rattle.statements.proofs.Told.{enters-at, enters-nothing}
 use Rattle.certain.specs.Clauses.CertainNames.{CertainStart}
 use Rattle.dataflow.specs.Certain.{judged_work, CertainFound, CertainPromise}
 use Rattle.dataflow.specs.Clauses.Phases.{FitRoom, FitFlow}
-use Rattle.dataflow.proofs.Judging.{not_both, same_refusal}
+use Rattle.dataflow.proofs.Judging.{not_both, same_refusal, area-judged}
 
 -- the file and the work area
 module _ (s : List ℕ) (work : ℕ) where
   pub judged-work : FitFile s → (b : Bool) → leb (work_words (statements_of s)) work ≡ b → judged_work s work ≡ cond b fit (unfit Areas)
-  unfolding verdict
-  judged-work h b e =
-      fit_append (file_checks s) _ h.checked
-      ∙ ap (λ n. first (leb (work_words n) work) Areas fit) (size_is s)
-      ∙ ap (λ z. first z Areas fit) e
-      ∙ go b
-    where
-      go : (b : Bool) → first b Areas fit ≡ cond b fit (unfit Areas)
-      go true = refl
-      go false = refl
+  judged-work h = area-judged (file_checks s) work h.checked (ap work_words (size_is s))
 
   pub file-unfit : {r : Refusal} → Err r ≡ answer_of (verdict (file_checks s)) (header_of s) → judged_work s work ≡ unfit r
   file-unfit e = unfit-append (file_checks s) _ (verdict-refused _ _ e)

@@ -1,13 +1,16 @@
 -- From sets of arrays to bytes: eight bits spread to the bytes of a word, a test that antt computes at the 256 values of the bits; the masks that three such words
 -- sum up to; and the masks of a word of each set, joined over two rows, or from some array on; the same sets make the same masks. Assumes nothing.
 use Prim.Native.Nat.{ℕ, zero, suc, ◌+◌, ◌*◌, ◌/◌, ◌%◌, ◌^◌, ◌<◌, ◌≤◌, max}
+use native.Mathlib.Nat.{div-one}
 use native.Mathlib.Omega.{arith}
 use mathlib.Core.List.{List}
 use mathlib.Core.Path.{◌≡◌, refl, sym, ap, ap₂, ◌∙◌}
 use lib.Bits.{bit_and, bit_or}
 use lib.Dec.{eqb, eqb→eq}
 use lib.ListN.{get_or}
-use Rattle.words.specs.Clauses.Byte.{bytes}
+use Rattle.std.specs.Int.{w64, to_le_bytes}
+use Rattle.flow.specs.Format.{tabulate}
+use Rattle.words.specs.Clauses.Byte.{byte_of, bytes}
 use Rattle.words.specs.Clauses.Row.{bit, has}
 use Rattle.words.proofs.Bit.{bit-lt, bit-or, bit-shr}
 use Rattle.words.proofs.Row.{has-lt, has_word}
@@ -75,6 +78,11 @@ module _ (ws : List ℕ) (n w : ℕ) where
       ∙ sym (both_masks i k (a % 64) (omega arith))
       ∙ rw (same k (omega arith), same (w + k) (omega arith), same (2 * w + k) (omega arith)) (both_masks j k (a % 64) (omega arith))
       ∙ ap (both_copies ws n w j) (sym whole)
+
+-- the bytes of a word, as the word gives them
+pub le-bytes : (word : ℕ) → to_le_bytes w64 word ≡ tabulate 8 (byte_of word)
+unfolding byte_of tabulate
+le-bytes word = rw div-one refl
 
 -- the masks of a word of each set from array s on
 pub mask-shr : (none auto dimmed s j : ℕ) → mask_in (none / 2 ^ s) (auto / 2 ^ s) (dimmed / 2 ^ s) j ≡ mask_in none auto dimmed (s + j)

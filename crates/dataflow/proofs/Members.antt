@@ -2,11 +2,13 @@
 -- By what the rows of RETURNs hold.
 use Prim.Native.Nat.{ℕ, ◌≤◌, ◌<◌}
 use mathlib.Core.Bool.{Bool, true, false, cond}
-use mathlib.Core.List.{List}
+use mathlib.Core.List.{List, []}
 use mathlib.Core.Path.{◌≡◌, refl, sym, subst, ◌∙◌}
+use native.Mathlib.Nat.{le_refl}
 use native.Mathlib.Omega.{arith}
-use Rattle.words.specs.Clauses.Row.{next_member, First}
-use Rattle.words.proofs.NextMember.{first}
+use Rattle.std.specs.Prelude.{Option, Some, None}
+use Rattle.words.specs.Clauses.Row.{has, next_member, found_below}
+use Rattle.words.proofs.Found.{next-some, next-none}
 use Rattle.flow.specs.declared.Base.TheVariants.{Zero}
 use Rattle.flow.specs.Flow.{Flow, size}
 use Rattle.theory.specs.Lists.{any, up_to}
@@ -15,13 +17,13 @@ use Rattle.theory.specs.Doubled.{returns_to}
 use Rattle.statements.specs.Clauses.Layout.{row_at}
 use Rattle.calls.specs.Clauses.Held.{Linked}
 use Rattle.calls.specs.Clauses.Slots.{return_slots}
-use Rattle.calls.proofs.Found.{left_from, member-next}
+use Rattle.calls.proofs.Found.{left_from, member-next, member-end}
 
--- k is the next continuation from c on, or there is none and k is n
+-- k is the next continuation from c on
 pub record NextReturn (f : Flow) (n i c k : ℕ) : Type 0 where
   pub low : c ≤ k
-  pub high : k ≤ n
-  pub member : k < n → any (returns_to f i k) (up_to (size f)) ≡ true
+  pub high : k < n
+  pub member : any (returns_to f i k) (up_to (size f)) ≡ true
   pub passed : left_from c (return_slots f Zero i) ≡ left_from k (return_slots f Zero i)
 
 one : (b : Bool) → ◌≡◌ {A = ℕ} (cond b 1 0) 1 → b ≡ true
@@ -32,13 +34,23 @@ none : (b : Bool) → ◌≡◌ {A = ℕ} (cond b 1 0) 0 → b ≡ false
 none true e = absurd (omega arith)
 none false e = refl
 
-pub next-return : {f : Flow} {ws : List ℕ} {n i c row k : ℕ} → Linked f ws n → size f ≡ n → is_return (kind f i) ≡ true → i < n → c ≤ n → row ≡ row_at n i → k ≡ next_member ws row c n → NextReturn f n i c k
-next-return {f} {ws} {n} {i} {c} {row} {k} h z r l few e is = record {
-  low = next.low;
-  high = next.high;
-  member = λ b. one _ (sym (h.returns i k l b r) ∙ next.member b);
-  passed = member-next f i c k next.low (let most = next.high in omega arith) (λ j a b. none _ (sym (h.returns i j l (let most = next.high in omega arith) r) ∙ next.none j a b));
-}
-  where
-    next : First ws (row_at n i) c n k
-    next = subst (λ (x : ℕ). First ws x c n k) e (subst (λ (x : ℕ). First ws row c n x) (sym is) (first ws row c n few))
+module _ {f : Flow} {ws : List ℕ} {n i c row : ℕ} (h : Linked f ws n) (z : size f ≡ n) (r : is_return (kind f i) ≡ true) (l : i < n) (few : c ≤ n) (e : row ≡ row_at n i) where
+  at_row : {o : Option ℕ} → o ≡ found_below (next_member ws row c n) n → o ≡ found_below (next_member ws (row_at n i) c n) n
+  at_row {o} = subst (λ (x : ℕ). o ≡ found_below (next_member ws x c n) n) e
+
+  -- those that are no members are passed
+  skipped : (k : ℕ) → c ≤ k → k ≤ n → ((j : ℕ) → c ≤ j → j < k → has ws (row_at n i) j ≡ 0) → left_from c (return_slots f Zero i) ≡ left_from k (return_slots f Zero i)
+  skipped k low high empty = member-next f i c k low (omega arith) (λ j a b. none _ (sym (h.returns i j l (omega arith) r) ∙ empty j a b))
+
+  pub next-return : {k : ℕ} → Some k ≡ found_below (next_member ws row c n) n → NextReturn f n i c k
+  next-return {k} is =
+      let next = next-some ws (row_at n i) c n few (at_row is) in
+      record {
+        low = next.0.low;
+        high = next.1;
+        member = one _ (sym (h.returns i k l next.1 r) ∙ next.0.member next.1);
+        passed = skipped k next.0.low (omega (arith, next.1)) next.0.none;
+      }
+
+  pub last-return : None ≡ found_below (next_member ws row c n) n → left_from c (return_slots f Zero i) ≡ []
+  last-return is = skipped n few (le_refl n) (next-none ws (row_at n i) c n few (at_row is)) ∙ member-end f i n (omega arith)

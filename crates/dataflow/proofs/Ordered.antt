@@ -143,8 +143,8 @@ module _ (f : Flow) (b : Base) (i k c : ℕ) where
   pub order-end : length (order f i) ≤ c → drop c (order_edges f b i k) ≡ []
   order-end l = let all : length (order_edges f b i k) ≤ c = omega (arith, length-map (order f i) (order_edge b k)) in drop_of_length-le (order_edges f b i k) all
 
--- Where the word of a call names a place, the order is the list there
-pub order-list : {f : Flow} {ws : List ℕ} {n i p m : ℕ} → n ≤ max_statements → p ≡ order_word ws n i % 2 ^ 32 → m ≡ order_word ws n i / 2 ^ 32 → p ≢ 0 → OrderOf f ws n i → ListOf f ws n i p m
+-- Where the word of a call is not 0, the order is the list that it names
+pub order-list : {f : Flow} {ws : List ℕ} {n i p m : ℕ} → n ≤ max_statements → p ≡ order_word ws n i % 2 ^ 32 → m ≡ order_word ws n i / 2 ^ 32 → order_word ws n i ≢ 0 → OrderOf f ws n i → ListOf f ws n i p m
 order-list {f} {ws} {n} {i} {p} {m} few at count some o = go (fits f n (lists_end f n i) i) refl
   where
     go : (t : Bool) → fits f n (lists_end f n i) i ≡ t → ListOf f ws n i p m
@@ -159,4 +159,4 @@ order-list {f} {ws} {n} {i} {p} {m} few at count some o = go (fits f n (lists_en
           count = sym entries;
           entries = o.entries e;
         })
-    go false e = absurd (some (let none : order_word ws n i ≡ 0 = o.word ∙ ap (λ (t : Bool). cond t (lists_end f n i + 2 ^ 32 * length (order f i)) 0) e in omega (arith, at, none)))
+    go false e = absurd (some (o.word ∙ ap (λ (t : Bool). cond t (lists_end f n i + 2 ^ 32 * length (order f i)) 0) e))

@@ -5,10 +5,11 @@ use native.Mathlib.Omega.{arith}
 use native.Mathlib.Nat.{zero-add, suc-mul, mul-le-mul_right}
 use native.Mathlib.Decide.{dec_lt}
 use mathlib.Core.Bool.{true, false}
-use mathlib.Core.List.{List}
+use mathlib.Core.List.{List, ◌++◌}
 use mathlib.Core.Path.{◌≡◌, refl, ap, ap₂, sym, ◌∙◌, subst}
 use lib.Bits.{bit_or}
-use lib.ListN.{length, get_or}
+use lib.ListN.{length, get_or, take, drop, replicate}
+use Rattle.std.proofs.lemmas.List.{length-append, length-drop, length-replicate, length-take-le, get_or-append_right, get_or_append_left, get_or-drop, get_or-replicate}
 use Rattle.words.specs.Clauses.Change.{zeroed}
 use Rattle.words.proofs.Zeroed.{length-zeroed, zeroed-run, zeroed-other}
 use Rattle.flow.specs.declared.Header.{Header}
@@ -19,7 +20,7 @@ use Rattle.flow.specs.Clauses.Answers.{header_of}
 use Rattle.records.specs.Clauses.Fields.{noted_word, PartsNoted}
 use Rattle.flow.specs.Limits.{max_statements}
 use Rattle.records.proofs.Files.{limited}
-use Rattle.records.proofs.Noting.{length-noted, noted-at, noted_other}
+use Rattle.records.proofs.Noting.{length-noted, noted_other}
 use Rattle.records.proofs.Statements.{size_is}
 use Rattle.theory.specs.Key.{opaque_handler}
 use Rattle.theory.specs.Masks.{any_state, mask_left}
@@ -206,30 +207,36 @@ masked {s} {h} {ws} {vs} {masks} {masks'} {visits} blank room clear rule e = rec
         ∙ joined i a l m
 
 -- all masks alike, without a visit
-pub unvisited : {s : List ℕ} {h : Header} {vs masks masks' : List ℕ} → Indexed s h vs
+pub unvisited : {s : List ℕ} {h : Header} {vs masks all : List ℕ} → Indexed s h vs
     → h.statements * h.arrays ≤ length masks
     → opaque_handler (flow_of s) ≡ true
-    → masks' ≡ noted masks 0 (h.statements * h.arrays) (λ k. any_state)
-    → Masked s h masks masks' vs 0
-unvisited {s} {h} {vs} {masks} {masks'} indexed room covered e = record {
+    → all ≡ replicate (length (take (h.statements * h.arrays) masks)) any_state
+    → Masked s h masks (all ++ drop (h.statements * h.arrays) masks) vs 0
+unvisited {s} {h} {vs} {masks} {all} indexed room covered e = record {
   ready = indexed.ready;
   found = record {
     solved = λ q. absurd (clash (opaque_handler (flow_of s)) covered q);
-    unsolved = λ _. record { no_visits = refl; mask_bytes = byte_is s indexed.header masks' {m = λ i a. any_state} bytes };
-    masks_size = ap length e ∙ length-noted masks 0 (λ k. any_state) (h.statements * h.arrays);
+    unsolved = λ _. record { no_visits = refl; mask_bytes = byte_is s indexed.header (all ++ drop count masks) {m = λ i a. any_state} bytes };
+    masks_size = omega (arith, long, length-append all (drop count masks), length-drop count masks);
     masks_kept = λ x l.
         let past = byte_past s indexed.header l in
-        ap (λ v. get_or v x 0) e ∙ noted_other masks 0 (λ k. any_state) (h.statements * h.arrays) x 0 (λ i m q. omega (arith, zero-add i));
+        get_or-append_right all (drop count masks) count x 0 long past ∙ get_or-drop count masks (x - count) 0 ∙ ap (λ k. get_or masks k 0) (omega arith);
   };
 }
   where
-    bytes : (i a : ℕ) → i < h.statements → a < h.arrays → get_or masks' (i * h.arrays + a) 0 ≡ any_state
+    count : ℕ
+    count = h.statements * h.arrays
+
+    long : length all ≡ count
+    long = ap length e ∙ length-replicate _ any_state ∙ length-take-le count masks room
+
+    bytes : (i a : ℕ) → i < h.statements → a < h.arrays → get_or (all ++ drop count masks) (i * h.arrays + a) 0 ≡ any_state
     bytes i a l m =
         let row = suc-mul i h.arrays in
         let rows = mul-le-mul_right h.arrays l in
-        ap (λ v. get_or v (i * h.arrays + a) 0) e
-        ∙ ap (λ x. get_or (noted masks 0 (h.statements * h.arrays) (λ k. any_state)) x 0) (sym (zero-add (i * h.arrays + a)))
-        ∙ noted-at masks 0 (λ k. any_state) (h.statements * h.arrays) (i * h.arrays + a) 0 (omega arith) (omega (arith, zero-add (h.statements * h.arrays)))
+        get_or_append_left all (drop count masks) 0 (i * h.arrays + a) (omega (arith, long))
+        ∙ ap (λ v. get_or v (i * h.arrays + a) 0) e
+        ∙ get_or-replicate _ (i * h.arrays + a) any_state 0 (omega (arith, length-take-le count masks room))
 
 -- all phases together
 pub solved : {s : List ℕ} {h : Header} {masks masks' live_in live_in' live_out live_out' vs : List ℕ} {visits : ℕ} → h ≡ header_of s

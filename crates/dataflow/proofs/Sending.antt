@@ -10,6 +10,7 @@ use native.Mathlib.Omega.{arith}
 use borrow.Author.Tests.{eq-eqb, ne_eqb}
 use lib.Bits.{bit_or, or_self, or_comm, or_zero_r}
 use lib.Dec.{eqb}
+use lib.ListN.{length}
 use Rattle.flow.specs.declared.Base.{Base}
 use Rattle.flow.specs.declared.Base.TheVariants.{Zero, N}
 use Rattle.flow.specs.Flow.{Flow, size}
@@ -18,6 +19,7 @@ use Rattle.theory.specs.Lists.{differ}
 use Rattle.theory.specs.Queue.{Arc, join, enqueue}
 use Rattle.theory.specs.Doubled.{Edge, at, number, number_in}
 use Rattle.theory.proofs.Push.{differ_chain}
+use Rattle.statements.specs.Clauses.Layout.{max_width}
 use Rattle.statements.specs.Clauses.Ready.{Ready}
 use Rattle.statements.proofs.Keeps.{keeps-refl, keeps-trans, ready_formed, ready-below}
 use Rattle.calls.specs.declared.edges.Call.{Call}
@@ -25,11 +27,11 @@ use Rattle.calls.specs.Clauses.Class.{CallOf}
 use Rattle.calls.specs.Clauses.Slots.{to_arc}
 use Rattle.calls.proofs.Slots.{or_assoc}
 use Rattle.solve.specs.declared.Queue.{Queue}
-use Rattle.solve.specs.Clauses.Layout.{out_row, mask_row_at, settled_in}
+use Rattle.solve.specs.Clauses.Layout.{out_row, mask_row_at, settled_in, nodes_end}
 use Rattle.solve.specs.Clauses.Rows.{mask_at}
 use Rattle.solve.specs.Clauses.Waiting.{Waits, Enqueued}
 use Rattle.solve.specs.Clauses.Pushed.{masks_at, Source, Pushed}
-use Rattle.solve.proofs.Room.{row_first}
+use Rattle.solve.proofs.Room.{row_first, nodes-room}
 use Rattle.solve.proofs.Masks.{mask-cong, differ_as}
 use Rattle.solve.proofs.Growing.{pushed}
 use Rattle.dataflow.specs.Clauses.Sent.{edge_row, Sources, carried, SettledSet, Grows, Sent}
@@ -214,6 +216,16 @@ module _ {f : Flow} {ws : List ℕ} {n w i : ℕ} {from : Bool → ℕ} {first :
     pub sending_all : left ≡ [] → Sent f ws vs n w from first i all queue
     sending_all e =
         subst (λ (xs : List Edge). Sent f ws vs n w from first i xs queue) (sym (append-nil s.done) ∙ sym (ap (λ (xs : List Edge). s.done ++ xs) e) ∙ s.rest) s.sent
+
+-- what is asked for before the next edge is gone along, to the copy of a statement
+module _ {f : Flow} {ws vs : List ℕ} {n w i : ℕ} {from : Bool → ℕ} {first queue : Queue} {all left : List Edge} (g : Sending f ws vs n w from first i all queue left) where
+  pub places : {s : List ℕ} → Ready s ws n → w ≤ max_width → (b : Base) {j t : ℕ} → j < n → t ≡ number_in n (at b j) → (nodes_end n w ≤ length vs) × (t < 2 * n)
+  places ready thin b low e =
+      let room = nodes-room ready (omega arith) thin in
+      (omega (arith, g.sent.keeps.size), omega (arith, copy-below n b low))
+
+  pub waiting : ((l : List ℕ) × Waits ws n w first l) → (l : List ℕ) × Waits vs n w queue l
+  waiting q = (_, g.sent.waits q.0 q.1)
 
 -- A target that holds the row of its edge needs only to wait
 pub held-joined : {ws vs : List ℕ} {n w from d : ℕ} {queue r : Queue} → d < 2 * n → ((a : ℕ) → a < 64 * w → bit_or (masks_at ws n w d a) (mask_at ws w from a) ≡ masks_at ws n w d a)

@@ -20,9 +20,10 @@ use Rattle.masks.specs.declared.Effect.{Effect}
 use Rattle.masks.specs.Step.{step_of}
 use Rattle.theory.specs.Lists.{any}
 use Rattle.theory.proofs.Lists.{any_append, says_one}
+use Rattle.statements.specs.Clauses.Layout.{max_width}
 use Rattle.statements.specs.Clauses.Ready.{Keeps}
 use Rattle.statements.proofs.Keeps.{keeps-refl, keeps-trans, keeps-word, keeps-set, keeps-inserted}
-use Rattle.solve.specs.Clauses.Rows.{mask_at, RowIs, step_where, member}
+use Rattle.solve.specs.Clauses.Rows.{mask_at, RowIs, Aside, Beside, step_where, member}
 use Rattle.solve.specs.Clauses.Layout.{set_row, out_row, back_row, mask_row_at, nodes_end, area_end}
 use Rattle.solve.proofs.Room.{row_from, row_fits, nodes-within}
 use Rattle.solve.proofs.Masks.{mask-cong}
@@ -101,14 +102,14 @@ module _ {A : Type 0} (test : ℕ → A → Bool) (l : List A) where
 
 -- an item joins the set if it has dimensions
 
-pub gains-item : (ws : List ℕ) (at w x f : ℕ) → at + w ≤ length ws → x < 64 * w → f ≡ 1 → SetGains ws (inserted ws at x) at w (λ a. eqb x a && eqb f 1)
+pub gains-item : (ws : List ℕ) (at w x : ℕ) (f : Bool) → at + w ≤ length ws → x < 64 * w → f ≡ true → SetGains ws (inserted ws at x) at w (λ a. eqb x a && f)
 gains-item ws at w x f fits l e = record {
   keeps = keeps-inserted ws at x (omega arith) (omega arith);
   member = λ a m. in_set a (ℕ_discrete a x);
 }
   where
-    in_set : (a : ℕ) → Dec (a ≡ x) → has (inserted ws at x) at a ≡ max (has ws at a) (cond (eqb x a && eqb f 1) 1 0)
-    in_set a (yes q) = ap (has (inserted ws at x) at) q ∙ insert_same ws at x (omega arith) ∙ rw (eq-eqb x a (sym q), eq-eqb f 1 e) (omega (arith, has-lt ws at a))
+    in_set : (a : ℕ) → Dec (a ≡ x) → has (inserted ws at x) at a ≡ max (has ws at a) (cond (eqb x a && f) 1 0)
+    in_set a (yes q) = ap (has (inserted ws at x) at) q ∙ insert_same ws at x (omega arith) ∙ rw (eq-eqb x a (sym q), e) (omega (arith, has-lt ws at a))
     in_set a (no d) = insert_other ws at x a (omega arith) d ∙ rw (ne_eqb x a (λ q. d (sym q))) (omega arith)
 
 -- A row that steps by a set
@@ -134,6 +135,11 @@ apart-again ws vs e r = record {
   from_fits = let h = r.from_fits in omega arith;
   apart = r.apart;
 }
+
+-- what the step asks for
+pub steps-by : (vs : List ℕ) {ws : List ℕ} {w set to from : ℕ} → length vs ≡ length ws → w ≤ max_width → RowsApart ws w set to from
+    → (w ≤ max_width) × Aside w set to × (set + w ≤ length vs) × (to + 3 * w ≤ length vs) × (from + 3 * w ≤ length vs) × Beside w to from
+steps-by vs e thin r = let low = r.below_to in let to = r.to_fits in let from = r.from_fits in (thin, inl low, omega arith, omega arith, omega arith, inl r.apart)
 
 -- the same at places that were computed
 pub steps-at : {ws vs : List ℕ} {w set set' to to' from from' : ℕ} {p : ℕ → Bool} {e : Effect} → set ≡ set' → to ≡ to' → from ≡ from'

@@ -34,7 +34,7 @@ use Rattle.solve.proofs.Masks.{mask-cong, differ_as}
 use Rattle.solve.proofs.Waiting.{rest-keeps}
 use Rattle.solve.proofs.Growing.{other_word, waits-grown}
 use Rattle.dataflow.specs.Clauses.Sent.{masks_below, Shared, Sends}
-use Rattle.dataflow.specs.Clauses.Solving.{Underway, VisitsFront}
+use Rattle.dataflow.specs.Clauses.Solving.{Solving, Underway, VisitsFront}
 use Rattle.dataflow.proofs.Sharing.{shared-stays}
 
 pub nodes_are : (f : Flow) → (doubled f).nodes ≡ size f + size f
@@ -202,6 +202,9 @@ module _ {f : Flow} (wf : WellFormed f) {n k : ℕ} (sized : size f ≡ n) (few 
     noted_other : (t : ℕ) → t ≢ x → settled_in us n k t ≡ settled_in vs n k t
     noted_other t e = ap (λ z. z / 2) (other_word n k d note_keeps t (λ q. e (q ∙ is_front)) (state_at n k t) (omega arith) (omega arith))
 
+    visited-front : {os : List ℕ} {r : Queue} → Solving f os n k r (visit g st x w) → VisitsFront f ws os n k q r u
+    visited-front s = record { front = x; behind = w; waiting = front; solving = s }
+
     -- a number that was settled before: the area is as it was behind the front
     module _ (still : news ≡ false) where
       was : st.visited x ≡ true
@@ -246,17 +249,12 @@ module _ {f : Flow} (wf : WellFormed f) {n k : ℕ} (sized : size f ≡ n) (few 
 
       pub visits-settled : VisitsFront f ws us n k q (rest_of n q) u
       unfolding queue news
-      visits-settled = record {
-        front = x;
-        behind = w;
-        waiting = front;
-        solving = record {
-          waits = subst (λ (l : List ℕ). Waits us n k (rest_of n q) l) (sym (waiting-next g gwf st inv x w front ∙ ap (queue g gwf st inv x w front) still)) noted-waits;
-          masks = λ t a l m. noted-masks t a l m ∙ below_as f.arrays (pulled g st t) (pulled g next t) a (λ b. sym (same-pulled t a b));
-          shared = noted-shared;
-          settled = still-settled;
-        };
-      }
+      visits-settled = visited-front (record {
+        waits = subst (λ (l : List ℕ). Waits us n k (rest_of n q) l) (sym (waiting-next g gwf st inv x w front ∙ ap (queue g gwf st inv x w front) still)) noted-waits;
+        masks = λ t a l m. noted-masks t a l m ∙ below_as f.arrays (pulled g st t) (pulled g next t) a (λ b. sym (same-pulled t a b));
+        shared = noted-shared;
+        settled = still-settled;
+      })
 
     -- else the masks of the number go on
     module _ (new : news ≡ true) {os : List ℕ} {r : Queue} (sent : Sends f us os n k (rest_of n q) d ((doubled f).arcs d) r) where
@@ -307,14 +305,9 @@ module _ {f : Flow} (wf : WellFormed f) {n k : ℕ} (sized : size f ≡ n) (few 
 
       pub visits-sent : VisitsFront f ws os n k q r u
       unfolding queue news
-      visits-sent = record {
-        front = x;
-        behind = w;
-        waiting = front;
-        solving = record {
-          waits = subst (λ (l : List ℕ). Waits os n k r l) (ap (λ (y : ℕ). enqueue (g.arcs y) w) is_front ∙ sym (waiting-next g gwf st inv x w front ∙ ap (queue g gwf st inv x w front) new)) (sent.waits w noted-waits);
-          masks = next-masks;
-          shared = sent.shared;
-          settled = next-settled;
-        };
-      }
+      visits-sent = visited-front (record {
+        waits = subst (λ (l : List ℕ). Waits os n k r l) (ap (λ (y : ℕ). enqueue (g.arcs y) w) is_front ∙ sym (waiting-next g gwf st inv x w front ∙ ap (queue g gwf st inv x w front) new)) (sent.waits w noted-waits);
+        masks = next-masks;
+        shared = sent.shared;
+        settled = next-settled;
+      })

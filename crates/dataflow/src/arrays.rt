@@ -1,8 +1,9 @@
 // Masks by doubled number: the queue rule, with every mask pushed along the edges instead of pulled. Each kind of statement has a loop of its own over its edges, so that a
 // visit looks nothing up twice.
+#![tactic(auto, using(crate::proofs::Headers::sizes))]
+
 ghost use Rattle.std.specs.Prelude.{true, false, List, ◌≡◌, ℕ, ◌*◌, ◌<◌, ◌≤◌, eqb, get_or};
 ghost use Rattle.flow.specs.declared.Base.TheVariants.{Zero};
-ghost use Rattle.flow.specs.Limits.{max_statements};
 ghost use Rattle.flow.specs.Format.{flow_of};
 ghost use Rattle.theory.specs.Lists.{option_list};
 ghost use Rattle.theory.specs.Body.{kind, call_lines, is_return};
@@ -27,75 +28,57 @@ use calls::orders::Order;
 use calls::{edges, leaders, orders};
 use flow::kind::Kind;
 use flow::{Base, NodeId, StmtId};
-use solve::{Queue, layout, nodes, push};
-use statements::doubled::node;
-use statements::layout::{row, set_words};
-use statements::{doubled, fields};
+use solve::layout::Layout;
+use solve::{Queue, nodes, push};
+use statements::doubled::{StmtCopy, copy_of, node};
+use statements::{fields, layout};
 
-// The row at `from` goes to the successors of statement i.
+// The row at `from` goes to the successors of that copy of a statement.
 fn push_listed(
     file: &[u8],
     work: &mut [u64],
-    n: usize,
-    width: usize,
+    layout: Layout,
     first: Queue,
-    base: Base,
-    i: StmtId,
+    copy: StmtCopy,
     place: usize,
     from: usize,
 ) -> Queue
-    requires { (width ≤ max_width) × Ready file.now work.old n × RecordOf file.now i.0 place × (i.0 < n) × Source n width from × ((l : List ℕ) × Waits work.old n width first l) }
-    ensures { Sent (flow_of file.now) work.old work.new n width (λ _. from) first i.0 (present (listed_slots (flow_of file.now) base i.0)) result }
+    requires { Ready file.now work.old layout.n × RecordOf file.now copy.stmt.0 place × (copy.stmt.0 < layout.n) × Source layout.n layout.width from × ((l : List ℕ) × Waits work.old layout.n layout.width first l) }
+    ensures { Sent (flow_of file.now) work.old work.new layout.n layout.width (λ _. from) first copy.stmt.0 (present (listed_slots (flow_of file.now) copy.base copy.stmt.0)) result }
 {
     let count = records::successor_count(file, place);
     let mut queue = first;
     for k in 0..count {
-        let j = fields::successor_at(file, i, place, k);
-        queue = push::push(work, n, width, queue, from, node(n, base, j));
+        let j = fields::successor_at(file, copy.stmt, place, k);
+        queue = push::push(work, layout, queue, from, node(layout.n, copy.base, j));
     }
     queue
 }
 
-// The row at `from` goes to the members of the row of the RETURN i.
+// The row at `from` goes to the continuations of the RETURN i. Where they hold it already, as where it brought nothing to what was sent, they only join the queue.
 fn push_members(
     file: &[u8],
     work: &mut [u64],
-    n: usize,
-    width: usize,
+    layout: Layout,
     first: Queue,
     i: StmtId,
     from: usize,
+    held: bool,
 ) -> Queue
-    requires { (width ≤ max_width) × Ready file.now work.old n × Linked (flow_of file.now) work.old n × (is_return (kind (flow_of file.now) i.0) ≡ true) × (i.0 < n) × Source n width from × ((l : List ℕ) × Waits work.old n width first l) }
-    ensures { Sent (flow_of file.now) work.old work.new n width (λ _. from) first i.0 (present (return_slots (flow_of file.now) Zero i.0)) result }
+    requires { Ready file.now work.old layout.n × Linked (flow_of file.now) work.old layout.n × (is_return (kind (flow_of file.now) i.0) ≡ true) × (i.0 < layout.n) × Source layout.n layout.width from × (held ≡ true → MembersHold work.old layout.n layout.width i.0 from) × ((l : List ℕ) × Waits work.old layout.n layout.width first l) }
+    ensures { Sent (flow_of file.now) work.old work.new layout.n layout.width (λ _. from) first i.0 (present (return_slots (flow_of file.now) Zero i.0)) result }
 {
     let mut queue = first;
-    let mut k = words::next(work, row(n, i), 0, n);
-    while k < n {
-        queue = push::push(work, n, width, queue, from, node(n, Base::Zero, StmtId(k)));
-        k = words::next(work, row(n, i), k + 1, n);
-    }
-    queue
-}
-
-// The continuations of the RETURN i, which all hold what it sends, wait.
-fn join_members(
-    file: &[u8],
-    work: &mut [u64],
-    n: usize,
-    width: usize,
-    first: Queue,
-    i: StmtId,
-    from: usize,
-) -> Queue
-    requires { (width ≤ max_width) × Ready file.now work.old n × Linked (flow_of file.now) work.old n × (is_return (kind (flow_of file.now) i.0) ≡ true) × (i.0 < n) × Source n width from × MembersHold work.old n width i.0 from × ((l : List ℕ) × Waits work.old n width first l) }
-    ensures { Sent (flow_of file.now) work.old work.new n width (λ _. from) first i.0 (present (return_slots (flow_of file.now) Zero i.0)) result }
-{
-    let mut queue = first;
-    let mut k = words::next(work, row(n, i), 0, n);
-    while k < n {
-        queue = nodes::join(work, n, width, queue, node(n, Base::Zero, StmtId(k)));
-        k = words::next(work, row(n, i), k + 1, n);
+    let row = layout::Layout { n: layout.n }.row(i);
+    let mut start = 0;
+    while let Some(k) = words::next(work, row, start, layout.n) {
+        let t = node(layout.n, Base::Zero, StmtId(k));
+        queue = if held {
+            nodes::join(work, layout, queue, t)
+        } else {
+            push::push(work, layout, queue, from, t)
+        };
+        start = k + 1;
     }
     queue
 }
@@ -105,78 +88,75 @@ fn join_members(
 fn push_return(
     file: &[u8],
     work: &mut [u64],
-    n: usize,
-    width: usize,
+    layout: Layout,
     first: Queue,
     i: StmtId,
     from: usize,
 ) -> Queue
-    requires { (width ≤ max_width) × Ready file.now work.old n × Linked (flow_of file.now) work.old n × (is_return (kind (flow_of file.now) i.0) ≡ true) × (i.0 < n) × Source n width from × Shared (flow_of file.now) work.old n width × ((l : List ℕ) × Waits work.old n width first l) }
-    ensures { Goes (flow_of file.now) work.old work.new n width (λ _. from) first i.0 (present (return_slots (flow_of file.now) Zero i.0)) result }
+    requires { Ready file.now work.old layout.n × Linked (flow_of file.now) work.old layout.n × (is_return (kind (flow_of file.now) i.0) ≡ true) × (i.0 < layout.n) × Source layout.n layout.width from × Shared (flow_of file.now) work.old layout.n layout.width × ((l : List ℕ) × Waits work.old layout.n layout.width first l) }
+    ensures { Goes (flow_of file.now) work.old work.new layout.n layout.width (λ _. from) first i.0 (present (return_slots (flow_of file.now) Zero i.0)) result }
 {
-    let lead = leaders::leader(file, work, n, i);
-    if words::union(work, layout::sent_row(n, width, lead), from, 3 * width) {
-        return push_members(file, work, n, width, first, i, from);
-    }
-    join_members(file, work, n, width, first, i, from)
+    let lead = leaders::leader(file, work, layout::Layout { n: layout.n }, i);
+    let grew = words::union(work, layout.sent_row(lead), from, 3 * layout.width);
+    push_members(file, work, layout, first, i, from, !grew)
 }
 
 // Where the row stands that a call sends to t, if it goes on at `back`.
-fn call_row(n: usize, width: usize, t: NodeId, back: NodeId) -> usize
-    requires { (n ≤ max_statements) × (width ≤ max_width) }
-    ensures { result ≡ edge_row n width (eqb t.0 back.0) }
+fn call_row(layout: Layout, t: NodeId, back: NodeId) -> usize
+    ensures { result ≡ edge_row layout.n layout.width (eqb t.0 back.0) }
 {
     if t == back {
-        return layout::back_row(n, width);
+        return layout.back_row();
     }
-    layout::out_row(n, width)
+    layout.out_row()
 }
 
-// The row of the call i goes to the statement that its line l enters, if any.
+// The row of the call goes to the statement that its line l enters, if any.
 fn push_line(
     file: &[u8],
     h: flow::Header,
     work: &mut [u64],
     width: usize,
     queue: Queue,
-    base: Base,
-    i: StmtId,
+    copy: StmtCopy,
     place: usize,
     call: Call,
     l: usize,
 ) -> Queue
-    requires { (width ≤ max_width) × Indexed file.now h work.old × RecordOf file.now i.0 place × (i.0 < h.statements) × CallOf (flow_of file.now) work.old i.0 call × (l < call.lines) × ((q : List ℕ) × Waits work.old h.statements width queue q) }
-    ensures { Sent (flow_of file.now) work.old work.new h.statements width (edge_row h.statements width) queue i.0 (option_list (line_slot (flow_of file.now) base call.continuation.0 (get_or (call_lines (kind (flow_of file.now) i.0)) l 0))) result }
+    requires { (width ≤ max_width) × Indexed file.now h work.old × RecordOf file.now copy.stmt.0 place × (copy.stmt.0 < h.statements) × CallOf (flow_of file.now) work.old copy.stmt.0 call × (l < call.lines) × ((q : List ℕ) × Waits work.old h.statements width queue q) }
+    ensures { Sent (flow_of file.now) work.old work.new h.statements width (edge_row h.statements width) queue copy.stmt.0 (option_list (line_slot (flow_of file.now) copy.base call.continuation.0 (get_or (call_lines (kind (flow_of file.now) copy.stmt.0)) l 0))) result }
 {
-    let n = h.statements;
-    match edges::line_entered(file, h, work, i, place, call, l) {
+    let layout = Layout {
+        n: h.statements,
+        width,
+    };
+    match edges::line_entered(file, h, work, copy.stmt, place, call, l) {
         Some(b) => {
-            let t = node(n, Base::N, b);
-            let from = call_row(n, width, t, node(n, base, call.continuation));
-            push::push(work, n, width, queue, from, t)
+            let t = node(layout.n, Base::N, b);
+            let from = call_row(layout, t, node(layout.n, copy.base, call.continuation));
+            push::push(work, layout, queue, from, t)
         }
         None => queue,
     }
 }
 
-// The rows of the call i go to the statements that its lines enter, line by line in the order that the queue rule asks for.
+// The rows of the call go to the statements that its lines enter, line by line in the order that the queue rule asks for.
 fn push_each_line(
     file: &[u8],
     h: flow::Header,
     work: &mut [u64],
     width: usize,
     first: Queue,
-    base: Base,
-    i: StmtId,
+    copy: StmtCopy,
     place: usize,
     call: Call,
 ) -> Queue
-    requires { (width ≤ max_width) × Indexed file.now h work.old × RecordOf file.now i.0 place × (i.0 < h.statements) × CallOf (flow_of file.now) work.old i.0 call × ((l : List ℕ) × Waits work.old h.statements width first l) }
-    ensures { Sent (flow_of file.now) work.old work.new h.statements width (edge_row h.statements width) first i.0 (present (line_slots (flow_of file.now) base i.0 call.continuation.0)) result }
+    requires { (width ≤ max_width) × Indexed file.now h work.old × RecordOf file.now copy.stmt.0 place × (copy.stmt.0 < h.statements) × CallOf (flow_of file.now) work.old copy.stmt.0 call × ((l : List ℕ) × Waits work.old h.statements width first l) }
+    ensures { Sent (flow_of file.now) work.old work.new h.statements width (edge_row h.statements width) first copy.stmt.0 (present (line_slots (flow_of file.now) copy.base copy.stmt.0 call.continuation.0)) result }
 {
     let mut queue = first;
     for l in 0..call.lines {
-        queue = push_line(file, h, work, width, queue, base, i, place, call, l);
+        queue = push_line(file, h, work, width, queue, copy, place, call, l);
     }
     queue
 }
@@ -185,22 +165,20 @@ fn push_each_line(
 fn push_order(
     file: &[u8],
     work: &mut [u64],
-    n: usize,
-    width: usize,
+    layout: Layout,
     first: Queue,
-    base: Base,
-    i: StmtId,
+    copy: StmtCopy,
     call: Call,
     order: Order,
 ) -> Queue
-    requires { (width ≤ max_width) × Ready file.now work.old n × (i.0 < n) × CallOf (flow_of file.now) work.old i.0 call × ListOf (flow_of file.now) work.old n i.0 order.at order.count × ((l : List ℕ) × Waits work.old n width first l) }
-    ensures { Sent (flow_of file.now) work.old work.new n width (edge_row n width) first i.0 (present (line_slots (flow_of file.now) base i.0 call.continuation.0)) result }
+    requires { Ready file.now work.old layout.n × (copy.stmt.0 < layout.n) × CallOf (flow_of file.now) work.old copy.stmt.0 call × ListOf (flow_of file.now) work.old layout.n copy.stmt.0 order.at order.count × ((l : List ℕ) × Waits work.old layout.n layout.width first l) }
+    ensures { Sent (flow_of file.now) work.old work.new layout.n layout.width (edge_row layout.n layout.width) first copy.stmt.0 (present (line_slots (flow_of file.now) copy.base copy.stmt.0 call.continuation.0)) result }
 {
-    let back = node(n, base, call.continuation);
+    let back = node(layout.n, copy.base, call.continuation);
     let mut queue = first;
     for k in 0..order.count {
-        let t = node(n, Base::N, orders::entry(work, order.at, k));
-        queue = push::push(work, n, width, queue, call_row(n, width, t, back), t);
+        let t = node(layout.n, Base::N, orders::entry(work, order.at, k));
+        queue = push::push(work, layout, queue, call_row(layout, t, back), t);
     }
     queue
 }
@@ -212,101 +190,99 @@ fn push_lines(
     work: &mut [u64],
     width: usize,
     first: Queue,
-    base: Base,
-    i: StmtId,
+    copy: StmtCopy,
     place: usize,
     call: Call,
 ) -> Queue
-    requires { (width ≤ max_width) × Indexed file.now h work.old × RecordOf file.now i.0 place × (i.0 < h.statements) × CallOf (flow_of file.now) work.old i.0 call × (1 < call.lines → OrderOf (flow_of file.now) work.old h.statements i.0) × ((l : List ℕ) × Waits work.old h.statements width first l) }
-    ensures { Sent (flow_of file.now) work.old work.new h.statements width (edge_row h.statements width) first i.0 (present (line_slots (flow_of file.now) base i.0 call.continuation.0)) result }
+    requires { (width ≤ max_width) × Indexed file.now h work.old × RecordOf file.now copy.stmt.0 place × (copy.stmt.0 < h.statements) × CallOf (flow_of file.now) work.old copy.stmt.0 call × (1 < call.lines → OrderOf (flow_of file.now) work.old h.statements copy.stmt.0) × ((l : List ℕ) × Waits work.old h.statements width first l) }
+    ensures { Sent (flow_of file.now) work.old work.new h.statements width (edge_row h.statements width) first copy.stmt.0 (present (line_slots (flow_of file.now) copy.base copy.stmt.0 call.continuation.0)) result }
 {
-    let n = h.statements;
+    let layout = Layout {
+        n: h.statements,
+        width,
+    };
     if 1 < call.lines {
-        let order = orders::order_of(work, n, i);
-        if order.at != 0 {
-            return push_order(file, work, n, width, first, base, i, call, order);
+        if let Some(order) = orders::order_of(work, layout::Layout { n: layout.n }, copy.stmt) {
+            return push_order(file, work, layout, first, copy, call, order);
         }
     }
-    push_each_line(file, h, work, width, first, base, i, place, call)
+    push_each_line(file, h, work, width, first, copy, place, call)
 }
 
-// The row of the call i goes to its successor j, unless that is entered or the continuation.
+// The row of the call goes to its successor j, unless that is entered or the continuation.
 fn push_other(
     file: &[u8],
     work: &mut [u64],
-    n: usize,
-    width: usize,
+    layout: Layout,
     queue: Queue,
-    base: Base,
-    i: StmtId,
+    copy: StmtCopy,
     call: Call,
     j: StmtId,
 ) -> Queue
-    requires { (width ≤ max_width) × Ready file.now work.old n × (i.0 < n) × CallOf (flow_of file.now) work.old i.0 call × (j.0 < n) × ((q : List ℕ) × Waits work.old n width queue q) }
-    ensures { Sent (flow_of file.now) work.old work.new n width (edge_row n width) queue i.0 (option_list (other_slot (flow_of file.now) base i.0 call.continuation.0 j.0)) result }
+    requires { Ready file.now work.old layout.n × (copy.stmt.0 < layout.n) × CallOf (flow_of file.now) work.old copy.stmt.0 call × (j.0 < layout.n) × ((q : List ℕ) × Waits work.old layout.n layout.width queue q) }
+    ensures { Sent (flow_of file.now) work.old work.new layout.n layout.width (edge_row layout.n layout.width) queue copy.stmt.0 (option_list (other_slot (flow_of file.now) copy.base copy.stmt.0 call.continuation.0 j.0)) result }
 {
     if edges::left_out(work, call, j) {
         return queue;
     }
     push::push(
         work,
-        n,
-        width,
+        layout,
         queue,
-        layout::out_row(n, width),
-        node(n, base, j),
+        layout.out_row(),
+        node(layout.n, copy.base, j),
     )
 }
 
+// And to each of them in turn.
 fn push_others(
     file: &[u8],
     work: &mut [u64],
-    n: usize,
-    width: usize,
+    layout: Layout,
     first: Queue,
-    base: Base,
-    i: StmtId,
+    copy: StmtCopy,
     place: usize,
     call: Call,
 ) -> Queue
-    requires { (width ≤ max_width) × Ready file.now work.old n × RecordOf file.now i.0 place × (i.0 < n) × CallOf (flow_of file.now) work.old i.0 call × ((l : List ℕ) × Waits work.old n width first l) }
-    ensures { Sent (flow_of file.now) work.old work.new n width (edge_row n width) first i.0 (present (other_slots (flow_of file.now) base i.0 call.continuation.0)) result }
+    requires { Ready file.now work.old layout.n × RecordOf file.now copy.stmt.0 place × (copy.stmt.0 < layout.n) × CallOf (flow_of file.now) work.old copy.stmt.0 call × ((l : List ℕ) × Waits work.old layout.n layout.width first l) }
+    ensures { Sent (flow_of file.now) work.old work.new layout.n layout.width (edge_row layout.n layout.width) first copy.stmt.0 (present (other_slots (flow_of file.now) copy.base copy.stmt.0 call.continuation.0)) result }
 {
     let mut queue = first;
     for k in 0..call.successors {
-        let j = fields::successor_at(file, i, place, k);
-        queue = push_other(file, work, n, width, queue, base, i, call, j);
+        let j = fields::successor_at(file, copy.stmt, place, k);
+        queue = push_other(file, work, layout, queue, copy, call, j);
     }
     queue
 }
 
-// The rows of the call i go along its edges: to the entered statements, then to the continuation, then to the other successors.
+// The rows of the call go along its edges: to the entered statements, then to the continuation, then to the other successors.
 fn push_call(
     file: &[u8],
     h: flow::Header,
     work: &mut [u64],
     width: usize,
     first: Queue,
-    base: Base,
-    i: StmtId,
+    copy: StmtCopy,
     place: usize,
     call: Call,
 ) -> Queue
-    requires { (width ≤ max_width) × Indexed file.now h work.old × RecordOf file.now i.0 place × (i.0 < h.statements) × CallOf (flow_of file.now) work.old i.0 call × (1 < call.lines → OrderOf (flow_of file.now) work.old h.statements i.0) × ((l : List ℕ) × Waits work.old h.statements width first l) }
-    ensures { Sent (flow_of file.now) work.old work.new h.statements width (edge_row h.statements width) first i.0 (present (call_slots (flow_of file.now) base i.0 call.continuation.0)) result }
+    requires { (width ≤ max_width) × Indexed file.now h work.old × RecordOf file.now copy.stmt.0 place × (copy.stmt.0 < h.statements) × CallOf (flow_of file.now) work.old copy.stmt.0 call × (1 < call.lines → OrderOf (flow_of file.now) work.old h.statements copy.stmt.0) × ((l : List ℕ) × Waits work.old h.statements width first l) }
+    ensures { Sent (flow_of file.now) work.old work.new h.statements width (edge_row h.statements width) first copy.stmt.0 (present (call_slots (flow_of file.now) copy.base copy.stmt.0 call.continuation.0)) result }
 {
-    let n = h.statements;
-    let back = layout::back_row(n, width);
-    let entered = push_lines(file, h, work, width, first, base, i, place, call);
+    let layout = Layout {
+        n: h.statements,
+        width,
+    };
+    let back = layout.back_row();
+    let entered = push_lines(file, h, work, width, first, copy, place, call);
     let queue = push::push(
         work,
-        n,
-        width,
+        layout,
         entered,
         back,
-        node(n, base, call.continuation),
+        node(layout.n, copy.base, call.continuation),
     );
-    push_others(file, work, n, width, queue, base, i, place, call)
+    push_others(file, work, layout, queue, copy, place, call)
 }
 
 // The masks of d go on along the edges of its statement i, which is a call that is not opaque.
@@ -317,39 +293,42 @@ fn send_call(
     width: usize,
     first: Queue,
     d: NodeId,
-    base: Base,
-    i: StmtId,
+    copy: StmtCopy,
     place: usize,
 ) -> Queue
-    requires { (width ≡ set_words h.arrays) × Indexed file.now h work.old × Linked (flow_of file.now) work.old h.statements × KeySet (flow_of file.now) work.old h.statements width × (d.0 < 2 * h.statements) × RecordOf file.now i.0 place × (theory.at base i.0 ≡ theory.node (flow_of file.now) d.0) × (i.0 < h.statements) × (transparent_call (flow_of file.now) i.0 ≡ true) × Shared (flow_of file.now) work.old h.statements width × ((l : List ℕ) × Waits work.old h.statements width first l) }
+    requires { (width ≡ set_words h.arrays) × Indexed file.now h work.old × Linked (flow_of file.now) work.old h.statements × KeySet (flow_of file.now) work.old h.statements width × (d.0 < 2 * h.statements) × RecordOf file.now copy.stmt.0 place × (theory.at copy.base copy.stmt.0 ≡ theory.node (flow_of file.now) d.0) × (copy.stmt.0 < h.statements) × (transparent_call (flow_of file.now) copy.stmt.0 ≡ true) × Shared (flow_of file.now) work.old h.statements width × ((l : List ℕ) × Waits work.old h.statements width first l) }
     ensures { Sends (flow_of file.now) work.old work.new h.statements width first d.0 (statement_arcs (flow_of file.now) d.0) result }
 {
-    let call = edges::call_of(file, work, h.statements, i, place);
-    let again = transfer::enters_again(work, base, call.row, call.continuation);
-    transfer::call_rows(file, h, work, width, d, i, place, again);
-    push_call(file, h, work, width, first, base, i, place, call)
+    let call = edges::call_of(
+        file,
+        work,
+        layout::Layout { n: h.statements },
+        copy.stmt,
+        place,
+    );
+    let again = transfer::enters_again(work, copy.base, call.row, call.continuation);
+    transfer::call_rows(file, h, work, width, d, copy.stmt, place, again);
+    push_call(file, h, work, width, first, copy, place, call)
 }
 
-// The row at `from` goes along the edges of that copy of statement i, which is no such call.
+// The row at `from` goes along the edges of that copy of a statement, which is no such call.
 fn push_plain(
     file: &[u8],
     work: &mut [u64],
-    n: usize,
-    width: usize,
+    layout: Layout,
     first: Queue,
-    base: Base,
-    i: StmtId,
+    copy: StmtCopy,
     place: usize,
     from: usize,
 ) -> Queue
-    requires { (width ≤ max_width) × Ready file.now work.old n × Linked (flow_of file.now) work.old n × RecordOf file.now i.0 place × (i.0 < n) × (transparent_call (flow_of file.now) i.0 ≡ false) × Source n width from × Shared (flow_of file.now) work.old n width × ((l : List ℕ) × Waits work.old n width first l) }
-    ensures { Goes (flow_of file.now) work.old work.new n width (λ _. from) first i.0 (present (slots (flow_of file.now) (theory.at base i.0))) result }
+    requires { Ready file.now work.old layout.n × Linked (flow_of file.now) work.old layout.n × RecordOf file.now copy.stmt.0 place × (copy.stmt.0 < layout.n) × (transparent_call (flow_of file.now) copy.stmt.0 ≡ false) × Source layout.n layout.width from × Shared (flow_of file.now) work.old layout.n layout.width × ((l : List ℕ) × Waits work.old layout.n layout.width first l) }
+    ensures { Goes (flow_of file.now) work.old work.new layout.n layout.width (λ _. from) first copy.stmt.0 (present (slots (flow_of file.now) (theory.at copy.base copy.stmt.0))) result }
 {
     if records::kind(file, place) != Kind::Return {
-        return push_listed(file, work, n, width, first, base, i, place, from);
+        return push_listed(file, work, layout, first, copy, place, from);
     }
-    match base {
-        Base::Zero => push_return(file, work, n, width, first, i, from),
+    match copy.base {
+        Base::Zero => push_return(file, work, layout, first, copy.stmt, from),
         // A RETURN of base n goes nowhere.
         Base::N => first,
     }
@@ -367,16 +346,18 @@ fn send_edges(
     requires { (width ≡ set_words h.arrays) × Indexed file.now h work.old × Linked (flow_of file.now) work.old h.statements × KeySet (flow_of file.now) work.old h.statements width × (d.0 < 2 * h.statements) × Shared (flow_of file.now) work.old h.statements width × ((l : List ℕ) × Waits work.old h.statements width first l) }
     ensures { Sends (flow_of file.now) work.old work.new h.statements width first d.0 (statement_arcs (flow_of file.now) d.0) result }
 {
-    let n = h.statements;
-    let copy = doubled::copy_of(n, d);
-    let base = copy.base;
+    let layout = Layout {
+        n: h.statements,
+        width,
+    };
+    let copy = copy_of(layout.n, d);
     let i = copy.stmt;
-    let place = fields::offset(file, work, n, i);
-    if edges::is_call(file, work, n, i, place) {
-        return send_call(file, h, work, width, first, d, base, i, place);
+    let place = fields::offset(file, work, layout.n, i);
+    if edges::is_call(file, work, layout::Layout { n: layout.n }, i, place) {
+        return send_call(file, h, work, width, first, d, copy, place);
     }
     let from = transfer::plain_row(file, h, work, width, d, i, place);
-    push_plain(file, work, n, width, first, base, i, place, from)
+    push_plain(file, work, layout, first, copy, place, from)
 }
 
 // The masks of d, as they are, are joined to those of n + the handler, if there is one: before an edge of d to itself makes them grow.
@@ -384,15 +365,12 @@ fn grow_key(file: &[u8], h: flow::Header, work: &mut [u64], width: usize, d: Nod
     requires { (width ≡ set_words h.arrays) × Indexed file.now h work.old × (d.0 < 2 * h.statements) }
     ensures { KeyGrown (flow_of file.now) work.old work.new h.statements width d.0 }
 {
-    let n = h.statements;
+    let layout = Layout {
+        n: h.statements,
+        width,
+    };
     if let Some(e) = h.handler {
-        push::grow(
-            work,
-            n,
-            width,
-            layout::mask_row(n, width, d),
-            node(n, Base::N, e),
-        );
+        push::grow(work, layout, layout.mask_row(d), node(layout.n, Base::N, e));
     }
 }
 
@@ -401,10 +379,13 @@ fn join_key(file: &[u8], h: flow::Header, work: &mut [u64], width: usize, queue:
     requires { (width ≡ set_words h.arrays) × Indexed file.now h work.old × ((l : List ℕ) × Waits work.old h.statements width queue l) }
     ensures { KeyJoined (flow_of file.now) work.old work.new h.statements width queue result }
 {
-    let n = h.statements;
+    let layout = Layout {
+        n: h.statements,
+        width,
+    };
     match h.handler {
         None => queue,
-        Some(e) => nodes::enqueue(work, n, width, queue, node(n, Base::N, e)),
+        Some(e) => nodes::enqueue(work, layout, queue, node(layout.n, Base::N, e)),
     }
 }
 
@@ -430,10 +411,13 @@ fn visit(file: &[u8], h: flow::Header, work: &mut [u64], width: usize, first: Qu
     requires { (width ≡ set_words h.arrays) × Indexed file.now h work.old × Linked (flow_of file.now) work.old h.statements × KeySet (flow_of file.now) work.old h.statements width × (0 < h.statements) × (0 < first.len) × Underway (flow_of file.now) work.old h.statements width first }
     ensures { ((u : Underway (flow_of file.now) work.old h.statements width first) → VisitsFront (flow_of file.now) work.old work.new h.statements width first result u) × Keeps (queue_at h.statements) (area_end h.statements width) work.old work.new }
 {
-    let n = h.statements;
-    let d = nodes::take(work, n, width, first);
-    let queue = solve::rest(n, first);
-    if nodes::settle(work, n, width, d) {
+    let layout = Layout {
+        n: h.statements,
+        width,
+    };
+    let d = nodes::take(work, layout, first);
+    let queue = solve::rest(layout::Layout { n: layout.n }, first);
+    if nodes::settle(work, layout, d) {
         return queue;
     }
     send(file, h, work, width, queue, d)
@@ -444,12 +428,16 @@ pub fn array_states(file: &[u8], h: flow::Header, work: &mut [u64]) -> u64
     requires { Indexed file.now h work.old × Linked (flow_of file.now) work.old h.statements × KeySet (flow_of file.now) work.old h.statements (set_words h.arrays) × (0 < h.statements) × Unused work.old h.statements (set_words h.arrays) }
     ensures { RuleResult (flow_of file.now) work.old work.new h.statements (set_words h.arrays) result }
 {
-    let n = h.statements;
-    let width = set_words(h.arrays);
-    let entry = node(n, Base::Zero, h.entry);
-    begin_row(file, h, work, width, layout::mask_row(n, width, entry));
-    let mut queue = nodes::enqueue(work, n, width, Queue { head: 0, len: 0 }, entry);
+    let width = layout::set_words(h.arrays);
+    let layout = Layout {
+        n: h.statements,
+        width,
+    };
+    let entry = node(layout.n, Base::Zero, h.entry);
+    begin_row(file, h, work, width, layout.mask_row(entry));
+    let mut queue = nodes::enqueue(work, layout, Queue { head: 0, len: 0 }, entry);
     let mut visits = 0u64;
+    // It ends when nothing waits, and each visit makes others wait.
     while 0 < queue.len {
         queue = visit(file, h, work, width, queue);
         visits += 1;

@@ -9,6 +9,7 @@ ghost use Rattle.dataflow.specs.Clauses.Conflicts.{FitRows, ConflictsFound};
 use crate::call::check_call;
 use flow::areas::area_fits;
 use flow::{Header, MAX_STATEMENTS, Refusal};
+use statements::layout::Layout;
 
 // The statements of a flow whose live sets take few words.
 const FEW: usize = 64;
@@ -45,7 +46,7 @@ fn conflicts_by(
 {
     let n = h.statements;
     records::offsets::note_offsets(file, work, 0, n);
-    live::live_names(file, work, live_in, live_out, n);
+    live::live_names(file, work, live_in, live_out, Layout { n });
     write_rows(file, h, work, live_in, live_out, rows);
     interference::most_live(live_in, n)
 }

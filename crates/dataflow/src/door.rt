@@ -1,4 +1,6 @@
 // The call that answers a flow file: the file is judged, then the areas; only then is anything written.
+#![tactic(auto, using(crate::proofs::Headers::sizes))]
+
 ghost use Rattle.std.specs.Prelude.{◌*◌, ◌<◌, ◌≤◌, false, ◌≡◌, length};
 ghost use Rattle.flow.specs.Format.{flow_of};
 ghost use Rattle.theory.specs.Key.{opaque_handler};
@@ -11,30 +13,30 @@ ghost use Rattle.dataflow.specs.Clauses.Transfer.{KeySet};
 ghost use Rattle.dataflow.specs.Clauses.Phases.{edges_end, cleared, FitFlow, SummariesMade, SolverStart, Masked, FitAreas, Findings};
 
 use crate::{arrays, write};
+use calls::SummaryState;
 use flow::areas::areas_fit;
 use flow::check::check_file;
 use flow::{Header, Refusal};
-use statements::layout;
+use statements::layout::{Layout, lines, set_words};
 
 // Where the words end that finding the edges uses.
-fn edges_end(n: usize) -> usize
-    requires { n ≤ max_statements }
-    ensures { result ≡ edges_end n }
+fn edges_end(layout: Layout) -> usize
+    ensures { result ≡ edges_end layout.n }
 {
-    layout::returns_row(n) + layout::row_words(n)
+    layout.returns_row() + layout.row_words()
 }
 
 // The words that the phases count on are zeroed: those of the lines and of the summaries, and those of the solver. All others, and so the matrix, which is the largest part of the area,
 // are zeroed or written where they are first needed.
-fn clear(work: &mut [u64], n: usize, arrays: usize)
-    requires { (0 < n) × (n ≤ max_statements) × (arrays ≤ max_arrays) × (work_words n ≤ length work.old) }
-    ensures { work.new ≡ cleared work.old n (set_words arrays) }
+fn clear(work: &mut [u64], layout: solve::layout::Layout)
+    requires { (0 < layout.n) × (work_words layout.n ≤ length work.old) }
+    ensures { work.new ≡ cleared work.old layout.n layout.width }
 {
-    let lines = layout::lines(n);
-    words::zero_row(work, lines, layout::matrix(n) - lines);
-    let from = edges_end(n);
-    let end = solve::layout::end(n, layout::set_words(arrays));
-    words::zero_row(work, from, end - from);
+    let area = Layout { n: layout.n };
+    let lines = lines(layout.n);
+    words::zero_row(work, lines, area.matrix() - lines);
+    let from = edges_end(area);
+    words::zero_row(work, from, layout.end() - from);
 }
 
 // The places of the records, the parts of the lines and the summaries of the calls.
@@ -43,9 +45,10 @@ pub fn summarize(file: &[u8], h: Header, work: &mut [u64])
     ensures { SummariesMade file.now h work.new }
 {
     let n = h.statements;
-    clear(work, n, h.arrays);
+    let width = set_words(h.arrays);
+    clear(work, solve::layout::Layout { n, width });
     records::offsets::note_offsets(file, work, 0, n);
-    records::lines::note_lines(file, h.lines_at, h.lines, work, layout::lines(n), n);
+    records::lines::note_lines(file, h.lines_at, h.lines, work, lines(n), n);
     calls::summary::summarize_calls(file, h, work);
 }
 
@@ -54,9 +57,13 @@ pub fn opaque_handler(file: &[u8], h: Header, work: &[u64]) -> bool
     requires { SummariesMade file.now h work.now }
     ensures { result ≡ opaque_handler (flow_of file.now) }
 {
+    // Arms and no closure, which would have to state what the place in the area asks for.
     match h.handler {
         None => false,
-        Some(e) => work[layout::bodies(h.statements) + e.0] == calls::OPAQUE,
+        Some(e) => {
+            let bodies = Layout { n: h.statements }.bodies();
+            work[bodies + e.0] == SummaryState::Opaque as u64
+        }
     }
 }
 
@@ -67,8 +74,9 @@ pub fn note_key(file: &[u8], h: Header, work: &mut [u64])
 {
     let n = h.statements;
     if let Some(e) = h.handler {
-        let key = solve::layout::key(n, layout::set_words(h.arrays));
-        work[key] = work[layout::touched(n) + e.0];
+        let width = set_words(h.arrays);
+        let key = solve::layout::Layout { n, width }.key();
+        work[key] = work[Layout { n }.touched() + e.0];
     }
 }
 
@@ -78,10 +86,10 @@ pub fn link(file: &[u8], h: Header, work: &mut [u64])
     requires { SummariesMade file.now h work.old × KeySet (flow_of file.now) work.old h.statements (set_words h.arrays) × (0 < h.statements) }
     ensures { SolverStart file.now h work.new }
 {
-    let n = h.statements;
+    let layout = Layout { n: h.statements };
     calls::returns::note_edges(file, h, work);
-    let queue = layout::queue(n);
-    words::zero_row(work, queue, edges_end(n) - queue);
+    let queue = layout.queue();
+    words::zero_row(work, queue, edges_end(layout) - queue);
 }
 
 // The masks that the queue rule leaves.
@@ -102,7 +110,7 @@ fn find_masks(file: &[u8], h: Header, masks: &mut [u8], work: &mut [u64]) -> u64
     ensures { Masked file.now h masks.old masks.new work.new result }
 {
     if opaque_handler(file, h, work) {
-        write::write_any(masks, h.statements * h.arrays);
+        write::write_any(&mut masks[..h.statements * h.arrays]);
         return 0;
     }
     note_key(file, h, work);
@@ -110,11 +118,12 @@ fn find_masks(file: &[u8], h: Header, masks: &mut [u8], work: &mut [u64]) -> u64
     solve_arrays(file, h, masks, work)
 }
 
+// The live sets of all statements.
 fn solve_names(file: &[u8], n: usize, live_in: &mut [u64], live_out: &mut [u64], work: &mut [u64])
     requires { Ready file.now work.old n × (0 < n) × (n ≤ length live_in.old) × (n ≤ length live_out.old) }
     ensures { Written n (live_in_word (flow_of file.now)) live_in.old live_in.new × Written n (live_out_word (flow_of file.now)) live_out.old live_out.new }
 {
-    live::live_names(file, work, live_in, live_out, n);
+    live::live_names(file, work, live_in, live_out, Layout { n });
 }
 
 // What the phases find of a file and areas that are fit.

@@ -8,6 +8,7 @@ ghost use Rattle.dataflow.specs.Clauses.Phases.{FitRoom, FitFlow};
 
 use crate::call::check_call;
 use flow::{Header, Refusal};
+use statements::layout::Layout;
 
 // The certain names of a flow without a handler.
 fn walk_names(file: &[u8], h: Header, work: &mut [u64]) -> u64
@@ -16,7 +17,7 @@ fn walk_names(file: &[u8], h: Header, work: &mut [u64]) -> u64
 {
     let n = h.statements;
     records::offsets::note_offsets(file, work, 0, n);
-    certain::certain_names(file, work, n, h.entry)
+    certain::certain_names(file, work, Layout { n }, h.entry)
 }
 
 // What is found of a file and a work area that are fit.

@@ -1,11 +1,12 @@
--- The answers for a part of a file from its checks, one by one: a part is refused at its first unfit check and passed where none is.
+-- The answers for a part of a file from its verdict: a part is refused at its first unfit check and passed where none is.
 -- By the laws of verdicts.
 use Prim.Native.Nat.{ℕ, ◌+◌, ◌<◌}
 use native.Mathlib.Omega.{arith}
 use mathlib.Core.List.{List, ◌++◌}
 use mathlib.Core.Path.{◌≡◌, refl, sym, ap, ◌∙◌}
 use Rattle.flow.specs.declared.Refusal.{Refusal}
-use Rattle.std.specs.Prelude.{Ok, Err}
+use Rattle.std.specs.Prelude.{Result, Ok, Err, IsErrAnd}
+use Rattle.std.proofs.lemmas.Result.{err_from_is_err_and}
 use Rattle.flow.specs.Format.{Check, Verdict, fit, unfit, verdict, each}
 use Rattle.flow.specs.Clauses.Answers.{answer_of}
 use Rattle.flow.proofs.Verdicts.{AllHold, all_fit, StopsAt, refusal_at, stops_at, fit_append, unfit-append, unfit-at, fit-more}
@@ -17,22 +18,6 @@ refused_by cs e h = ap (λ v. answer_of v e) (sym h)
 
 pub passed_by : {T : Type 0} (cs : List Check) (e : T) → verdict cs ≡ fit → Ok e ≡ answer_of (verdict cs) e
 passed_by cs e h = ap (λ v. answer_of v e) (sym h)
-
--- check by check
-
-pub refused : {T : Type 0} (k : ℕ) (cs : List Check) (e : T) → StopsAt k cs → Err (refusal_at k cs) ≡ answer_of (verdict cs) e
-refused k cs e h = refused_by cs e (stops_at k cs h)
-
-pub passed : {T : Type 0} (cs : List Check) (e : T) → AllHold cs → Ok e ≡ answer_of (verdict cs) e
-passed cs e h = passed_by cs e (all_fit cs h)
-
--- the same where the reader's own numbers are equal to those of the definition
-
-pub refused_as : {T : Type 0} (k : ℕ) (cs : List Check) (e : T) {r : Refusal} → r ≡ refusal_at k cs → StopsAt k cs → Err r ≡ answer_of (verdict cs) e
-refused_as k cs e h j = ap Err h ∙ refused k cs e j
-
-pub passed_to : {T : Type 0} (cs : List Check) (q e : T) → q ≡ e → AllHold cs → Ok q ≡ answer_of (verdict cs) e
-passed_to cs q e h j = ap Ok h ∙ passed cs e j
 
 -- part by part: a part that is fit leaves the answer to what follows, and one that is not gives it
 
@@ -49,12 +34,12 @@ pub refused_element : {T : Type 0} (cs : List Check) (k n j : ℕ) (f : ℕ → 
 refused_element cs k n j f e h l i u =
     refused_by (cs ++ each n f) e (fit_append cs (each n f) h ∙ unfit-at k n f l i (stops_at j (f k) u))
 
-pub passed-elements : {T : Type 0} (cs : List Check) (n : ℕ) (f : ℕ → List Check) (q e : T) → q ≡ e → verdict cs ≡ fit → verdict (each n f) ≡ fit
-    → Ok q ≡ answer_of (verdict (cs ++ each n f)) e
-passed-elements cs n f q e there h i = ap Ok there ∙ passed_by (cs ++ each n f) e (fit_append cs (each n f) h ∙ i)
-
 pub one_more : (k : ℕ) (f : ℕ → List Check) → verdict (each k f) ≡ fit → AllHold (f k) → verdict (each (k + 1) f) ≡ fit
 one_more k f h i = fit-more k f h (all_fit (f k) i)
+
+-- what `?` returns at a refusal
+pub handed_on : {T : Type 0} {x y : Result T Refusal} {r : Refusal} → IsErrAnd x (λ e. e ≡ r) → Err r ≡ y → x ≡ y
+handed_on {x = x} h e = let p = err_from_is_err_and x h in p.1 ∙ ap Err p.2 ∙ e
 
 -- what an answer says of the verdict
 

@@ -3,7 +3,7 @@
 use Prim.Native.Nat.{ℕ, zero, suc, ◌≤◌}
 use native.Mathlib.Omega.{arith}
 use mathlib.Core.List.{List, ◌++◌, append_assoc}
-use mathlib.Core.Path.{◌≡◌, sym, ap, subst, ◌∙◌}
+use mathlib.Core.Path.{◌≡◌, sym, ap, ◌∙◌}
 use borrow.Author.Tests.{leb-true}
 use lib.ListN.{length}
 use Rattle.flow.specs.declared.Refusal.{Refusal}
@@ -11,11 +11,11 @@ use Rattle.flow.specs.declared.Part.{Part}
 use Rattle.flow.specs.declared.Part.TheVariants.{Header, Statements, Lines, Key, End}
 use Rattle.std.specs.Prelude.{Ok, Err}
 use Rattle.flow.specs.Format.{verdict, fit, unfit, each, header_checks, statement_checks, record_checks, record_place, statements_of, line_record_checks, line_count, lines_place, key_place, file_checks}
-use Rattle.flow.specs.Clauses.Parts.{Due, part_start, part_end, part_checks, checks_before, header_read, part_answer}
-use Rattle.flow.proofs.Verdicts.{all_hold, fit-left, fit-right, fit_append, unfit-append, elements-within}
+use Rattle.flow.specs.Clauses.Parts.{Due, part_start, part_end, part_checks, checks_before, header_read, part_answer, answer_before, answer_through}
+use Rattle.flow.proofs.Verdicts.{all_hold, fit-left, fit-right, unfit-append, elements-within}
 use Rattle.flow.proofs.Records.{end_fits}
 use Rattle.flow.proofs.KeyRecord.{key-within}
-use Rattle.flow.proofs.Answers.{verdict-passed, verdict-refused}
+use Rattle.flow.proofs.Answers.{Through, verdict-passed, verdict-refused, onward, refused-first}
 
 module _ (s : List ℕ) where
   pub header-within : verdict (header_checks s) ≡ fit → 8 ≤ length s
@@ -80,22 +80,25 @@ module _ (s : List ℕ) where
   start-within Key h = to-key h
   start-within End h = key-within s (to-key (key_too h)) (fit-right (checks_before s Key) (part_checks s Key) h)
 
-  -- a reader that stands at the start of a part before which all is fit has come to it
-  pub due : (part : Part) {at : ℕ} → verdict (checks_before s part) ≡ fit → at ≡ part_start s part → Due s part at
-  due part h there =
-      record { there = there; within = subst (λ x. x ≤ length s) (sym there) (start-within part h); header = header-first part h }
+  -- a part is due where the answer so far is a place, and its answer is the answer through it
 
-  -- the answer for a part and all before it, where all before it is fit
+  module _ (part : Part) {at : ℕ} (so_far : Ok at ≡ answer_before s part) where
+    fits : Through (verdict (checks_before s part)) at (part_start s part)
+    fits = verdict-passed _ _ _ so_far
 
-  pub passed-through : (part : Part) {q : ℕ} → verdict (checks_before s part) ≡ fit → Ok q ≡ part_answer s part
-      → (verdict (checks_before s part ++ part_checks s part) ≡ fit) × (q ≡ part_end s part)
-  passed-through part h e =
-      let t = verdict-passed _ _ _ e in
-      (fit_append (checks_before s part) (part_checks s part) h ∙ t.is_fit, t.place)
+    pub due : Due s part at
+    due = record {
+      there = fits.place;
+      within = rw fits.place (start-within part fits.is_fit);
+      header = header-first part fits.is_fit;
+    }
 
-  pub refused-through : (part : Part) {r : Refusal} → verdict (checks_before s part) ≡ fit → Err r ≡ part_answer s part
-      → verdict (checks_before s part ++ part_checks s part) ≡ unfit r
-  refused-through part h e = fit_append (checks_before s part) (part_checks s part) h ∙ verdict-refused _ _ e
+    pub counts : part_answer s part ≡ answer_through s part
+    counts = onward (checks_before s part) (part_checks s part) (part_end s part) fits.is_fit
+
+  -- and where it is a refusal, that is the answer
+  pub stands : (part : Part) {r : Refusal} → Err r ≡ answer_before s part → Err r ≡ answer_through s part
+  stands part so_far = refused-first (checks_before s part) (part_checks s part) (part_end s part) (verdict-refused _ _ so_far)
 
   -- a refusal of a part and all before it is that of the file
 
@@ -111,9 +114,12 @@ module _ (s : List ℕ) where
   past-statements : {r : Refusal} → verdict (checks_before s Lines) ≡ unfit r → verdict (file_checks s) ≡ unfit r
   past-statements h = past-lines (unfit-append (checks_before s Lines) (part_checks s Lines) h)
 
-  pub refused-file : (part : Part) {r : Refusal} → verdict (checks_before s part ++ part_checks s part) ≡ unfit r → verdict (file_checks s) ≡ unfit r
-  refused-file Header h = past-statements (unfit-append (checks_before s Statements) (part_checks s Statements) h)
-  refused-file Statements h = past-statements h
-  refused-file Lines h = past-lines h
-  refused-file Key h = past-key h
-  refused-file End h = past-end h
+  pub refused-file : (part : Part) {r : Refusal} → Err r ≡ answer_through s part → verdict (file_checks s) ≡ unfit r
+  refused-file part e = go part (verdict-refused _ _ e)
+    where
+      go : (part : Part) {r : Refusal} → verdict (checks_before s part ++ part_checks s part) ≡ unfit r → verdict (file_checks s) ≡ unfit r
+      go Header h = past-statements (unfit-append (checks_before s Statements) (part_checks s Statements) h)
+      go Statements h = past-statements h
+      go Lines h = past-lines h
+      go Key h = past-key h
+      go End h = past-end h

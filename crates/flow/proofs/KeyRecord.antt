@@ -1,6 +1,6 @@
 -- The key's record by cases: where its mark stands, two checks and four bytes; where it does not, no check and no byte.
 -- By computing the definitions at the mark's test.
-use Prim.Native.Nat.{ℕ, ◌+◌, ◌≤◌, ◌<◌}
+use Prim.Native.Nat.{ℕ, ◌+◌, ◌≤◌}
 use native.Mathlib.Omega.{arith}
 use mathlib.Core.Bool.{Bool, true, false, cond}
 use mathlib.Core.List.{List, [], ◌∷◌}
@@ -48,19 +48,3 @@ module _ (s : List ℕ) where
       go : (b : Bool) → has_key s ≡ b → end_place s ≤ length s
       go true e = let all = all_hold key_record_checks (ap verdict (sym (with_checks e)) ∙ h) in omega (arith, leb-true, with_end e)
       go false e = omega (arith, without_end e)
-
-  -- the end tells whether the record stands there
-
-  pub key-there : key_place s < end_place s → has_key s ≡ true
-  key-there l = go (has_key s) refl
-    where
-      go : (b : Bool) → has_key s ≡ b → b ≡ true
-      go true e = refl
-      go false e = absurd (omega (arith, without_end e))
-
-  pub key_absent : end_place s ≤ key_place s → has_key s ≡ false
-  key_absent l = go (has_key s) refl
-    where
-      go : (b : Bool) → has_key s ≡ b → b ≡ false
-      go true e = absurd (omega (arith, with_end e))
-      go false e = refl

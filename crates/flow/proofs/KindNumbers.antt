@@ -1,13 +1,13 @@
 -- Kinds and their numbers: two kinds have two numbers, so that which kind a statement is and which number stands in the file are one question.
 -- By cases on the kind. Assumes nothing.
-use Prim.Native.Nat.{ℕ, ◌<◌, ◌≤◌}
+use Prim.Native.Nat.{ℕ, ◌≤◌}
 use mathlib.Core.Bool.{true, false, not, cond}
 use mathlib.Core.Logic.{inl, inr}
 use mathlib.Core.Path.{◌≡◌, refl, sym, ap, ◌∙◌}
 use native.Mathlib.Omega.{arith}
 use lib.Dec.{eqb}
 use borrow.Author.Rules.{rules}
-use denote.Enum.Bare.{sameb, same_true, same_false, differs_true, differs_false}
+use denote.Enum.Bare.{sameb, same_false, differs_true, differs_false}
 use Rattle.flow.specs.contracts.kind.Kind.{the_type}
 use Rattle.flow.specs.declared.kind.Kind.{Kind}
 use Rattle.flow.specs.declared.kind.Kind.TheVariants.{Other, Return, Clr, Run, Dim, Gosub, OnGosub}
@@ -46,18 +46,11 @@ number-most OnGosub = omega arith
 
 -- the same of a number that may stand for no kind
 
-pub told : {k : Kind} {n : ℕ} (j : Kind) → 0 < kind_number j → Tells n k → k ≡ j → n ≡ kind_number j
-told j some (inl e) same = sym e ∙ ap kind_number same
-told j some (inr o) same = let z : 0 ≡ kind_number j = ap kind_number (sym o.0 ∙ same) in absurd (omega (arith, z))
-
 pub told-not : {k : Kind} {n : ℕ} (j : Kind) → Tells n k → (k ≡ j → ⊥) → n ≡ kind_number j → ⊥
 told-not j (inl e) other same = number-not j e other same
 told-not j (inr o) other same = omega (arith, o.1, number-most j)
 
 -- what a comparison of two kinds says
-
-pub same-kind : (j k : Kind) → true ≡ sameb the_type j k → j ≡ k
-same-kind j k e = same_true the_type (search rules) j k (sym e)
 
 pub other-kind : (j k : Kind) → false ≡ sameb the_type j k → j ≡ k → ⊥
 other-kind j k e = same_false the_type j k (sym e)

@@ -22,6 +22,7 @@ pub fn work_fits(n: usize, work: usize) -> bool
 }
 
 // Masks of n × arrays bytes, live-in and live-out of n words, and the work area.
+#[tactic(auto, using(crate::proofs::Tests::tests), unfolding(crate::specs::Format::area_checks, crate::specs::Format::verdict))]
 pub fn areas_fit(
     n: usize,
     arrays: usize,
@@ -33,14 +34,8 @@ pub fn areas_fit(
     requires { (n ≤ max_statements) × (arrays ≤ max_arrays) }
     ensures { result ≡ is_fit (verdict (area_checks n arrays masks live_in live_out work)) }
 {
-    if !area_fits(n * arrays, masks) {
-        return false;
-    }
-    if !area_fits(n, live_in) {
-        return false;
-    }
-    if !area_fits(n, live_out) {
-        return false;
-    }
-    work_fits(n, work)
+    area_fits(n * arrays, masks)
+        && area_fits(n, live_in)
+        && area_fits(n, live_out)
+        && work_fits(n, work)
 }

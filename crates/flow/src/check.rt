@@ -1,9 +1,10 @@
 // The checking reader: every field of a file in file order, up to the first that is unfit. It writes nothing.
+#![tactic(auto, using(crate::proofs::Tests::tests), unfolding(crate::specs::Format::header_checks, crate::specs::Format::start_checks, crate::specs::Format::reference_count_checks, crate::specs::Format::reference_checks, crate::specs::Format::name_checks, crate::specs::Format::item_checks, crate::specs::Format::dim_checks, crate::specs::Format::continuation_checks, crate::specs::Format::gosub_checks, crate::specs::Format::data_checks, crate::specs::Format::record_end, crate::specs::Format::key_checks, crate::specs::Format::end_checks, crate::specs::Format::each, crate::specs::Format::verdict))]
+
 ghost use Rattle.std.specs.Prelude.{◌≡◌, ◌++◌, ◌+◌, ◌≤◌, ◌^◌, length, ltb};
 ghost use Rattle.flow.specs.Format as format;
-ghost use Rattle.flow.specs.Format.{kind_at, verdict, each, header_checks, start_checks, reference_count_checks, reference_checks, name_checks, dim_checks, gosub_checks, on_gosub_checks, continuation_checks, data_checks, rest_checks, statement_checks, line_record_checks, key_checks, end_checks, file_checks, successors_place, references_place, reference_count, names_place, data_place, elements_end, record_end, lines_place, line_count, key_place, end_place, handler_of};
+ghost use Rattle.flow.specs.Format.{verdict, each, header_checks, start_checks, reference_count_checks, reference_checks, name_checks, dim_checks, gosub_checks, on_gosub_checks, continuation_checks, data_checks, rest_checks, statement_checks, line_record_checks, key_checks, end_checks, file_checks, successors_place, references_place, reference_count, names_place, data_place, elements_end, record_end, lines_place, line_count, key_place, end_place, handler_of};
 ghost use Rattle.flow.specs.Clauses.Answers.{Reached, answer_of, statement_in, header_of};
-ghost use Rattle.flow.specs.Clauses.Kinds.{Tells};
 ghost use Rattle.flow.specs.Clauses.Parts.{Due, Read, part_answer};
 
 use crate::bytes::{u8_at, u16_at, u64_at};
@@ -82,14 +83,6 @@ fn check_start(file: &[u8], p: usize) -> Result<usize, Refusal>
     Ok(p + 6)
 }
 
-// The kind of the record at p. A number that stands for no kind was refused before, or is about to be.
-fn kind(file: &[u8], p: usize) -> Kind
-    requires { p + 5 ≤ length file.now }
-    ensures { Tells (kind_at file.now p) result }
-{
-    Kind::try_from(file[p + 4]).unwrap_or(Kind::Other)
-}
-
 // The references of the record at p, whose count stands at `at`. `least` is the smallest array number that still rises.
 fn check_references(file: &[u8], p: usize, at: usize) -> Result<usize, Refusal>
     requires { Reached file.now p at (references_place file.now p) }
@@ -102,7 +95,7 @@ fn check_references(file: &[u8], p: usize, at: usize) -> Result<usize, Refusal>
     if count == 0 {
         return Ok(at + 1);
     }
-    if kind(file, p) == Kind::Return {
+    if Kind::at(file, p) == Kind::Return {
         return Err(Refusal::ReturnReference(p));
     }
     let arrays = u8_at(file, 4);
@@ -128,10 +121,7 @@ fn check_references(file: &[u8], p: usize, at: usize) -> Result<usize, Refusal>
 fn names_fit(w: u64, names: usize) -> bool
     ensures { result ≡ ltb w (2 ^ names) }
 {
-    if names >= 64 {
-        return true;
-    }
-    w >> names == 0
+    names >= 64 || w >> names == 0
 }
 
 // The names written and the names read by the record at p, which stand at `at`.
@@ -232,7 +222,7 @@ fn check_data(file: &[u8], p: usize, at: usize) -> Result<usize, Refusal>
     requires { Reached file.now p at (data_place file.now p) }
     ensures { result ≡ answer_of (verdict (data_checks file.now p)) (record_end file.now p) }
 {
-    match kind(file, p) {
+    match Kind::at(file, p) {
         Kind::Dim => check_items(file, p, at),
         Kind::Gosub => check_gosub(file, p, at),
         Kind::OnGosub => check_call_lines(file, p, at),
@@ -250,7 +240,7 @@ fn check_rest(file: &[u8], p: usize, at: usize) -> Result<usize, Refusal>
     check_data(file, p, data_at)
 }
 
-// The statements' records, one after the other: the first unfit field ends the reading of all of them.
+// The statements' records, one after the other: the first unfit field ends the reading of all of them. By a labelled loop that is left from the inner one, as the order asks.
 fn check_statements(file: &[u8]) -> Result<usize, Refusal>
     requires { 8 ≤ length file.now }
     ensures { result ≡ answer_of (verdict (statement_checks file.now)) (lines_place file.now) }
@@ -288,6 +278,7 @@ fn check_lines(file: &[u8], at: usize) -> Result<usize, Refusal>
     let n = u16_at(file, 2);
     let mut least = 0;
     let mut k = 0;
+    // How many FL records there are is known at the last one alone, so this is no range.
     while marked(file, at + 6 * k, b'L') {
         let q = at + 6 * k;
         if file.len() < q + 4 {

@@ -1,5 +1,7 @@
 // The kinds of statements, and their numbers in a file.
-ghost use Rattle.flow.specs.Clauses.Kinds.{Decodes};
+ghost use Rattle.std.specs.Prelude.{◌+◌, ◌≤◌, length};
+ghost use Rattle.flow.specs.Format.{kind_at};
+ghost use Rattle.flow.specs.Clauses.Kinds.{Decodes, Tells};
 
 #[derive(Clone, Copy, Debug, PartialEq, Eq)]
 pub enum Kind {
@@ -32,5 +34,15 @@ impl TryFrom<u8> for Kind {
             6 => Ok(Kind::OnGosub),
             _ => Err(UnknownKind(number)),
         }
+    }
+}
+
+impl Kind {
+    // The kind of the record at p. A number that stands for no kind was refused before, and counts as another statement here.
+    pub fn at(file: &[u8], p: usize) -> Kind
+        requires { p + 5 ≤ length file.now }
+        ensures { Tells (kind_at file.now p) result }
+    {
+        Kind::try_from(file[p + 4]).unwrap_or(Kind::Other)
     }
 }

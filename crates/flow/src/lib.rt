@@ -101,7 +101,8 @@ impl Refusal {
     }
 }
 
-// What the header says, where the lines stand, and the handler, of a file that was found fit.
+// What the header says, where the lines stand, and the handler, of a file that was found fit. It goes beside the file, and not with it in one struct: a struct that holds a reference has a value
+// before and after each call, so that contracts would say `file.entry.bytes.now` for `file.now`.
 #[derive(Clone, Copy, Debug, PartialEq, Eq)]
 pub struct Header {
     pub statements: usize,
@@ -125,11 +126,11 @@ pub enum Part {
     End,
 }
 
-// An item of a DIM: its array, and its flag, 1 with dimensions, 0 without.
+// An item of a DIM: its array, and whether it has dimensions.
 #[derive(Clone, Copy, Debug, PartialEq, Eq)]
 pub struct Item {
     pub array: usize,
-    pub flag: usize,
+    pub flag: bool,
 }
 
 pub mod areas;

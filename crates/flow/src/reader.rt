@@ -1,6 +1,6 @@
-// The reader: the file and how far it has read.
-ghost use Rattle.std.specs.Prelude.{◌≡◌};
-ghost use Rattle.flow.specs.Clauses.Parts.{Due, part_answer, place_after};
+// The reader: the file and what it says of the parts that were read.
+ghost use Rattle.std.specs.Prelude.{◌≡◌, Ok};
+ghost use Rattle.flow.specs.Clauses.Parts.{answer_before, answer_through};
 
 use crate::check::check_part;
 use crate::{Part, Refusal};
@@ -8,24 +8,28 @@ use crate::{Part, Refusal};
 #[derive(Drop)]
 pub struct Reader<'a> {
     pub file: &'a [u8],
-    pub at: usize,
+    // The place after the parts that were read, or the first refusal.
+    pub so_far: Result<usize, Refusal>,
 }
 
 impl<'a> Reader<'a> {
     // A reader of the file that has read nothing.
     pub fn new(file: &'a [u8]) -> Reader<'a>
-        ensures { (result.file ≡ file.entry) × (result.at ≡ 0) }
+        ensures { (result.file ≡ file.entry) × (result.so_far ≡ Ok 0) }
     {
-        Reader { file, at: 0 }
+        Reader {
+            file,
+            so_far: Ok(0),
+        }
     }
 
-    // The next part, which begins where the reader stands. The reader moves past a part that is fit, and the place after it comes back.
+    // The next part, which begins where the reader stands. Where a part before it was refused, that refusal is the answer, and the part is not looked at.
     pub fn next(&mut self, part: Part) -> Result<usize, Refusal>
-        requires { Due self.old.file.now part self.old.at }
-        ensures { (result ≡ part_answer self.old.file.now part) × (self.new.file ≡ self.old.file) × (self.new.at ≡ place_after result self.old.at) }
+        requires { self.old.so_far ≡ answer_before self.old.file.now part }
+        ensures { (result ≡ answer_through self.old.file.now part) × (self.new.file ≡ self.old.file) × (self.new.so_far ≡ result) }
     {
-        let end = check_part(self.file, part, self.at)?;
-        self.at = end;
-        Ok(end)
+        let at = self.so_far?;
+        self.so_far = check_part(self.file, part, at);
+        self.so_far
     }
 }

@@ -9,7 +9,7 @@ use native.Mathlib.Decide.{ℕ_discrete}
 use native.Mathlib.Nat.{lt_of_lt_of_le}
 use native.Mathlib.Omega.{arith}
 use lib.Bits.{bit_or}
-use lib.ListN.{length, get_or}
+use lib.ListN.{get_or}
 use lib.Pow.{pow_mono}
 use Rattle.words.specs.Clauses.Row.{bit}
 use Rattle.words.specs.Clauses.Change.{zeroed}
@@ -28,7 +28,7 @@ use Rattle.statements.proofs.Keeps.{ready-size, ready_formed, keeps-trans, keeps
 use Rattle.statements.proofs.WellFormed.{names_is}
 use Rattle.statements.proofs.Names.{member-bit, bit-member, or-first, or-second, or_either, bit_below, word_below, read_name, written_name}
 use Rattle.interference.specs.Clauses.Clique.{CliqueAdded, NewCliqueAdded, Both, Pairs}
-use Rattle.interference.specs.Clauses.Rows.{after_word, Seen, BothUsed, Noted, Rows}
+use Rattle.interference.specs.Clauses.Rows.{RowsStart, after_word, Seen, BothUsed, Noted, Rows}
 use Rattle.interference.proofs.Paired.{pairs_as, pairs-none, pairs_added, added_keeps, Going, going_as, going_new}
 
 module _ {s ws : List ℕ} {n : ℕ} (r : Ready s ws n) where
@@ -138,21 +138,25 @@ module _ {s ws : List ℕ} {n : ℕ} (r : Ready s ws n) where
       pair : (y : ℕ) → bit (get_or rows x 0) y ≡ 1 → Interferes (flow_of s) x y
       pair y e = let t = p.sound x y l e in to x y t.0 t.1
 
-  module _ (rows : List ℕ) {vs : List ℕ} {names : ℕ} (count : names ≡ (flow_of s).names) (room : (flow_of s).names ≤ length rows) (clear : vs ≡ zeroed rows 0 names) where
-    cleared : Pairs vs (flow_of s).names (λ x y. ⊥)
-    cleared = pairs-none (λ x l. subst (λ (z : List ℕ). get_or z x 0 ≡ 0) (sym clear) (zeroed_first rows names x (omega arith) (omega arith)))
+-- and so are those that are noted in words that held none
 
-    kept_clear : Keeps 0 (flow_of s).names rows vs
-    kept_clear = subst (λ (z : List ℕ). Keeps 0 (flow_of s).names rows z) (sym clear) (keeps-zeroed rows 0 names (omega arith) (omega arith))
+module _ {s ws rows vs : List ℕ} {names n : ℕ} (p : RowsStart s ws rows names n) (clear : vs ≡ zeroed rows 0 names) where
+  cleared : Pairs vs (flow_of s).names (λ x y. ⊥)
+  cleared = pairs-none (λ x l. subst (λ (z : List ℕ). get_or z x 0 ≡ 0) (sym clear) (zeroed_first rows names x (omega (arith, p.names_is)) (omega (arith, p.names_is, p.rows_room.room))))
 
-    pub live_rows : {us : List ℕ} → (flow_of s).handler ≡ none → Noted (flow_of s) (Seen (flow_of s) n) vs us → Rows (flow_of s) rows us
-    live_rows unkeyed m = record {
-      word = row_word (Seen (flow_of s) n) (m.pairs cleared) (λ x y d t. record { different = d; together = seen-together t }) (λ x y k l i. together-seen unkeyed k l i.together);
-      kept = keeps-trans kept_clear m.kept;
-    }
+  kept_clear : Keeps 0 (flow_of s).names rows vs
+  kept_clear = subst (λ (z : List ℕ). Keeps 0 (flow_of s).names rows z) (sym clear) (keeps-zeroed rows 0 names (omega arith) (omega (arith, p.names_is)))
 
-    pub used_rows : {us : List ℕ} {h : ℕ} → (flow_of s).handler ≡ some h → Noted (flow_of s) (BothUsed (flow_of s)) vs us → Rows (flow_of s) rows us
-    used_rows keyed m = record {
-      word = row_word (BothUsed (flow_of s)) (m.pairs cleared) (λ x y d u. handler-all (ready_formed r) keyed d u.0 u.1) (λ x y k l i. interferes-used (ready_formed r) i);
-      kept = keeps-trans kept_clear m.kept;
-    }
+  rows_of : {us : List ℕ} (P : ℕ → ℕ → Type 0) → Noted (flow_of s) P vs us → ((x y : ℕ) → (x ≡ y → ⊥) → P x y → Interferes (flow_of s) x y)
+      → ((x y : ℕ) → x < (flow_of s).names → y < (flow_of s).names → Interferes (flow_of s) x y → P x y) → Rows (flow_of s) rows us
+  rows_of P m to from = record { word = row_word p.rows_room.ready P (m.pairs cleared) to from; kept = keeps-trans kept_clear m.kept }
+
+  pub live_rows : {us : List ℕ} → (flow_of s).handler ≡ none → Noted (flow_of s) (Seen (flow_of s) n) vs us → Rows (flow_of s) rows us
+  live_rows unkeyed m =
+      let r = p.rows_room.ready in
+      rows_of (Seen (flow_of s) n) m (λ x y d t. record { different = d; together = seen-together r t }) (λ x y k l i. together-seen r unkeyed k l i.together)
+
+  pub used_rows : {us : List ℕ} {h : ℕ} → (flow_of s).handler ≡ some h → Noted (flow_of s) (BothUsed (flow_of s)) vs us → Rows (flow_of s) rows us
+  used_rows keyed m =
+      let r = p.rows_room.ready in
+      rows_of (BothUsed (flow_of s)) m (λ x y d u. handler-all (ready_formed r) keyed d u.0 u.1) (λ x y k l i. interferes-used (ready_formed r) i)

@@ -18,6 +18,7 @@ fn add_clique(rows: &mut [u64], set: u64)
     ensures { CliqueAdded rows.old rows.new set }
 {
     let mut rest = set;
+    // The lowest name is taken away until none is left: an iterator over bits would be a type of our own, longer than the loop.
     while rest != 0 {
         let x = rest.trailing_zeros() as usize;
         let name = 1u64 << x;

@@ -21,7 +21,7 @@ const STATEMENTS: usize = 96;
 const TEXT: usize = 11 + 108 * STATEMENTS;
 
 fn main() {
-    // A byte more than the longest input, so that a longer one is seen to be too long.
+    // A byte more than the longest input, so that a longer one is seen to be too long. Arrays, since there is no heap; by `io`, since the standard reader and writer rest on more assumed contracts.
     let mut input = [0u8; INPUT + 1];
     let size = io::read_full(0, &mut input);
     let mut out = [0u8; TEXT];

@@ -53,6 +53,7 @@ impl Text {
         self.buffer.push(after);
     }
 
+    // Apart from `hex`, since each is over a function of its own in `io`.
     #[tactic(auto, using(crate::proofs::Spelled::decimal_spelled))]
     pub fn decimal(&mut self, n: u64, after: u8)
         requires { HasRoom self.old (length (theory.decimal n ++ (after ∷ []))) }

@@ -3,7 +3,6 @@
 #![tactic(auto)]
 
 ghost use Rattle.std.specs.Prelude.{List, [], ◌≡◌, ℕ, ◌-◌, ◌<◌, ◌≤◌, length};
-ghost use Rattle.flow.specs.Limits.{max_statements};
 ghost use Rattle.flow.specs.Format.{flow_of};
 ghost use Rattle.words.specs.Clauses.Change.{zeroed};
 ghost use Rattle.statements.specs.Clauses.Layout.{matrix_at, lists_at, queue_at};
@@ -18,19 +17,20 @@ ghost use Rattle.live.specs.Clauses.LiveNames.{LiveStart, Begun, LiveNames};
 
 use flow::StmtId;
 use solve::{Queue, stmts};
-use statements::{fields, layout};
+use statements::fields;
+use statements::layout::Layout;
 
 mod sweep;
 
 // Row j of the matrix gets i as a predecessor, for each successor j of i.
-fn note_predecessors(file: &[u8], work: &mut [u64], n: usize, i: StmtId)
-    requires { Ready file.now work.old n × (i.0 < n) × Column work.old n i.0 [] }
-    ensures { Noted (flow_of file.now) work.old work.new n i.0 }
+fn note_predecessors(file: &[u8], work: &mut [u64], layout: Layout, i: StmtId)
+    requires { Ready file.now work.old layout.n × (i.0 < layout.n) × Column work.old layout.n i.0 [] }
+    ensures { Noted (flow_of file.now) work.old work.new layout.n i.0 }
 {
-    let count = fields::successor_count(file, work, n, i);
+    let count = fields::successor_count(file, work, layout.n, i);
     for k in 0..count {
-        let j = fields::successor(file, work, n, i, k);
-        words::insert(work, layout::row(n, j), i.0);
+        let j = fields::successor(file, work, layout.n, i, k);
+        words::insert(work, layout.row(j), i.0);
     }
 }
 
@@ -38,16 +38,16 @@ fn note_predecessors(file: &[u8], work: &mut [u64], n: usize, i: StmtId)
 fn push_to(
     work: &mut [u64],
     live_out: &mut [u64],
-    n: usize,
+    layout: Layout,
     queue: Queue,
     i: StmtId,
     live: u64,
 ) -> Queue
-    requires { (n ≤ max_statements) × (nodes_end n 0 ≤ length work.old) × (n ≤ length live_out.old) × (i.0 < n) × ((w : List ℕ) × Waits work.old n 0 queue w) }
-    ensures { PushedTo work.old work.new live_out.old live_out.new n queue result i.0 live }
+    requires { (nodes_end layout.n 0 ≤ length work.old) × (layout.n ≤ length live_out.old) × (i.0 < layout.n) × ((w : List ℕ) × Waits work.old layout.n 0 queue w) }
+    ensures { PushedTo work.old work.new live_out.old live_out.new layout.n queue result i.0 live }
 {
     if words::union_word(live_out, i.0, live) {
-        return stmts::enqueue(work, n, queue, i);
+        return stmts::enqueue(work, layout, queue, i);
     }
     queue
 }
@@ -56,20 +56,20 @@ fn push_to(
 fn push_live(
     work: &mut [u64],
     live_out: &mut [u64],
-    n: usize,
+    layout: Layout,
     start: Queue,
     j: StmtId,
     live: u64,
 ) -> Queue
-    requires { (n ≤ max_statements) × (nodes_end n 0 ≤ length work.old) × (n ≤ length live_out.old) × (j.0 < n) × ((w : List ℕ) × Waits work.old n 0 start w) }
-    ensures { PushedLive work.old work.new live_out.old live_out.new n start result j.0 live }
+    requires { (nodes_end layout.n 0 ≤ length work.old) × (layout.n ≤ length live_out.old) × (j.0 < layout.n) × ((w : List ℕ) × Waits work.old layout.n 0 start w) }
+    ensures { PushedLive work.old work.new live_out.old live_out.new layout.n start result j.0 live }
 {
-    let row = layout::row(n, j);
+    let row = layout.row(j);
     let mut queue = start;
-    let mut i = words::next(work, row, 0, n);
-    while i < n {
-        queue = push_to(work, live_out, n, queue, StmtId(i), live);
-        i = words::next(work, row, i + 1, n);
+    let mut from = 0;
+    while let Some(i) = words::next(work, row, from, layout.n) {
+        queue = push_to(work, live_out, layout, queue, StmtId(i), live);
+        from = i + 1;
     }
     queue
 }
@@ -80,31 +80,35 @@ fn visit(
     work: &mut [u64],
     live_in: &mut [u64],
     live_out: &mut [u64],
-    n: usize,
+    layout: Layout,
     r: Queue,
 ) -> Queue
-    requires { Ready file.now work.old n × (n ≤ length live_in.old) × (n ≤ length live_out.old) × Predecessors (flow_of file.now) work.old n × Held (flow_of file.now) 0 n work.old live_in.old live_out.old r × (0 < r.len) }
-    ensures { Visited (flow_of file.now) n work.old work.new live_in.old live_in.new live_out.old live_out.new r result }
+    requires { Ready file.now work.old layout.n × (layout.n ≤ length live_in.old) × (layout.n ≤ length live_out.old) × Predecessors (flow_of file.now) work.old layout.n × Held (flow_of file.now) 0 layout.n work.old live_in.old live_out.old r × (0 < r.len) }
+    ensures { Visited (flow_of file.now) layout.n work.old work.new live_in.old live_in.new live_out.old live_out.new r result }
 {
-    let j = stmts::take(work, n, r);
-    let queue = solve::rest(n, r);
-    let reads = fields::read(file, work, n, j);
-    let writes = fields::written(file, work, n, j);
+    let j = stmts::take(work, layout, r);
+    let queue = solve::rest(layout, r);
+    let reads = fields::read(file, work, layout.n, j);
+    let writes = fields::written(file, work, layout.n, j);
     let at = j.0;
     let live = reads | words::difference(live_out[at], writes);
     live_in[at] = live;
-    push_live(work, live_out, n, queue, j, live)
+    push_live(work, live_out, layout, queue, j, live)
 }
 
 // The words that the worklist counts on: the matrix, and behind the lists of calls the queue and those of the numbers that wait.
-fn clear(work: &mut [u64], n: usize)
-    requires { (n ≤ max_statements) × (nodes_end n 0 ≤ length work.old) }
-    ensures { work.new ≡ zeroed (zeroed work.old (matrix_at n) (lists_at n - matrix_at n)) (queue_at n) (nodes_end n 0 - queue_at n) }
+fn clear(work: &mut [u64], layout: Layout)
+    requires { nodes_end layout.n 0 ≤ length work.old }
+    ensures { work.new ≡ zeroed (zeroed work.old (matrix_at layout.n) (lists_at layout.n - matrix_at layout.n)) (queue_at layout.n) (nodes_end layout.n 0 - queue_at layout.n) }
 {
-    let matrix = layout::matrix(n);
-    words::zero_row(work, matrix, layout::lists(n) - matrix);
-    let queue = layout::queue(n);
-    words::zero_row(work, queue, solve::layout::nodes_end(n, 0) - queue);
+    let matrix = layout.matrix();
+    words::zero_row(work, matrix, layout.lists() - matrix);
+    let queue = layout.queue();
+    let numbers = solve::layout::Layout {
+        n: layout.n,
+        width: 0,
+    };
+    words::zero_row(work, queue, numbers.nodes_end() - queue);
 }
 
 // Statement i is settled; if its live-in changed, it waits.
@@ -113,15 +117,15 @@ fn settle_or_wait(
     work: &mut [u64],
     live_in: &mut [u64],
     live_out: &mut [u64],
-    n: usize,
+    layout: Layout,
     waiting: Queue,
     i: StmtId,
 ) -> Queue
-    requires { LiveStart file.now work.old live_in.old live_out.old n × (i.0 < n) × ((w : List ℕ) × Waits work.old n 0 waiting w) }
-    ensures { SettledOrWaits (flow_of file.now) n work.old work.new live_in.old live_in.new live_out.old live_out.new waiting result i.0 }
+    requires { LiveStart file.now work.old live_in.old live_out.old layout.n × (i.0 < layout.n) × ((w : List ℕ) × Waits work.old layout.n 0 waiting w) }
+    ensures { SettledOrWaits (flow_of file.now) layout.n work.old work.new live_in.old live_in.new live_out.old live_out.new waiting result i.0 }
 {
-    if sweep::settle(file, work, live_in, live_out, n, i) {
-        return stmts::enqueue(work, n, waiting, i);
+    if sweep::settle(file, work, live_in, live_out, layout.n, i) {
+        return stmts::enqueue(work, layout, waiting, i);
     }
     waiting
 }
@@ -132,16 +136,16 @@ fn begin(
     work: &mut [u64],
     live_in: &mut [u64],
     live_out: &mut [u64],
-    n: usize,
+    layout: Layout,
 ) -> Queue
-    requires { LiveStart file.now work.old live_in.old live_out.old n × Sound (flow_of file.now) n live_in.old }
-    ensures { Begun (flow_of file.now) n work.old work.new live_in.old live_in.new live_out.old live_out.new result }
+    requires { LiveStart file.now work.old live_in.old live_out.old layout.n × Sound (flow_of file.now) layout.n live_in.old }
+    ensures { Begun (flow_of file.now) layout.n work.old work.new live_in.old live_in.new live_out.old live_out.new result }
 {
-    clear(work, n);
+    clear(work, layout);
     let mut queue = Queue { head: 0, len: 0 };
-    for i in (0..n).rev() {
-        note_predecessors(file, work, n, StmtId(i));
-        queue = settle_or_wait(file, work, live_in, live_out, n, queue, StmtId(i));
+    for i in (0..layout.n).rev() {
+        note_predecessors(file, work, layout, StmtId(i));
+        queue = settle_or_wait(file, work, live_in, live_out, layout, queue, StmtId(i));
     }
     queue
 }
@@ -152,16 +156,17 @@ pub fn live_names(
     work: &mut [u64],
     live_in: &mut [u64],
     live_out: &mut [u64],
-    n: usize,
+    layout: Layout,
 )
-    requires { LiveStart file.now work.old live_in.old live_out.old n }
-    ensures { LiveNames (flow_of file.now) n work.old work.new live_in.old live_in.new live_out.old live_out.new }
+    requires { LiveStart file.now work.old live_in.old live_out.old layout.n }
+    ensures { LiveNames (flow_of file.now) layout.n work.old work.new live_in.old live_in.new live_out.old live_out.new }
 {
-    if !sweep::sweeps(file, work, live_in, live_out, n) {
+    if !sweep::sweeps(file, work, live_in, live_out, layout.n) {
         return;
     }
-    let mut queue = begin(file, work, live_in, live_out, n);
+    let mut queue = begin(file, work, live_in, live_out, layout);
+    // No range: it runs until nothing waits, and a visit makes others wait.
     while 0 < queue.len {
-        queue = visit(file, work, live_in, live_out, n, queue);
+        queue = visit(file, work, live_in, live_out, layout, queue);
     }
 }

@@ -35,6 +35,9 @@ pub const AUTO: u8 = 2;
 
 pub const DIMMED: u8 = 4;
 
+// All states; also the largest mask.
+pub const ANY_STATE: u8 = NONE | AUTO | DIMMED;
+
 // What a statement or an edge does to one array. CLR and RUN stand here beside the four
 // effects of the paper, so that every change of a mask goes through `step`.
 #[derive(Clone, Copy, Debug, PartialEq, Eq)]

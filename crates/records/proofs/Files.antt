@@ -96,4 +96,4 @@ handler-below {s} h i e = go (has_key s) refl
         let same : i ≡ handler_at s = cc in
         let target = ltb-true (handler_at s) (statements_of s) (all_hold (key_record_checks s) (ap verdict (sym (with_checks s there)) ∙ key-fit h)).1.0 in
         omega (arith, same, target)
-    go false absent = let unnamed = without-handler s absent in let z : ◌≡◌ {A = ℕ} 0 1 = cc in absurd (omega arith)
+    go false absent = let unnamed = without-handler s absent in absurd (cc)

@@ -13,11 +13,17 @@ use lib.Dec.{eqb}
 use borrow.Author.Tests.{leb-true, eqb-true, ne_eqb}
 use Rattle.flow.specs.Format.{record_end, start_checks, data_place, data_count, element_place, elements_end, kind_at, continuation_at}
 use Rattle.flow.specs.Clauses.Answers.{FitRecord}
-use Rattle.records.specs.Clauses.Fields.{item_count, call_line_count, continuation_in}
+use Rattle.records.specs.Clauses.Fields.{item_count, call_line_count, call_lines_place, continuation_in}
 use Rattle.flow.proofs.Verdicts.{all_hold}
 use Rattle.flow.proofs.Records.{end_is, end_fits, parts}
 
 -- the data of a kind lie within the file
+
+pub items_counted : {s : List ℕ} {p : ℕ} → FitRecord s p → 4 ≡ kind_at s p → data_place s p + 1 ≤ length s
+items_counted {s} {p} h e = omega (arith, end_fits h, end_is s p 4 (sym e))
+
+pub lines_counted : {s : List ℕ} {p : ℕ} → FitRecord s p → 6 ≡ kind_at s p → data_place s p + 1 ≤ length s
+lines_counted {s} {p} h e = omega (arith, end_fits h, end_is s p 6 (sym e))
 
 pub item-fits : {s : List ℕ} {p : ℕ} → FitRecord s p → (k : ℕ) → k < item_count s p → element_place s p k + 2 ≤ length s
 unfolding item_count record_end
@@ -30,7 +36,7 @@ item-fits {s} {p} h k l = go (eqb (kind_at s p) 4) l (end_fits h)
     go false l e = absurd (omega arith)
 
 pub call-line-fits : {s : List ℕ} {p : ℕ} → FitRecord s p → (k : ℕ) → k < call_line_count s p
-    → cond (eqb (kind_at s p) 5) (data_place s p) (data_place s p + 1) + 2 * k + 2 ≤ length s
+    → call_lines_place s p + 2 * k + 2 ≤ length s
 unfolding call_line_count
 call-line-fits {s} {p} h k l = go (eqb (kind_at s p) 5) (eqb (kind_at s p) 6) refl refl l
   where

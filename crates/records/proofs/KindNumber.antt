@@ -4,7 +4,10 @@ use Prim.Native.Nat.{ℕ}
 use mathlib.Core.Bool.{Bool, true, false}
 use mathlib.Core.Path.{◌≡◌, refl}
 use lib.Dec.{eqb}
-use borrow.Author.Tests.{eqb-true, eqb-false}
+use borrow.Author.Tests.{eqb-true, eqb-false, ne_eqb}
+use Rattle.flow.specs.declared.kind.Kind.{Kind}
+use Rattle.flow.specs.Clauses.Kinds.{kind_number}
+use Rattle.flow.proofs.KindNumbers.{number-not}
 
 -- a kind's number is one of those with data, or none of them
 pub data Number (k : ℕ) : Type 0 where
@@ -21,3 +24,7 @@ number k = go (eqb k 4) (eqb k 5) (eqb k 6) refl refl refl
     go false true o _ e _ = gosub (eqb-true k 5 e)
     go false false true _ _ e = on_gosub (eqb-true k 6 e)
     go false false false d g o = other (eqb-false k 4 d) (eqb-false k 5 g) (eqb-false k 6 o)
+
+-- the tests of a number of which the kind is known, and is not j
+pub no_number : {k : Kind} {n : ℕ} (j : Kind) → kind_number k ≡ n → (k ≡ j → ⊥) → eqb n (kind_number j) ≡ false
+no_number {n = n} j is unlike = ne_eqb n (kind_number j) (number-not j is unlike)

@@ -11,3 +11,4 @@ pub mod LineParts
 pub mod LineSearch
 pub mod Ranged
 pub mod Given
+pub mod Fits

@@ -1,15 +1,15 @@
 -- The parts that the lines fall into: a line's part is one of them, the noting of one record keeps what their words say, and a line stands among the records of its part.
 -- By the cases whether a part was met before.
-use Prim.Native.Nat.{ℕ, ◌+◌, ◌*◌, ◌%◌, ◌≤◌, ◌<◌}
+use Prim.Native.Nat.{ℕ, ◌+◌, ◌*◌, ◌/◌, ◌%◌, ◌≤◌, ◌<◌}
 use native.Mathlib.Omega.{arith}
 use native.Mathlib.Decide.{ℕ_discrete}
-use native.Mathlib.Nat.{mul-le-mul_right, eq-or-lt_of_le, pos_of_ne-zero}
+use native.Mathlib.Nat.{mul-le-mul_right, eq-or-lt_of_le}
 use mathlib.Core.Bool.{Bool, true, false, cond}
 use mathlib.Core.List.{List}
 use mathlib.Core.Logic.{⊎_elim}
 use mathlib.Core.Path.{◌≡◌, refl, sym, ap, subst, ◌∙◌}
-use borrow.Author.Tests.{eqb-true, eqb-false}
-use lib.Dec.{eqb}
+use borrow.Author.Tests.{ltb-true, ltb-false}
+use lib.Dec.{ltb}
 use lib.ListN.{length, get_or, set, length-set}
 use lib.Seq.{get_or-set_same, get_or-set_other}
 use mir.Syntax.{w8}
@@ -35,41 +35,50 @@ lines-few h = omega (arith, lines_end h, (limited h).file)
 pub line_small : (s : List ℕ) (k : ℕ) → ((i : ℕ) → Fits w8 (get_or s i 0)) → line_number s k < 65536
 line_small s k bytes = le_at-lt 2 s (line_place s k + 2) bytes
 
+-- the first record of a part in which record r is met, where its records were those from `first` to below `end`
+abbrev pub first_met : ℕ → ℕ → ℕ → ℕ
+first_met first end r = cond (ltb first end) first r
+
 -- what the word of a part becomes when record r is met in it
 abbrev pub met_word : ℕ → ℕ → ℕ
-met_word r word = cond (eqb word 0) r (word % 65536) + 65536 * (r + 1)
+met_word r word = first_met (word % 65536) (word / 65536) r + 65536 * (r + 1)
 
-pub first_small : (r word : ℕ) → r < 65536 → cond (eqb word 0) r (word % 65536) < 65536
-first_small r word h = go (eqb word 0)
+pub first_small : (first end r : ℕ) → first < 65536 → r < 65536 → first_met first end r < 65536
+first_small first end r f h = go (ltb first end)
   where
-    go : (t : Bool) → cond t r (word % 65536) < 65536
-    go true = h
-    go false = omega arith
+    go : (t : Bool) → cond t first r < 65536
+    go true = f
+    go false = h
+
+-- put together from its ends
+pub met_made : (word r : ℕ) {first end first' end' made : ℕ} → (first ≡ word % 65536) × (end ≡ word / 65536) → (first' ≡ first_met first end r) × (end' ≡ r + 1)
+    → made ≡ first' + 65536 * end' → made ≡ met_word r word
+met_made word r was is made = rw (was.0, was.1) at (rw (is.0, is.1) at made)
 
 module _ {s : List ℕ} {n r k word : ℕ} (p : LinePart s n r k word) where
   part_met : r < 65535 → part_of n (line_number s r) ≡ k → LinePart s n (r + 1) k (met_word r word)
-  part_met few here = go (eqb word 0) refl
+  part_met few here = go (ltb (word % 65536) (word / 65536)) refl
     where
       at : (x : ℕ) → x ≡ r → part_of n (line_number s x) ≡ k
       at x e = ap (λ (y : ℕ). part_of n (line_number s y)) e ∙ here
 
-      go : (t : Bool) → eqb word 0 ≡ t → LinePart s n (r + 1) k (cond t r (word % 65536) + 65536 * (r + 1))
-      go true e = record {
-        some = omega arith;
-        all = omega arith;
-        holds = λ j l q. let none = eqb-true word 0 e in
-            ⊎_elim (λ m. (omega arith, omega arith)) (λ m. let past = (p.holds j m q).1 in absurd (omega arith)) (eq-or-lt_of_le (let h : j ≤ r = omega arith in h));
-        ends = λ l. (at _ (omega arith), at _ (omega arith));
-      }
-      go false e = let some = p.some in let all = p.all in record {
+      go : (t : Bool) → ltb (word % 65536) (word / 65536) ≡ t → LinePart s n (r + 1) k (cond t (word % 65536) r + 65536 * (r + 1))
+      go true e = let some = ltb-true (word % 65536) (word / 65536) e in let all = p.all in record {
         some = omega arith;
         all = omega arith;
         holds = λ j l q.
             ⊎_elim (λ m. (omega arith, omega arith)) (λ m. let from = (p.holds j m q).0 in (omega arith, omega arith)) (eq-or-lt_of_le (let h : j ≤ r = omega arith in h));
         ends = λ l. (
-          ap (λ (y : ℕ). part_of n (line_number s y)) (let same : (word % 65536 + 65536 * (r + 1)) % 65536 ≡ word % 65536 = omega arith in same) ∙ (p.ends (pos_of_ne-zero (eqb-false word 0 e))).0,
+          ap (λ (y : ℕ). part_of n (line_number s y)) (let same : (word % 65536 + 65536 * (r + 1)) % 65536 ≡ word % 65536 = omega arith in same) ∙ (p.ends (omega arith)).0,
           at _ (omega arith),
         );
+      }
+      go false e = record {
+        some = omega arith;
+        all = omega arith;
+        holds = λ j l q. let none = ltb-false (word % 65536) (word / 65536) e in
+            ⊎_elim (λ m. (omega arith, omega arith)) (λ m. let met = p.holds j m q in absurd (omega (arith, met.0, met.1))) (eq-or-lt_of_le (let h : j ≤ r = omega arith in h));
+        ends = λ l. (at _ (omega arith), at _ (omega arith));
       }
 
   part_else : (part_of n (line_number s r) ≡ k → ⊥) → LinePart s n (r + 1) k word

@@ -130,12 +130,12 @@ module _ (f : ℕ → Line) (l : ℕ) where
   -- the statement found is that of a record
   pub found_in : (n e : ℕ) → first_of (tabulate n f) l ≡ some e → (k : ℕ) × (k < n) × ((f k).first ≡ e)
   unfolding tabulate first_of
-  found_in zero e h = let z : ◌≡◌ {A = ℕ} 0 1 = cc in absurd (omega arith)
+  found_in zero e h = absurd (cc)
   found_in (suc n) e h = go (first_of (tabulate n f) l) refl (λ q. found_in n e q)
     where
       last : (b : Bool) → cond b (some (f n).first) none ≡ some e → (k : ℕ) × (k < suc n) × ((f k).first ≡ e)
       last true q = (n, omega arith, cc)
-      last false q = let z : ◌≡◌ {A = ℕ} 0 1 = cc in absurd (omega arith)
+      last false q = absurd (cc)
 
       go : (o : Option ℕ) → first_of (tabulate n f) l ≡ o → (first_of (tabulate n f) l ≡ some e → (k : ℕ) × (k < n) × ((f k).first ≡ e))
           → (k : ℕ) × (k < suc n) × ((f k).first ≡ e)

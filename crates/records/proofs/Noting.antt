@@ -1,14 +1,17 @@
--- What is noted in a list: the words from base on are the values, the others are as they were, and the length stays.
--- By induction on the number of values.
-use Prim.Native.Nat.{ℕ, zero, suc, ◌+◌, ◌≤◌, ◌<◌}
+-- What is noted in a list: the words from base on are the values, the others are as they were, and the length stays. And the word of a place and a flag goes back to them.
+-- By induction on the number of values, and by the cases of the flag.
+use Prim.Native.Nat.{ℕ, zero, suc, ◌+◌, ◌%◌, ◌^◌, ◌≤◌, ◌<◌}
 use native.Mathlib.Omega.{arith}
 use native.Mathlib.Nat.{eq-or-lt_of_le, le_of_suc-le-suc}
+use mathlib.Core.Bool.{Bool, true, false}
 use mathlib.Core.List.{List}
 use mathlib.Core.Logic.{⊎_elim}
 use mathlib.Core.Path.{◌≡◌, refl, ◌∙◌}
+use borrow.Author.Tests.{le-leb, lt-leb}
 use lib.ListN.{length, get_or, length-set}
 use lib.Seq.{get_or-set_same, get_or-set_other}
 use Rattle.words.specs.Clauses.Change.{noted}
+use Rattle.records.specs.Clauses.Fields.{word_of, noted_of}
 
 module _ (ws : List ℕ) (base : ℕ) (f : ℕ → ℕ) where
   pub length-noted : (k : ℕ) → length (noted ws base k f) ≡ length ws
@@ -30,3 +33,11 @@ module _ (ws : List ℕ) (base : ℕ) (f : ℕ → ℕ) where
   noted_other zero j d n = refl
   noted_other (suc k) j d n =
       get_or-set_other (noted ws base k f) (base + k) j (f k) d (n k (omega arith)) ∙ noted_other k j d (λ i l. n i (omega arith))
+
+pub goes_back : (p : ℕ) (b : Bool) → p < 2 ^ 32 → noted_of (word_of (record { place = p; acts = b })) ≡ record { place = p; acts = b }
+goes_back p true h =
+    let place : (p + 2 ^ 32) % 2 ^ 32 ≡ p = omega arith in
+    rw (place, le-leb (2 ^ 32) (p + 2 ^ 32) (omega arith))
+goes_back p false h =
+    let place : p % 2 ^ 32 ≡ p = omega arith in
+    rw (place, lt-leb (2 ^ 32) p h)

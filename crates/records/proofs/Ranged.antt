@@ -44,7 +44,7 @@ pub record StatementInRange (s : List ℕ) (t : Statement) : Type 0 where
 nothing_in : (s : List ℕ) → StatementInRange s no_statement
 nothing_in s = record {
   successor = λ j m. absurd (Memᴰ.not-nil m);
-  continuation = λ k e. let z : ◌≡◌ {A = ℕ} 0 1 = cc in absurd (omega arith);
+  continuation = λ k e. absurd (cc);
   reference = λ a m. absurd (Memᴰ.not-nil m);
   dimmed = λ x m. absurd (Memᴰ.not-nil m);
   written = pow_pos (names_of s);

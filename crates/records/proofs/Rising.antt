@@ -18,7 +18,7 @@ abbrev pub Rising : (ℕ → ℕ) → ℕ → Type 0
 Rising f n = (j k : ℕ) → j < k → k < n → f j < f k
 
 pub or-second : (a b : Bool) → a ≡ false → (a || b) ≡ true → b ≡ true
-or-second true b e h = let z : ◌≡◌ {A = ℕ} 0 1 = cc in absurd (omega arith)
+or-second true b e h = absurd (cc)
 or-second false b e h = h
 
 above : (f : ℕ → ℕ) (k : ℕ) → rises_at f (suc k) ≡ true → f k < f (suc k)

@@ -75,7 +75,7 @@ target_in s at t h e = go (eqb (u16_at s at) no_continuation) refl e h
   where
     go : (b : Bool) → eqb (u16_at s at) no_continuation ≡ b → continuation_from (u16_at s at) b ≡ some t
         → (b || ltb (u16_at s at) (statements_of s)) ≡ true → t < statements_of s
-    go true q e h = let z : ◌≡◌ {A = ℕ} 0 1 = cc in absurd (omega arith)
+    go true q e h = absurd (cc)
     go false q e h =
         let same : u16_at s at ≡ t = cc in
         omega (arith, ltb-true (u16_at s at) (statements_of s) h)
@@ -90,7 +90,7 @@ unfolding continuation_in gosub_checks on_gosub_checks continuation_checks
 continuation_in_lem {s} {p} h t e = go (number (kind_at s p))
   where
     nowhere : (kind_at s p ≡ 5 → ⊥) → (kind_at s p ≡ 6 → ⊥) → t < statements_of s
-    nowhere g o = let gone = continuation-none s p g o in let z : ◌≡◌ {A = ℕ} 0 1 = cc in absurd (omega arith)
+    nowhere g o = let gone = continuation-none s p g o in absurd (cc)
 
     go : Number (kind_at s p) → t < statements_of s
     go (dim k) = nowhere (λ e. omega arith) (λ e. omega arith)

@@ -1,12 +1,12 @@
-// Fields of a statement's record at p, which was found fit.
-#![tactic(auto)]
+// Fields of a statement's record at p, which was found fit. The file and p stay two parameters: of a struct of both, contracts would say `self.entry.file.now` and `self.entry.at`.
+#![tactic(auto, using(crate::proofs::Fits::fits))]
 
-ghost use Rattle.std.specs.Prelude.{eqb, ◌≡◌, ◌+◌, ◌≤◌, ◌<◌, length};
+ghost use Rattle.std.specs.Prelude.{cond, eqb, ◌≡◌, ◌+◌, ◌≤◌, ◌<◌, length};
 ghost use Rattle.flow.specs.Limits.{no_continuation};
 ghost use Rattle.flow.specs.Format.{continuation_from, line_at, kind_at, successor_count, successor_at, references_place, reference_count, reference_at, names_place, written_at, read_at, data_place, item_at, record_end};
 ghost use Rattle.flow.specs.Clauses.Kinds.{kind_number};
 ghost use Rattle.flow.specs.Clauses.Answers.{FitRecord, statement_in};
-ghost use Rattle.records.specs.Clauses.Fields.{record_part, item_count, acts_at, call_line_count, call_line_at, continuation_in, bit_in, set_word};
+ghost use Rattle.records.specs.Clauses.Fields.{record_part, item_count, acts_at, call_line_count, call_lines_place, call_line_at, continuation_in, bit_in, set_word};
 
 use flow::bytes::{u8_at, u16_at, u64_at};
 use flow::kind::Kind;
@@ -16,7 +16,7 @@ pub fn kind(file: &[u8], p: usize) -> Kind
     requires { FitRecord file.now p }
     ensures { kind_number result ≡ kind_at file.now p }
 {
-    Kind::try_from(file[p + 4]).unwrap()
+    Kind::at(file, p)
 }
 
 pub fn successor_count(file: &[u8], p: usize) -> usize
@@ -63,15 +63,15 @@ fn bit_in(w: usize, a: usize) -> u64
 }
 
 // Word w of the set of references: array a is bit a % 64 of word a / 64.
+#[tactic(auto, using(crate::proofs::Fits::fits), unfolding(crate::specs::Clauses::Fields::set_word))]
 pub fn references_word(file: &[u8], p: usize, w: usize) -> u64
     requires { FitRecord file.now p }
     ensures { result ≡ set_word (reference_count file.now p) (reference_at file.now p) w }
 {
-    let at = references_place(file, p);
-    let n = u8_at(file, at);
+    let first = references_place(file, p) + 1;
     let mut word = 0;
-    for k in 0..n {
-        word |= bit_in(w, u8_at(file, at + 1 + k));
+    for a in &file[first..first + reference_count(file, p)] {
+        word |= bit_in(w, *a as usize);
     }
     word
 }
@@ -108,6 +108,7 @@ fn data_place(file: &[u8], p: usize) -> usize
 }
 
 // The items of a DIM; other kinds have none.
+#[tactic(auto, using(crate::proofs::Fits::fits), unfolding(crate::specs::Clauses::Fields::item_count))]
 pub fn item_count(file: &[u8], p: usize) -> usize
     requires { FitRecord file.now p }
     ensures { result ≡ item_count file.now p }
@@ -120,16 +121,17 @@ pub fn item_count(file: &[u8], p: usize) -> usize
 
 pub fn item(file: &[u8], p: usize, k: usize) -> Item
     requires { FitRecord file.now p × (k < item_count file.now p) }
-    ensures { (result.array ≡ (item_at file.now p k).array) × (result.flag ≡ (item_at file.now p k).flag) }
+    ensures { (result.array ≡ (item_at file.now p k).array) × (cond result.flag 1 0 ≡ (item_at file.now p k).flag) }
 {
     let at = data_place(file, p) + 1 + 2 * k;
     Item {
         array: u8_at(file, at),
-        flag: u8_at(file, at + 1),
+        flag: u8_at(file, at + 1) == 1,
     }
 }
 
 // Whether the statement does anything to masks.
+#[tactic(auto, using(crate::proofs::Fits::fits), unfolding(crate::specs::Clauses::Fields::acts_at))]
 pub fn acts(file: &[u8], p: usize) -> bool
     requires { FitRecord file.now p }
     ensures { result ≡ acts_at file.now p }
@@ -141,6 +143,7 @@ pub fn acts(file: &[u8], p: usize) -> bool
 }
 
 // The lines of a call, of which GOSUB has one; other kinds have none.
+#[tactic(auto, using(crate::proofs::Fits::fits), unfolding(crate::specs::Clauses::Fields::call_line_count))]
 pub fn line_count(file: &[u8], p: usize) -> usize
     requires { FitRecord file.now p }
     ensures { result ≡ call_line_count file.now p }
@@ -152,18 +155,27 @@ pub fn line_count(file: &[u8], p: usize) -> usize
     }
 }
 
+// Where the lines of a call begin.
+fn lines_place(file: &[u8], p: usize) -> usize
+    requires { FitRecord file.now p }
+    ensures { result ≡ call_lines_place file.now p }
+{
+    let at = data_place(file, p);
+    match kind(file, p) {
+        Kind::Gosub => at,
+        _ => at + 1,
+    }
+}
+
 pub fn call_line(file: &[u8], p: usize, k: usize) -> usize
     requires { FitRecord file.now p × (k < call_line_count file.now p) }
     ensures { result ≡ call_line_at file.now p k }
 {
-    let at = data_place(file, p);
-    match kind(file, p) {
-        Kind::Gosub => u16_at(file, at + 2 * k),
-        _ => u16_at(file, at + 1 + 2 * k),
-    }
+    u16_at(file, lines_place(file, p) + 2 * k)
 }
 
 // The place after the record.
+#[tactic(auto, using(crate::proofs::Fits::fits), unfolding(flow::specs::Format::record_end))]
 pub fn record_end(file: &[u8], p: usize) -> usize
     requires { FitRecord file.now p }
     ensures { result ≡ record_end file.now p }

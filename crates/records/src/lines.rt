@@ -1,6 +1,8 @@
 // The statement that a line enters, by binary search: the FL records of a fit file rise strictly. The lines of 16 bits fall into n parts of one size, and it is noted once
 // where the records of each part stand, so that a search is among the few of one part.
-ghost use Rattle.std.specs.Prelude.{◌≡◌, cond, ℕ, ◌+◌, ◌%◌, ◌≤◌, ◌<◌, eqb, ltb, length, get_or};
+#![tactic(auto)]
+
+ghost use Rattle.std.specs.Prelude.{◌≡◌, cond, ℕ, ◌+◌, ◌*◌, ◌/◌, ◌%◌, ◌≤◌, ◌<◌, ltb, length, get_or};
 ghost use Rattle.flow.specs.Format.{u16_at, lines_place, line_place, line_count, flow_of};
 ghost use Rattle.flow.specs.Flow.{enters};
 ghost use Rattle.flow.specs.Limits.{max_statements};
@@ -9,6 +11,7 @@ ghost use Rattle.records.specs.Clauses.Fields.{LineRank, PartsNoted, LineParts};
 
 use flow::StmtId;
 use flow::bytes::u16_at;
+use std::ops::Range;
 
 // 1 if the number at `at` is below the line, else 0: by a carry, since a branch on it would be mispredicted at every other step of the search.
 fn below(file: &[u8], at: usize, line: usize) -> usize
@@ -26,6 +29,7 @@ fn line_place(file: &[u8], at: usize, n: usize, line: usize) -> usize
 {
     let mut p = at;
     let mut len = n;
+    // No range: a search that halves what is left.
     while 0 < len {
         let half = len - len / 2;
         let step = 6 * half;
@@ -35,11 +39,31 @@ fn line_place(file: &[u8], at: usize, n: usize, line: usize) -> usize
     p
 }
 
-// The first FL record of a part of the lines, of which the word was noted before record r was met in it.
-fn first_of(word: u64, r: u64) -> u64
-    ensures { result ≡ cond (eqb word 0) r (word % 65536) }
+// The FL records of a part of the lines, by their numbers, as the part's word has them.
+fn part_records(word: u64) -> Range<usize>
+    ensures { (result.start ≡ word % 65536) × (result.end ≡ word / 65536) }
 {
-    if word == 0 { r } else { word % 65536 }
+    (word % 65536) as usize..(word / 65536) as usize
+}
+
+// The word of a part with these FL records.
+fn part_word(records: Range<usize>) -> u64
+    requires { (records.start < 65536) × (records.end < 65536) }
+    ensures { result ≡ records.start + 65536 * records.end }
+{
+    records.start as u64 + 65536 * records.end as u64
+}
+
+// The records of a part and record r, which is the next in it.
+fn extended(records: Range<usize>, r: usize) -> Range<usize>
+    requires { r < 65535 }
+    ensures { (result.start ≡ cond (ltb records.start records.end) records.start r) × (result.end ≡ r + 1) }
+{
+    if records.is_empty() {
+        r..r + 1
+    } else {
+        records.start..r + 1
+    }
 }
 
 // Notes in the n words from base on where the FL records of each of n parts of the lines stand. The file's lines stand at `at`, and there are so many.
@@ -49,8 +73,7 @@ pub fn note_lines(file: &[u8], at: usize, lines: usize, work: &mut [u64], base: 
 {
     for r in 0..lines {
         let k = base + u16_at(file, at + 6 * r + 2) * n / 65536;
-        let first = first_of(work[k], r as u64);
-        work[k] = first + 65536 * (r as u64 + 1);
+        work[k] = part_word(extended(part_records(work[k]), r));
     }
 }
 
@@ -70,11 +93,9 @@ pub fn line_entry(
     if 65535 < line {
         return None;
     }
-    let word = work[base + line * n / 65536];
-    let first = (word % 65536) as usize;
-    let end = (word / 65536) as usize;
-    let p = line_place(file, at + 6 * first, end - first, line);
-    if p < at + 6 * end && u16_at(file, p + 2) == line {
+    let part = part_records(work[base + line * n / 65536]);
+    let p = line_place(file, at + 6 * part.start, part.end - part.start, line);
+    if p < at + 6 * part.end && u16_at(file, p + 2) == line {
         return Some(StmtId(u16_at(file, p + 4)));
     }
     None

@@ -149,6 +149,7 @@ fn read_file(reader: &mut Reader<'_>, file: &mut [u8]) -> usize
     ensures rest { length reader.new.rest.now ≤ length reader.old.rest.now }
 {
     let mut size = 0;
+    // No range: how many blocks there are is known at the end alone.
     while !reader.rest.is_empty() {
         let times = reader.read_u16();
         if times == 0 {

@@ -17,7 +17,7 @@ fn replay(stored: &[u8], file: &mut [u8], room: &mut Room<'_>) {
     let mut reader = Reader::new(stored);
     let mut cases = 0u64;
     let mut different = 0u64;
-    // A byte 1 begins a case.
+    // A byte 1 begins a case. No range: the bytes that are left say whether one follows.
     while reader.read_u8() == 1 {
         let case = Case::read(&mut reader, file);
         if !case.is_answered(room) {

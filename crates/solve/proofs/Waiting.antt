@@ -259,10 +259,10 @@ module _ {n w d : ℕ} {ws : List ℕ} {queue : Queue} (h : (l : List ℕ) × Wa
       (joining 1 (h.0, bare-waits) b (omega arith) refl (omega (arith, bare-state))))
 
 -- what is stored, at places that were computed
-pub enqueued : {n w d at b j v : ℕ} {ws : List ℕ} {queue : Queue} (grew : Bool) → (l : List ℕ) × Waits ws n w queue l → d < 2 * n → nodes_end n w ≤ length ws
-    → at ≡ state_at n w d → b ≡ queue_at n → j ≡ wrapped (ring_words n) (queue.head + queue.len) → v ≡ joins grew (get_or ws at 0)
-    → Enqueued (unsettled grew ws n w d) (set (set ws (b + j) d) at v) n w queue d (record { head = queue.head; len = queue.len + (1 - get_or ws at 0 % 2) })
-enqueued grew h l fits ea eb ej ev = rw (ev, ea, eb, ej) (joining_grown h l fits grew)
+pub enqueued : {n w d at b j v k : ℕ} {ws : List ℕ} {queue : Queue} (grew : Bool) → (l : List ℕ) × Waits ws n w queue l → d < 2 * n → nodes_end n w ≤ length ws
+    → at ≡ state_at n w d → b ≡ queue_at n → j ≡ wrapped (ring_words n) (queue.head + queue.len) → v ≡ joins grew (get_or ws at 0) → k ≡ 1 - get_or ws at 0 % 2
+    → Enqueued (unsettled grew ws n w d) (set (set ws (b + j) d) at v) n w queue d (record { head = queue.head; len = queue.len + k })
+enqueued grew h l fits ea eb ej ev ek = rw (ev, ek, ea, eb, ej) (joining_grown h l fits grew)
 
 -- Taking the front
 
@@ -331,6 +331,6 @@ module _ (n w : ℕ) (ws : List ℕ) (queue : Queue) (fits : nodes_end n w ≤ l
     kept = state_stored ws n w (old - old % 2) small fits (omega arith);
   }
 
-pub taken : {n w b at : ℕ} {ws : List ℕ} {queue : Queue} → nodes_end n w ≤ length ws → get_or ws (queue_at n + queue.head) 0 < 2 * n → b ≡ queue_at n
-    → at ≡ state_at n w (get_or ws (b + queue.head) 0) → Taken ws (set ws at (get_or ws at 0 - get_or ws at 0 % 2)) n w queue (get_or ws (b + queue.head) 0)
-taken {n} {w} {b} {at} {ws} {queue} fits small eb e = rw (e, eb) (taking n w ws queue fits small)
+pub taken : {n w b at v : ℕ} {ws : List ℕ} {queue : Queue} → nodes_end n w ≤ length ws → get_or ws (queue_at n + queue.head) 0 < 2 * n → b ≡ queue_at n
+    → at ≡ state_at n w (get_or ws (b + queue.head) 0) → v ≡ get_or ws at 0 - get_or ws at 0 % 2 → Taken ws (set ws at v) n w queue (get_or ws (b + queue.head) 0)
+taken {n} {w} {b} {at} {v} {ws} {queue} fits small eb e ev = rw (ev, e, eb) (taking n w ws queue fits small)

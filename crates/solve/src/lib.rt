@@ -3,7 +3,6 @@
 #![tactic(auto)]
 
 ghost use Rattle.std.specs.Prelude.{◌≡◌, ◌*◌, ◌<◌, ◌≤◌};
-ghost use Rattle.flow.specs.Limits.{max_statements};
 ghost use Rattle.solve.specs.Clauses.Waiting.{wrapped, ring_words, rest_of};
 
 pub mod layout;
@@ -11,7 +10,10 @@ pub mod nodes;
 pub mod push;
 mod ring;
 pub mod rows;
+mod state;
 pub mod stmts;
+
+use statements::layout::Layout;
 
 // The waiting numbers: where the front stands in the queue's words, and how many wait.
 #[derive(Clone, Copy)]
@@ -27,12 +29,12 @@ fn wrap(i: usize, capacity: usize) -> usize
 }
 
 // What waits behind the front.
-pub fn rest(n: usize, queue: Queue) -> Queue
-    requires { (n ≤ max_statements) × (0 < queue.len) × (queue.head < ring_words n) }
-    ensures { result ≡ rest_of n queue }
+pub fn rest(layout: Layout, queue: Queue) -> Queue
+    requires { (0 < queue.len) × (queue.head < ring_words layout.n) }
+    ensures { result ≡ rest_of layout.n queue }
 {
     Queue {
-        head: wrap(queue.head + 1, 3 * n),
+        head: wrap(queue.head + 1, 3 * layout.n),
         len: queue.len - 1,
     }
 }

@@ -1,23 +1,25 @@
 -- A statement's record is found by its number: the noted place is that of a fit record, and what it says is the statement of the flow; the mark says
 -- whether the statement acts.
 -- By what a fit file gives its readers; the tests of a kind go by its number.
-use Prim.Native.Nat.{ℕ, zero, suc, ◌+◌, ◌%◌, ◌^◌, ◌<◌, ◌≤◌}
+use Prim.Native.Nat.{ℕ, zero, suc, ◌^◌, ◌<◌, ◌≤◌}
 use native.Mathlib.Omega.{arith}
 use native.Mathlib.Nat.{zero-add}
-use mathlib.Core.Bool.{Bool, true, false, cond, ◌||◌}
+use mathlib.Core.Bool.{◌||◌}
 use mathlib.Core.List.{List, [], ◌∷◌}
 use mathlib.Core.Option.{Option}
 use mathlib.Core.Path.{◌≡◌, refl, sym, ap, ◌∙◌, subst}
-use borrow.Author.Tests.{lt-ltb, le-leb, lt-leb}
-use lib.Dec.{eqb, ltb, leb}
+use borrow.Author.Tests.{lt-ltb}
+use lib.Dec.{eqb, ltb}
 use lib.ListN.{length, get_or}
 use Rattle.flow.specs.Limits.{max_kind}
 use Rattle.flow.specs.Flow.{Kind, Item, statement, items}
 use Rattle.flow.specs.Format.{flow_of, tabulate, record_place, statements_of, kind_at, kind_of, by_data, plain_kind, successor_count, successor_at, reference_count, reference_at, item_at}
 use Rattle.flow.specs.Clauses.Answers.{FitRecord}
-use Rattle.records.specs.Clauses.Fields.{item_count, acts_at, word_at, noted_word, call_line_count, call_line_at}
+use Rattle.records.specs.declared.offsets.Noted.{Noted}
+use Rattle.records.specs.Clauses.Fields.{item_count, acts_at, noted_of, word_at, noted_word, call_line_count, call_line_at}
 use Rattle.flow.proofs.Records.{start_fits}
 use Rattle.records.proofs.Files.{limited, record-fit}
+use Rattle.records.proofs.Noting.{goes_back}
 use Rattle.records.proofs.Values.{in_range}
 use Rattle.records.proofs.Statements.{Says, says}
 use Rattle.records.proofs.Tabulated.{length-tabulate, get_or-tabulate}
@@ -100,22 +102,16 @@ module _ {s ws : List ℕ} {n i : ℕ} (r : Ready s ws n) (l : i < n) where
   small : record_place s i < 2 ^ 32
   small = omega (arith, (limited r.fit).file, start_fits (record_of r l).fit)
 
-  pub noted_record : RecordOf s i (get_or ws i 0 % 2 ^ 32)
+  is_noted : noted_of (get_or ws i 0) ≡ record { place = record_place s i; acts = acts_at s (record_place s i) }
   unfolding word_at
-  noted_record = subst (λ (p : ℕ). RecordOf s i p) (sym (ap (λ w. w % 2 ^ 32) word ∙ place (acts_at s (record_place s i)))) (record_of r l)
-    where
-      place : (b : Bool) → cond b (record_place s i + 2 ^ 32) (record_place s i) % 2 ^ 32 ≡ record_place s i
-      place true = omega (arith, small)
-      place false = omega (arith, small)
+  is_noted = ap noted_of word ∙ goes_back (record_place s i) (acts_at s (record_place s i)) small
+
+  pub noted_record : {x : Noted} → x ≡ noted_of (get_or ws i 0) → RecordOf s i x.place
+  noted_record e = subst (λ (p : ℕ). RecordOf s i p) (sym (ap (λ (y : Noted). y.place) (e ∙ is_noted))) (record_of r l)
 
   acts_said : acts_at s (record_place s i) ≡ acts_in (flow_of s) i
   unfolding acts_at acts_in
   acts_said = let said = record_of r l in rw (said.resets, said.items.count, said.references.count)
 
-  pub noted_acts : leb (2 ^ 32) (get_or ws i 0) ≡ acts_in (flow_of s) i
-  unfolding word_at
-  noted_acts = ap (leb (2 ^ 32)) word ∙ mark (acts_at s (record_place s i)) ∙ acts_said
-    where
-      mark : (b : Bool) → leb (2 ^ 32) (cond b (record_place s i + 2 ^ 32) (record_place s i)) ≡ b
-      mark true = le-leb (2 ^ 32) (record_place s i + 2 ^ 32) (omega arith)
-      mark false = lt-leb (2 ^ 32) (record_place s i) small
+  pub noted_acts : {x : Noted} → x ≡ noted_of (get_or ws i 0) → x.acts ≡ acts_in (flow_of s) i
+  noted_acts e = ap (λ (y : Noted). y.acts) (e ∙ is_noted) ∙ acts_said

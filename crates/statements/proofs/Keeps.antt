@@ -5,7 +5,7 @@ use native.Mathlib.Omega.{arith}
 use native.Mathlib.Decide.{dec_lt}
 use mathlib.Core.Bool.{Bool}
 use mathlib.Core.List.{List}
-use mathlib.Core.Path.{◌≡◌, refl, sym, ◌∙◌, subst}
+use mathlib.Core.Path.{◌≡◌, refl, sym, ap, ◌∙◌, subst}
 use lib.ListN.{length, get_or, set, length-set}
 use lib.Seq.{get_or-set_other}
 use Rattle.words.specs.Clauses.Row.{has}
@@ -21,7 +21,7 @@ use Rattle.records.proofs.Files.{limited}
 use Rattle.records.proofs.Statements.{size_is}
 use Rattle.theory.specs.Clauses.WellFormed.{WellFormed}
 use Rattle.statements.specs.Clauses.Layout.{lines_at, sure_at, solver_at}
-use Rattle.statements.specs.Clauses.Ready.{Ready, Indexed, Keeps}
+use Rattle.statements.specs.Clauses.Ready.{Ready, Indexed, Located, Keeps}
 use Rattle.statements.proofs.WorkArea.{area-fits}
 use Rattle.statements.proofs.WellFormed.{well_formed}
 
@@ -110,6 +110,13 @@ parts_keep {s} {n = n} {r} p k l i m = subst (λ (w : ℕ). LinePart s n r i w) 
 
 pub indexed-keeps : {s ws vs : List ℕ} {h : Header} {lo hi : ℕ} → Indexed s h ws → Keeps lo hi ws vs → sure_at h.statements ≤ lo → Indexed s h vs
 indexed-keeps r k l = record { ready = ready-keeps r.ready k (omega arith); lines = parts_keep r.lines k l; header = r.header }
+
+pub located-keeps : {s ws vs : List ℕ} {n place lo hi : ℕ} → Located s ws n place → Keeps lo hi ws vs → sure_at n ≤ lo → Located s vs n place
+located-keeps p k l = record { ready = ready-keeps p.ready k (omega arith); parts = parts_keep p.parts k l; lines = p.lines }
+
+-- the header tells where the lines stand
+pub located : {s ws : List ℕ} {h : Header} → Indexed s h ws → Located s ws h.statements h.lines_at
+located x = record { ready = x.ready; parts = x.lines; lines = ap (λ (h : Header). h.lines_at) x.header }
 
 -- a fit file has few enough statements for the layout, and the parts below the solver's lie within the area, with a set of doubled numbers
 

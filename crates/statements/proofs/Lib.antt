@@ -6,5 +6,6 @@ pub mod WellFormed
 pub mod Names
 pub mod Members
 pub mod Noted
+pub mod StatementIn
 pub mod Told
 pub mod UsedNames

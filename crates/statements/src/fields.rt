@@ -1,5 +1,6 @@
-// The fields of statement i, each equal to the field of the flow that the file stands for.
-ghost use Rattle.std.specs.Prelude.{◌≡◌, ◌<◌, length, get_or};
+// The fields of statement i, each equal to the field of the flow that the file stands for. What the words of the lent area hold (`Ready`, and in the crates above `Linked`, `Waits` and others) stays a
+// clause: the phases write the area in turn, and a struct over it would have to show all its facts again at each write.
+ghost use Rattle.std.specs.Prelude.{◌≡◌, ◌<◌, cond, length, get_or};
 ghost use Rattle.flow.specs.Flow.{statement, enters, items};
 ghost use Rattle.flow.specs.Format.{flow_of, record_place};
 ghost use Rattle.flow.specs.Clauses.Answers.{statement_in};
@@ -9,28 +10,27 @@ ghost use Rattle.theory.specs.Body.{kind, successors, references, call_lines, co
 ghost use Rattle.theory.specs.Doubled as doubled;
 ghost use Rattle.theory.specs.Lists as lists;
 ghost use Rattle.theory.specs.Sure.{is_gosub};
-ghost use Rattle.statements.specs.Clauses.Ready.{Ready, Indexed, RecordOf, MembersWord, acts_in, no_item};
+ghost use Rattle.statements.specs.Clauses.Ready.{Ready, Located, RecordOf, MembersWord, acts_in, no_item};
 
-use crate::layout;
+use crate::layout::lines;
 use flow::StmtId;
 use flow::kind::Kind;
+use records::offsets::Noted;
 
 // The place of statement i's record.
 pub fn offset(file: &[u8], work: &[u64], n: usize, i: StmtId) -> usize
     requires { Ready file.now work.now n × (i.0 < n) }
     ensures { RecordOf file.now i.0 result }
 {
-    let at = i.0;
-    (work[at] % 4294967296) as usize
+    Noted::from(work[i.0]).place as usize
 }
 
-// Whether statement i does anything to masks, which is noted above the place of its record.
+// Whether statement i does anything to masks, which is noted with the place of its record.
 pub fn acts(file: &[u8], work: &[u64], n: usize, i: StmtId) -> bool
     requires { Ready file.now work.now n × (i.0 < n) }
     ensures { result ≡ acts_in (flow_of file.now) i.0 }
 {
-    let at = i.0;
-    4294967296 <= work[at]
+    Noted::from(work[i.0]).acts
 }
 
 pub fn is_return(file: &[u8], work: &[u64], n: usize, i: StmtId) -> bool
@@ -62,10 +62,7 @@ pub fn wipes(file: &[u8], work: &[u64], n: usize, i: StmtId) -> bool
     ensures { result ≡ body.wipes (kind (flow_of file.now) i.0) }
 {
     let p = offset(file, work, n, i);
-    if resets(file, i, p) {
-        return true;
-    }
-    0 < records::item_count(file, p)
+    resets(file, i, p) || 0 < records::item_count(file, p)
 }
 
 pub fn continuation(file: &[u8], work: &[u64], n: usize, i: StmtId) -> Option<StmtId>
@@ -142,7 +139,7 @@ pub fn item_count(file: &[u8], work: &[u64], n: usize, i: StmtId) -> usize
 
 pub fn item(file: &[u8], work: &[u64], n: usize, i: StmtId, k: usize) -> flow::Item
     requires { Ready file.now work.now n × (i.0 < n) × (k < length (items (kind (flow_of file.now) i.0))) }
-    ensures { (result.array ≡ (get_or (items (kind (flow_of file.now) i.0)) k no_item).array) × (result.flag ≡ (get_or (items (kind (flow_of file.now) i.0)) k no_item).flag) }
+    ensures { (result.array ≡ (get_or (items (kind (flow_of file.now) i.0)) k no_item).array) × (cond result.flag 1 0 ≡ (get_or (items (kind (flow_of file.now) i.0)) k no_item).flag) }
 {
     records::item(file, offset(file, work, n, i), k)
 }
@@ -155,15 +152,20 @@ pub fn line_count(file: &[u8], work: &[u64], n: usize, i: StmtId) -> usize
     records::line_count(file, offset(file, work, n, i))
 }
 
-// The statement that the k-th of them enters, if any.
-pub fn entered(file: &[u8], h: flow::Header, work: &[u64], i: StmtId, k: usize) -> Option<StmtId>
-    requires { Indexed file.now h work.now × (i.0 < h.statements) × (k < length (call_lines (kind (flow_of file.now) i.0))) }
+// The statement that the k-th of them enters, if any. The file's lines stand at `lines_at`.
+pub fn entered(
+    file: &[u8],
+    work: &[u64],
+    n: usize,
+    lines_at: usize,
+    i: StmtId,
+    k: usize,
+) -> Option<StmtId>
+    requires { Located file.now work.now n lines_at × (i.0 < n) × (k < length (call_lines (kind (flow_of file.now) i.0))) }
     ensures { result ≡ statement_in (enters (flow_of file.now) (get_or (call_lines (kind (flow_of file.now) i.0)) k 0)) }
 {
-    let n = h.statements;
-    let lines_at = h.lines_at;
     let line = records::call_line(file, offset(file, work, n, i), k);
-    records::lines::line_entry(file, lines_at, work, layout::lines(n), n, line)
+    records::lines::line_entry(file, lines_at, work, lines(n), n, line)
 }
 
 // The record of statement i, given out as that part of the file.

@@ -2,17 +2,17 @@
 -- statements are noted one after another.
 -- By the definition of the bodies that a call enters. Assumes nothing.
 use Prim.Native.Nat.{ℕ, ◌+◌, ◌<◌, ◌≤◌}
-use mathlib.Core.Bool.{Bool, true, false, cond, true≢false}
+use mathlib.Core.Bool.{Bool, true, false, cond}
 use mathlib.Core.List.Memᴰ
 use mathlib.Core.List.{List, [], ◌∷◌, ◌++◌}
 use mathlib.Core.Option.{Option, none, some}
-use mathlib.Core.Path.{◌≡◌, refl, sym, ap}
+use mathlib.Core.Path.{◌≡◌, refl, ap}
 use native.Mathlib.Omega.{arith}
 use lib.ListN.{length, get_or}
 use Rattle.flow.specs.Flow.{Flow, Kind, enters}
 use Rattle.flow.specs.Format.{flow_of}
 use Rattle.theory.specs.Lists.{In, concat_map, option_list}
-use Rattle.theory.specs.Body.{kind, call_lines, continuation_of, if_some, entered, callees}
+use Rattle.theory.specs.Body.{kind, call_lines, continuation_of, is_return, if_some, entered, callees}
 use Rattle.theory.specs.Sure.{is_gosub, gosub_body}
 use Rattle.theory.proofs.Body.{callees-below}
 use Rattle.theory.proofs.Sure.{gosub_callee}
@@ -25,13 +25,23 @@ use Rattle.sure.specs.Clauses.Noting.{body_of, body_word}
 
 -- a plain GOSUB names one line
 pub gosub-lines : (k : Kind) → is_gosub k ≡ true → length (call_lines k) ≡ 1
-gosub-lines Kind.other e = absurd (true≢false (sym e))
-gosub-lines Kind.return e = absurd (true≢false (sym e))
-gosub-lines Kind.clr e = absurd (true≢false (sym e))
-gosub-lines Kind.run e = absurd (true≢false (sym e))
-gosub-lines (Kind.dim items) e = absurd (true≢false (sym e))
+gosub-lines Kind.other e = absurd (cc)
+gosub-lines Kind.return e = absurd (cc)
+gosub-lines Kind.clr e = absurd (cc)
+gosub-lines Kind.run e = absurd (cc)
+gosub-lines (Kind.dim items) e = absurd (cc)
 gosub-lines (Kind.gosub l c) e = refl
-gosub-lines (Kind.on_gosub ls c) e = absurd (true≢false (sym e))
+gosub-lines (Kind.on_gosub ls c) e = absurd (cc)
+
+-- a RETURN goes on nowhere
+pub return-ends : (k : Kind) → is_return k ≡ true → continuation_of k ≡ none
+return-ends Kind.other e = refl
+return-ends Kind.return e = refl
+return-ends Kind.clr e = refl
+return-ends Kind.run e = refl
+return-ends (Kind.dim items) e = refl
+return-ends (Kind.gosub l c) e = absurd (cc)
+return-ends (Kind.on_gosub ls c) e = absurd (cc)
 
 one-entered : (f : Flow) (ls : List ℕ) → length ls ≡ 1 → body_of (concat_map (λ l. option_list (enters f l)) ls) ≡ enters f (get_or ls 0 0)
 unfolding concat_map option_list
@@ -63,12 +73,12 @@ module _ (f : Flow) (c : ℕ) where
 -- The word of a body
 
 pub word_some : (l : List ℕ) {b : ℕ} → body_of l ≡ some b → body_word l ≡ b + 1
-word_some [] e = let z : ◌≡◌ {A = ℕ} 0 1 = cc in absurd (omega arith)
+word_some [] e = absurd (cc)
 word_some (x ∷ xs) {b} e = let same : x ≡ b = cc in ap (λ z. z + 1) same
 
 pub word_none : (l : List ℕ) → body_of l ≡ none → body_word l ≡ 0
 word_none [] e = refl
-word_none (x ∷ xs) e = let z : ◌≡◌ {A = ℕ} 0 1 = cc in absurd (omega arith)
+word_none (x ∷ xs) e = absurd (cc)
 
 module _ {s ws : List ℕ} {n : ℕ} (r : Ready s ws n) (c : ℕ) where
   pub word_low : body_word (gosub_body (flow_of s) c) ≤ n

@@ -1,7 +1,6 @@
 -- A statement noted at another: as the first there, or in the row there, which is zeroed when it is first used. So it is at each statement of a list, one after another.
 -- By the words that a change leaves: rows of the matrix lie apart, and the first words behind them all. Assumes nothing.
 use Prim.Native.Nat.{ℕ, ◌+◌, ◌-◌, ◌/◌, ◌%◌, ◌<◌, ◌≤◌}
-use mathlib.Core.Bool.{cond}
 use mathlib.Core.List.Memᴰ
 use mathlib.Core.List.{List, [], ◌∷◌, ◌++◌}
 use mathlib.Core.Logic.{◌⊎◌, inl, inr, ⊎_elim, ◌≢◌}
@@ -119,13 +118,13 @@ pub record InUse (ws vs : List ℕ) (n j : ℕ) : Type 0 where
 pub used_already : {ws : List ℕ} {n j : ℕ} → more ≤ get_or ws (first_at n j) 0 → InUse ws ws n j
 used_already h = record { only = only-refl; high = h; same = refl; row = λ l k. refl }
 
-pub used-first : {ws vs : List ℕ} {n j : ℕ} → words_end n ≤ length ws → j < n → get_or ws (first_at n j) 0 < more → vs ≡ zeroed ws (row_at n j) (row_words n)
-    → InUse ws (set vs (first_at n j) (get_or ws (first_at n j) 0 + more)) n j
-used-first {ws} {vs} {n} {j} room lj low e =
+pub used-first : {ws vs : List ℕ} {n j : ℕ} (i : ℕ) → words_end n ≤ length ws → j < n → get_or ws (first_at n j) 0 ≡ i + 1 → i + 1 < more → vs ≡ zeroed ws (row_at n j) (row_words n)
+    → InUse ws (set vs (first_at n j) (i + 1 + more)) n j
+used-first {ws} {vs} {n} {j} i room lj is low e =
     let only : OnlyAt ws vs n j = subst (λ z. OnlyAt ws z n j) (sym e) (only-zeroed ws n j) in
-    let word : get_or (set vs (first_at n j) (get_or ws (first_at n j) 0 + more)) (first_at n j) 0 ≡ get_or ws (first_at n j) 0 + more = get_or-set_same vs (first_at n j) (get_or ws (first_at n j) 0 + more) 0 (omega (arith, only.size)) in
+    let word : get_or (set vs (first_at n j) (i + 1 + more)) (first_at n j) 0 ≡ i + 1 + more = get_or-set_same vs (first_at n j) (i + 1 + more) 0 (omega (arith, only.size)) in
     record {
-      only = only-trans only (only-first vs n j (get_or ws (first_at n j) 0 + more));
+      only = only-trans only (only-first vs n j (i + 1 + more));
       high = omega arith;
       same = omega arith;
       row = λ h k. absurd (omega arith);
@@ -177,10 +176,10 @@ notes_all l k {ws} {vs} {n} {i} h p = subst (λ z. NotesFollower ws vs n i z) (t
 
 -- A call: its continuation, and the body of the word w if that names one
 
-pub asked-some : (w : ℕ) → w ≢ 0 → asked w ≡ (w - 1) ∷ []
-asked-some w d = ap (λ b. cond b [] ((w - 1) ∷ [])) (ne_eqb w 0 d)
+pub asked-some : (w b : ℕ) → w ≡ b + 1 → asked w ≡ b ∷ []
+asked-some w b e = let place : w - 1 ≡ b = omega arith in rw (ne_eqb w 0 (λ z. omega arith), place) refl
 
-pub call_asks : {ws vs us : List ℕ} {n i k w : ℕ} → i < n → k < n → w ≢ 0 → NotesFollower ws vs n i (k ∷ []) → NotesFollower vs us n i ((w - 1) ∷ []) → NotesFollower ws us n i (k ∷ asked w)
-call_asks {ws} {us = us} {n = n} {i} {k} {w} li lk d p q =
-    subst (λ z. NotesFollower ws us n i (k ∷ z)) (sym (asked-some w d))
+pub call_asks : {ws vs us : List ℕ} {n i k w : ℕ} (b : ℕ) → i < n → k < n → w ≡ b + 1 → NotesFollower ws vs n i (k ∷ []) → NotesFollower vs us n i (b ∷ []) → NotesFollower ws us n i (k ∷ asked w)
+call_asks {ws} {us = us} {n = n} {i} {k} {w} b li lk e p q =
+    subst (λ z. NotesFollower ws us n i (k ∷ z)) (sym (asked-some w b e))
     (notes_then li (λ j m. subst (λ z. z < n) (sym (Memᴰ.eq_of_singleton m)) lk) p q)

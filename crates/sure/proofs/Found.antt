@@ -16,12 +16,12 @@ use Rattle.words.specs.Clauses.Row.{Words, bit, has}
 use Rattle.words.proofs.Bit.{bit-lt, bit_not, bit_of_zero, bits_below}
 use Rattle.words.proofs.Row.{has-cong}
 use Rattle.words.proofs.Pair.{set-low, set-high}
-use Rattle.flow.specs.Flow.{Flow, Kind}
+use Rattle.flow.specs.Flow.{Flow}
 use Rattle.flow.specs.Format.{flow_of}
 use Rattle.theory.specs.Lists.{In, any, select}
 use Rattle.theory.specs.Reach.{Reach}
 use Rattle.theory.specs.Body.{kind, is_return, walk_next, Walks, opaque_call}
-use Rattle.theory.specs.Sure.{is_gosub, gosub_body, Returns, can_return, returning, Missed, missed, sure}
+use Rattle.theory.specs.Sure.{gosub_body, Returns, can_return, returning, Missed, missed, sure}
 use Rattle.theory.proofs.Lists.{clash, not_so, any_find}
 use Rattle.theory.proofs.Reach.{reach_first}
 use Rattle.theory.proofs.Body.{walk_next-below, callees-below}
@@ -36,6 +36,7 @@ use Rattle.sure.specs.Clauses.Layout.{set_at, first_at, elements, mirror}
 use Rattle.sure.specs.Clauses.Noting.{body_word, Asks, FollowsFrom, Followers, Waits, StatementsNoted}
 use Rattle.sure.specs.Clauses.Missing.{backward, sets, ReturnsAskNone, Held, Exact}
 use Rattle.sure.specs.Clauses.SureArrays.{opened, unmissed, WordsBecome, Opened, SureWords}
+use Rattle.sure.proofs.Bodies.{return-ends, no_continuation}
 use Rattle.sure.proofs.Followers.{noted-same}
 
 -- The word of a list of bodies, all of which are one
@@ -82,20 +83,10 @@ one-gosub f c x y m k = gosub-one f c m (gosub_callee f c k)
 one-returning : (f : Flow) (c : ℕ) → One (returning f c)
 one-returning f c x y m k = one-gosub f c x y (returning-body f c m).0 (returning-body f c k).0
 
--- a RETURN is no GOSUB, and asks nothing
-
-return_no_gosub : (k : Kind) → is_return k ≡ true → is_gosub k ≡ false
-return_no_gosub Kind.other e = refl
-return_no_gosub Kind.return e = refl
-return_no_gosub Kind.clr e = refl
-return_no_gosub Kind.run e = refl
-return_no_gosub (Kind.dim items) e = refl
-return_no_gosub (Kind.gosub l c) e = clash false e refl
-return_no_gosub (Kind.on_gosub ls c) e = refl
-
+-- a RETURN has no continuation, and asks nothing
 pub returns_ask_none : (f : Flow) (n : ℕ) → ReturnsAskNone f (gosub_body f) n × ReturnsAskNone f (returning f) n
-unfolding gosub_body returning select
-returns_ask_none f n = (λ i l e. rw (return_no_gosub (kind f i) e) refl, λ i l e. rw (return_no_gosub (kind f i) e) refl)
+unfolding returning select
+returns_ask_none f n = (λ i l e. rw (no_continuation f i (return-ends (kind f i) e)) refl, λ i l e. rw (no_continuation f i (return-ends (kind f i) e)) refl)
 
 -- Walks of the law, and what is missed
 

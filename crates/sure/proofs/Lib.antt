@@ -5,6 +5,7 @@ pub mod Kept
 pub mod Visiting
 pub mod Solution
 pub mod Bodies
+pub mod Reading
 pub mod Followers
 pub mod Statements
 pub mod Becoming

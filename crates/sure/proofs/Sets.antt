@@ -1,6 +1,6 @@
 -- The sets of statements as rows of two words: what the sets of some statements have is gathered one after another, and so what comes to a statement from where a body walk goes on;
 -- and the word of what a statement lets through. By the elements of a row of two words, and the walk's next statements. Assumes nothing.
-use Prim.Native.Nat.{ℕ, ◌+◌, ◌-◌, ◌*◌, ◌^◌, ◌<◌, ◌≤◌, min}
+use Prim.Native.Nat.{ℕ, ◌+◌, ◌-◌, ◌^◌, ◌<◌, min}
 use mathlib.Core.Bool.{Bool, true, false, cond, true≢false}
 use mathlib.Core.List.Memᴰ
 use mathlib.Core.List.{List, [], ◌∷◌, ◌++◌}
@@ -8,7 +8,6 @@ use mathlib.Core.Logic.{◌⊎◌, inl, inr, ⊎_elim}
 use mathlib.Core.Option.{Option}
 use mathlib.Core.Path.{◌≡◌, refl, sym, ◌∙◌, ap, subst, subst₂}
 use native.Mathlib.Decide.{ℕ_discrete}
-use native.Mathlib.Nat.{le_refl}
 use native.Mathlib.Numerals.{add-one}
 use native.Mathlib.Omega.{arith}
 use lib.Bits.{bit_and, bit_or}
@@ -18,31 +17,28 @@ use Rattle.words.specs.Clauses.Row.{bit, has}
 use Rattle.words.proofs.Bit.{bit-lt, bit-and, bit_not}
 use Rattle.words.proofs.Row.{has-lt}
 use Rattle.words.proofs.Pair.{set-low, row_of, empty-row, full_row, either_row}
-use Rattle.flow.specs.Limits.{max_statements}
 use Rattle.flow.specs.Flow.{Flow}
 use Rattle.theory.specs.Lists.{In, elem}
 use Rattle.theory.specs.Body.{kind, successors, references, continuation_of, is_return, or_else, walk_next}
 use Rattle.theory.proofs.Lists.{not_so}
 use Rattle.statements.specs.Clauses.Layout.{sure_at}
 use Rattle.statements.specs.Clauses.Ready.{MembersWord}
-use Rattle.statements.proofs.WorkArea.{row_below}
-use Rattle.sure.specs.Clauses.Layout.{set_at, words_end, elements}
+use Rattle.sure.specs.Clauses.Layout.{set_at, elements}
 use Rattle.sure.specs.Clauses.Missing.{sets, Gathered, NextSet, LetThrough}
-
--- the two words of a set lie below the end of this phase's words, and low enough to be counted in bytes
-pub set_room : {n j at size : ℕ} → n ≤ max_statements → words_end n ≤ size → j < n → at ≡ set_at n j → (at + 2 ≤ size) × (at + 2 ≤ 41 * max_statements)
-set_room {n} most room l e = (omega arith, omega (arith, row_below most (le_refl n)))
 
 -- Some statements, one after another
 
 pub gathered_none : {ws : List ℕ} {n : ℕ} → Gathered ws n [] (0 ∷ 0 ∷ [])
 gathered_none = record { from = λ x m e. absurd (omega (arith, empty-row x m)); gets = λ j x t. absurd (Memᴰ.not-nil t) }
 
-pub gathered-one : {ws : List ℕ} {n at j : ℕ} → at ≡ set_at n j → Gathered ws n (j ∷ []) (get_or ws at 0 ∷ get_or ws (at + 1) 0 ∷ [])
-gathered-one {ws} {n} {at} {j} e = subst (λ z. Gathered ws n (j ∷ []) (get_or ws z 0 ∷ get_or ws (z + 1) 0 ∷ [])) (sym e) (record {
-  from = λ x m d. (j, Memᴰ.head refl, sym (row_of ws (set_at n j) x m) ∙ d);
-  gets = λ i x t m d. row_of ws (set_at n j) x m ∙ subst (λ z. sets ws n z x ≡ 1) (Memᴰ.eq_of_singleton t) d;
-})
+pub gathered-one : {ws : List ℕ} {n a b : ℕ} (j : ℕ) → a ≡ get_or ws (set_at n j) 0 → b ≡ get_or ws (set_at n j + 1) 0 → Gathered ws n (j ∷ []) (a ∷ b ∷ [])
+gathered-one {ws} {n} {a} {b} j low high = record {
+  from = λ x m d. (j, Memᴰ.head refl, sym (row x m) ∙ d);
+  gets = λ i x t m d. row x m ∙ subst (λ z. sets ws n z x ≡ 1) (Memᴰ.eq_of_singleton t) d;
+}
+  where
+    row : (x : ℕ) → x < elements → has (a ∷ b ∷ []) 0 x ≡ sets ws n j x
+    row x m = rw (low, high) (row_of ws (set_at n j) x m)
 
 pub gathered_both : {ws : List ℕ} {n : ℕ} {js ks : List ℕ} {a b c d : ℕ} → Gathered ws n js (a ∷ b ∷ []) → Gathered ws n ks (c ∷ d ∷ []) → Gathered ws n (js ++ ks) (bit_or a c ∷ bit_or b d ∷ [])
 gathered_both {ws} {n} {js} {ks} {a} {b} {c} {d} p q = record {
@@ -61,11 +57,11 @@ gathered_both {ws} {n} {js} {ks} {a} {b} {c} {d} p q = record {
 
 -- the first k of a list
 
-pub gathered-more : {ws : List ℕ} {n : ℕ} (l : List ℕ) (k : ℕ) {a b at : ℕ} → Gathered ws n (take k l) (a ∷ b ∷ []) → k < length l → at ≡ set_at n (get_or l k 0)
-    → Gathered ws n (take (k + 1) l) (bit_or a (get_or ws at 0) ∷ bit_or b (get_or ws (at + 1) 0) ∷ [])
-gathered-more {ws} {n} l k {a} {b} {at} g short e =
-    let list : take (k + 1) l ≡ take k l ++ (get_or l k 0 ∷ []) = ap (λ z. take z l) (add-one k) ∙ take-suc l k 0 short in
-    subst (λ z. Gathered ws n z (bit_or a (get_or ws at 0) ∷ bit_or b (get_or ws (at + 1) 0) ∷ [])) (sym list) (gathered_both g (gathered-one e))
+pub gathered-more : {ws : List ℕ} {n : ℕ} (l : List ℕ) (k : ℕ) {j a b c d : ℕ} → Gathered ws n (take k l) (a ∷ b ∷ []) → k < length l → j ≡ get_or l k 0 → Gathered ws n (j ∷ []) (c ∷ d ∷ [])
+    → Gathered ws n (take (k + 1) l) (bit_or a c ∷ bit_or b d ∷ [])
+gathered-more {ws} {n} l k {j} {a} {b} {c} {d} g short e one =
+    let list : take (k + 1) l ≡ take k l ++ (j ∷ []) = ap (λ z. take z l) (add-one k) ∙ take-suc l k 0 short ∙ ap (λ z. take k l ++ (z ∷ [])) (sym e) in
+    subst (λ z. Gathered ws n z (bit_or a c ∷ bit_or b d ∷ [])) (sym list) (gathered_both g one)
 
 -- Where a body walk goes on
 
@@ -99,23 +95,23 @@ module _ {w : ℕ} {p : ℕ → Bool} (m : MembersWord w p) where
   free_other : (x : ℕ) → x < 64 → p x ≡ false → bit (2 ^ 64 - 1 - w) x ≡ 1
   free_other x l e = other-bit x l ∙ ap (λ b. 1 - cond b 1 0) e
 
-module _ {f : Flow} {ws : List ℕ} {n i refs body : ℕ} (m : MembersWord refs (λ a. elem a (references f i))) (word : body ≡ get_or ws (sure_at n + i) 0) where
-  pub through-free : body ≡ 0 → LetThrough f ws n i (2 ^ 64 - 1 - refs)
+module _ {f : Flow} {ws : List ℕ} {n i refs : ℕ} (m : MembersWord refs (λ a. elem a (references f i))) where
+  pub through-free : get_or ws (sure_at n + i) 0 ≡ 0 → LetThrough f ws n i (2 ^ 64 - 1 - refs)
   through-free none = record {
     others = other-free m;
     asked = λ x b l e d. absurd (omega arith);
     all = λ x l e h. free_other m x l e;
   }
 
-  pub through-body : {at : ℕ} → (body ≡ 0 → ⊥) → at ≡ set_at n (body - 1) → LetThrough f ws n i (bit_and (2 ^ 64 - 1 - refs) (get_or ws at 0))
-  through-body {at} asks place = record {
+  pub through-body : {w : ℕ} (b : ℕ) → get_or ws (sure_at n + i) 0 ≡ b + 1 → w ≡ get_or ws (set_at n b) 0 → LetThrough f ws n i (bit_and (2 ^ 64 - 1 - refs) w)
+  through-body {w} b asks is = record {
     others = λ x l e. other-free m x l (omega (arith, both x, bit-lt (2 ^ 64 - 1 - refs) x));
-    asked = λ x b l e d. let it : b ≡ body - 1 = omega arith in in_body x l b it ∙ omega (arith, both x, bit-lt (get_or ws at 0) x);
-    all = λ x l e h. let one = free_other m x l e in let two = sym (in_body x l (body - 1) refl) ∙ h (body - 1) (omega (arith, asks)) in omega (arith, both x);
+    asked = λ x c l e d. let it : c ≡ b = omega arith in in_body x l c it ∙ omega (arith, both x, bit-lt w x);
+    all = λ x l e h. let one = free_other m x l e in let two = sym (in_body x l b refl) ∙ h b asks in omega (arith, both x);
   }
     where
-      both : (x : ℕ) → bit (bit_and (2 ^ 64 - 1 - refs) (get_or ws at 0)) x ≡ min (bit (2 ^ 64 - 1 - refs) x) (bit (get_or ws at 0) x)
-      both x = bit-and (2 ^ 64 - 1 - refs) (get_or ws at 0) x
+      both : (x : ℕ) → bit (bit_and (2 ^ 64 - 1 - refs) w) x ≡ min (bit (2 ^ 64 - 1 - refs) x) (bit w x)
+      both x = bit-and (2 ^ 64 - 1 - refs) w x
 
-      in_body : (x : ℕ) → x < 64 → (b : ℕ) → b ≡ body - 1 → sets ws n b x ≡ bit (get_or ws at 0) x
-      in_body x l b e = set-low ws (set_at n b) x l ∙ ap (λ z. bit (get_or ws z 0) x) (ap (set_at n) e ∙ sym place)
+      in_body : (x : ℕ) → x < 64 → (c : ℕ) → c ≡ b → sets ws n c x ≡ bit w x
+      in_body x l c e = rw e (set-low ws (set_at n b) x l ∙ ap (λ z. bit z x) (sym is))

@@ -14,7 +14,7 @@ use lib.ListN.{length, get_or}
 use Rattle.words.specs.Clauses.Change.{inserted, zeroed}
 use Rattle.words.proofs.Inserted.{insert_same}
 use Rattle.words.proofs.Zeroed.{zeroed-word}
-use Rattle.flow.specs.Flow.{Flow, Kind}
+use Rattle.flow.specs.Flow.{Flow}
 use Rattle.theory.specs.Lists.{In}
 use Rattle.theory.specs.Body.{kind, successors, continuation_of, is_return, or_else, walk_next}
 use Rattle.theory.specs.Sure.{gosub_body}
@@ -24,19 +24,10 @@ use Rattle.statements.proofs.Keeps.{keeps-refl, keeps-trans, keeps_widen, keeps-
 use Rattle.statements.proofs.WorkArea.{member-word, row-words-le, row_from, row_fits}
 use Rattle.sure.specs.Clauses.Layout.{first_at, waiting_at, words_end, mirror, more}
 use Rattle.sure.specs.Clauses.Noting.{body_word, asked, FollowsFrom, Noted, Firsts, Waits, NotesFollower, StatementNoted, StatementsNoted}
-use Rattle.sure.proofs.Bodies.{no_continuation}
+use Rattle.sure.proofs.Bodies.{return-ends, no_continuation}
 use Rattle.sure.proofs.Followers.{mirror-low, insert_stays, noted-same, asked-some}
 
 -- What a statement follows from
-
-return-ends : (k : Kind) → is_return k ≡ true → continuation_of k ≡ none
-return-ends Kind.other e = refl
-return-ends Kind.return e = refl
-return-ends Kind.clr e = refl
-return-ends Kind.run e = refl
-return-ends (Kind.dim items) e = refl
-return-ends (Kind.gosub l c) e = absurd (true≢false (sym e))
-return-ends (Kind.on_gosub ls c) e = absurd (true≢false (sym e))
 
 module _ (f : Flow) (i : ℕ) where
   return_nowhere : is_return (kind f i) ≡ true → walk_next f i ≡ []
@@ -61,7 +52,7 @@ module _ (f : Flow) (i : ℕ) where
 
   pub follows-call : {k w : ℕ} → is_return (kind f i) ≡ false → continuation_of (kind f i) ≡ some k → w ≡ body_word (gosub_body f i) → (j : ℕ) → FollowsFrom f (gosub_body f) j i → In j (k ∷ asked w)
   follows-call e d a j (inl m) = Memᴰ.head (Memᴰ.eq_of_singleton (subst (λ l. In j l) (walks-on e d) m))
-  follows-call {w = w} e d a j (inr q) = Memᴰ.tail (subst (λ l. In j l) (sym (asked-some w (λ z. omega arith))) (Memᴰ.head (omega arith)))
+  follows-call {w = w} e d a j (inr q) = Memᴰ.tail (subst (λ l. In j l) (sym (asked-some w j (a ∙ q))) (Memᴰ.head refl))
 
 -- Words before the row of those that wait keep what is noted
 

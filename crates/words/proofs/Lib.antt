@@ -8,6 +8,7 @@ pub mod Pair
 pub mod Unioned
 pub mod Lowest
 pub mod Zeroed
+pub mod Found
 pub mod NextMember
 pub mod Removed
 pub mod Bytes

@@ -3,7 +3,8 @@
 #![tactic(auto)]
 
 ghost use Rattle.std.specs.Prelude.{◌≡◌, ◌+◌, ◌-◌, ◌*◌, ◌/◌, ◌^◌, ◌≤◌, ◌<◌, min, eqb, length};
-ghost use Rattle.words.specs.Clauses.Row.{has, members, next_member, SomeMember};
+ghost use Rattle.std.specs.Int.{div_ceil};
+ghost use Rattle.words.specs.Clauses.Row.{has, members, next_member, found_below, SomeMember};
 ghost use Rattle.words.specs.Clauses.Change.{Joined, PairJoined, Inserted, removed, Unioned, zeroed, without, Chosen};
 
 pub fn contains(ws: &[u64], base: usize, i: usize) -> bool
@@ -113,41 +114,40 @@ pub fn count(ws: &[u64], base: usize, width: usize) -> usize
     n
 }
 
-// i and `step` more, but not past `bound`.
-fn forward(i: usize, step: usize, bound: usize) -> usize
+// i and `step` more, where that is below `bound`.
+fn forward(i: usize, step: usize, bound: usize) -> Option<usize>
     requires { i ≤ bound }
-    ensures { result ≡ min (i + step) bound }
+    ensures { result ≡ found_below (i + step) bound }
 {
-    if bound - i <= step { bound } else { i + step }
+    (step < bound - i).then(|| i + step)
 }
 
-// The first member at or after number 64 `first` and below `bound`, by whole words; `bound` if there is none.
-fn next_by_word(ws: &[u64], base: usize, first: usize, bound: usize) -> usize
-    requires { (base + (bound + 63) / 64 ≤ length ws.now) × (0 < bound) }
-    ensures { result ≡ next_member ws.now base (min (64 * first) bound) bound }
+// The first member at or after number 64 `first` and below `bound`, by whole words.
+fn next_by_word(ws: &[u64], base: usize, first: usize, bound: usize) -> Option<usize>
+    requires { base + div_ceil bound 64 ≤ length ws.now }
+    ensures { result ≡ found_below (next_member ws.now base (min (64 * first) bound) bound) bound }
 {
-    let last = (bound - 1) / 64;
-    for k in first..last + 1 {
+    for k in first..bound.div_ceil(64) {
         let word = ws[base + k];
         if word != 0 {
             return forward(64 * k, word.trailing_zeros() as usize, bound);
         }
     }
-    bound
+    None
 }
 
-// The first member at or after `from` and below `bound`; `bound` if there is none. `from` itself is looked at first, since members often
-// stand side by side, and the next search then need not wait for the place of the lowest bit.
-pub fn next(ws: &[u64], base: usize, from: usize, bound: usize) -> usize
+// The first member at or after `from` and below `bound`. `from` itself is looked at first, since members often stand side by side, and the
+// next search then need not wait for the place of the lowest bit.
+pub fn next(ws: &[u64], base: usize, from: usize, bound: usize) -> Option<usize>
     requires { base + (bound + 63) / 64 ≤ length ws.now }
-    ensures { result ≡ next_member ws.now base from bound }
+    ensures { result ≡ found_below (next_member ws.now base from bound) bound }
 {
     if bound <= from {
-        return from;
+        return None;
     }
     let rest = ws[base + from / 64] >> (from % 64);
     if rest % 2 == 1 {
-        return from;
+        return Some(from);
     }
     if rest != 0 {
         return forward(from, rest.trailing_zeros() as usize, bound);
@@ -155,14 +155,10 @@ pub fn next(ws: &[u64], base: usize, from: usize, bound: usize) -> usize
     next_by_word(ws, base, from / 64 + 1, bound)
 }
 
-// A member below `bound`: the first one from `from` on, or else from 0 on; `bound` if there is none.
-pub fn next_around(ws: &[u64], base: usize, from: usize, bound: usize) -> usize
+// A member below `bound`: the first one from `from` on, or else from 0 on.
+pub fn next_around(ws: &[u64], base: usize, from: usize, bound: usize) -> Option<usize>
     requires { (base + (bound + 63) / 64 ≤ length ws.now) × (from ≤ bound) }
     ensures { SomeMember ws.now base bound result }
 {
-    let later = next(ws, base, from, bound);
-    if later < bound {
-        return later;
-    }
-    next(ws, base, 0, bound)
+    next(ws, base, from, bound).or_else(|| next(ws, base, 0, bound))
 }

@@ -1,10 +1,5 @@
 -- Which bytes of a proposal are masks. Assumes nothing.
-use Rattle.std.specs.Prelude.{ℕ, ◌+◌, ◌-◌, ◌<◌, ◌≤◌, List, length, get_or, Option, MatchOption}
-use Rattle.std.specs.Int.Bits.{bit_and, bit_or}
-
--- the bits in which two bytes differ
-abbrev pub apart : ℕ → ℕ → ℕ
-apart a b = bit_or a b - bit_and a b
+use Rattle.std.specs.Prelude.{ℕ, ◌<◌, ◌≤◌, List, length, get_or, Option, MatchOption}
 
 -- r is the first of the first `count` bytes that is over 7, or `count`
 pub record FirstOver (s : List ℕ) (count r : ℕ) : Type 0 where
@@ -20,8 +15,3 @@ Over s count r = MatchOption r (FirstOver s count count) (λ k. FirstOver s coun
 pub record Masks (s : List ℕ) (count : ℕ) : Type 0 where
   pub room : count ≤ length s
   pub below : (j : ℕ) → j < count → get_or s j 0 < 8
-
--- so are `count` bytes from `at` on
-pub record RowMasks (s : List ℕ) (at count : ℕ) : Type 0 where
-  pub room : at + count ≤ length s
-  pub below : (a : ℕ) → a < count → get_or s (at + a) 0 < 8

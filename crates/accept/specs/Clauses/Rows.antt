@@ -1,5 +1,5 @@
 -- The bytes of a proposal as rows of masks, each three sets of arrays. Assumes nothing.
-use Rattle.std.specs.Prelude.{ℕ, ◌+◌, ◌-◌, ◌*◌, ◌<◌, ◌≤◌, cond, List, ◌≡◌, ltb, get_or}
+use Rattle.std.specs.Prelude.{ℕ, ◌+◌, ◌-◌, ◌*◌, ◌<◌, ◌≤◌, cond, List, ◌≡◌, ltb, length, get_or}
 use Rattle.words.specs.Clauses.Row.{bit}
 use Rattle.statements.specs.Clauses.Layout.{set_words}
 use Rattle.statements.specs.Clauses.Ready.{Keeps}
@@ -12,23 +12,19 @@ pub record Gathered (word r : ℕ) : Type 0 where
   pub low : (j : ℕ) → j < 8 → bit r j ≡ bit word (8 * j)
   pub high : (j : ℕ) → 8 ≤ j → bit r j ≡ 0
 
--- of `count` arrays whose bytes begin at `at`, bit j of r says of array from + j whether its mask has the state of bit t
-abbrev pub SetOf : List ℕ → ℕ → ℕ → ℕ → ℕ → ℕ → Type 0
-SetOf s at count t from r = (j : ℕ) → from + j < 64 → bit r j ≡ cond (ltb (from + j) count) (bit (get_or s (at + (from + j)) 0) t) 0
+-- of the arrays whose bytes these are, bit j of r says of array from + j whether its mask has the state of bit t
+abbrev pub SetOf : List ℕ → ℕ → ℕ → ℕ → Type 0
+SetOf s t from r = (j : ℕ) → from + j < 64 → bit r j ≡ cond (ltb (from + j) (length s)) (bit (get_or s (from + j) 0) t) 0
 
 -- so do the words of the three sets
-pub record SetsOf (s : List ℕ) (at count from none auto dimmed : ℕ) : Type 0 where
-  pub none_is : SetOf s at count 0 from none
-  pub auto_is : SetOf s at count 1 from auto
-  pub dimmed_is : SetOf s at count 2 from dimmed
-
--- the bytes from `at` on
-abbrev pub bytes_from : List ℕ → ℕ → ℕ → ℕ
-bytes_from s at a = get_or s (at + a) 0
+pub record SetsOf (s : List ℕ) (from none auto dimmed : ℕ) : Type 0 where
+  pub none_is : SetOf s 0 from none
+  pub auto_is : SetOf s 1 from auto
+  pub dimmed_is : SetOf s 2 from dimmed
 
 -- the masks of the doubled number d in the proposal
 abbrev pub row_of : List ℕ → ℕ → ℕ → ℕ → ℕ
-row_of s arrays d = bytes_from s (d * arrays)
+row_of s arrays d a = get_or s (d * arrays + a) 0
 
 -- the words of the numbers from d on are zero
 abbrev pub Unloaded : List ℕ → ℕ → ℕ → ℕ → Type 0

@@ -6,14 +6,12 @@ use Rattle.std.specs.Int.Bits.{bit_or}
 use Rattle.words.specs.Clauses.Row.{bit}
 use Rattle.words.specs.Clauses.Change.{joined}
 use Rattle.flow.specs.Flow.{Flow}
-use Rattle.flow.specs.Format.{statements_of, lines_place, line_count}
 use Rattle.theory.specs.Lists as lists
 use Rattle.theory.specs.Lists.{In}
 use Rattle.theory.specs.Body as theory
 use Rattle.theory.specs.Body.{kind, references, continuation_of, is_return, callees, touches, opaque_call, call_touches, Calls⁺}
-use Rattle.records.specs.Clauses.Fields.{LineParts}
-use Rattle.statements.specs.Clauses.Layout.{lines_at, calls_at, call_touched_at, bodies_at, touched_at, entered_row_at}
-use Rattle.statements.specs.Clauses.Ready.{Ready, Keeps, MembersWord}
+use Rattle.statements.specs.Clauses.Layout.{calls_at, call_touched_at, bodies_at, touched_at, entered_row_at}
+use Rattle.statements.specs.Clauses.Ready.{Keeps, MembersWord}
 use Rattle.calls.specs.Clauses.Held.{unentered, opened, transparent, opaque, WalkRow}
 
 -- the states of body b and of call c, and the arrays noted as touched
@@ -84,12 +82,6 @@ Onward ws vs n = OnwardBut n ws vs n
 -- calls lead from every open body to b
 abbrev pub Leads : Flow → List ℕ → ℕ → ℕ → Type 0
 Leads f ws n b = (o : ℕ) → o < n → body ws n o ≡ opened → Calls⁺ f o b
-
--- the places of the records and the parts of the lines are noted, and the file's lines stand at `place`
-pub record Located (s ws : List ℕ) (place : ℕ) : Type 0 where
-  pub ready : Ready s ws (statements_of s)
-  pub parts : LineParts s ws (lines_at (statements_of s)) (statements_of s) (line_count s)
-  pub lines : place ≡ lines_place s
 
 -- statement i was passed by on the walk of body e: its references, and what it touches as a call, were joined to what the body touches; whether it makes the body opaque
 pub record WalkPassed (f : Flow) (ws vs : List ℕ) (n e i : ℕ) (found-opaque : Bool) : Type 0 where

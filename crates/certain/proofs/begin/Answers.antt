@@ -7,4 +7,4 @@ use Rattle.certain.proofs.begin.Goals as goal
 
 pub returns : goal.returns
 returns c =
-    begun c.args.work.now c.args.n c.requires.2 c.requires.1 (ap (λ z. 2 * c.args.n + z) c.row_words.ensures) c.zero_row.ensures c.push.ensures
+    begun c.args.work.now c.args.layout.n c.requires.1 c.requires.0 (ap (λ z. 2 * c.args.layout.n + z) c.row_words.ensures) c.zero_row.ensures c.push.ensures

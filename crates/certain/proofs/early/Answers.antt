@@ -3,7 +3,6 @@
 use mathlib.Core.Path.{sym, ◌∙◌, ap}
 use native.Mathlib.Omega.{arith}
 use Rattle.words.specs.Clauses.Change.{without}
-use Rattle.statements.proofs.Keeps.{ready-most}
 use Rattle.certain.proofs.Covering.{early_none, early_more}
 use Rattle.certain.proofs.early.Goals as goal
 
@@ -11,7 +10,7 @@ pub loop-i-init : goal.loop-i-init
 loop-i-init c = early_none
 
 pub set-at-requires : goal.set-at-requires
-set-at-requires c = (ready-most c.requires.0, omega arith)
+set-at-requires c = (omega arith)
 
 pub loop-i-preserved : goal.loop-i-preserved
 loop-i-preserved c =

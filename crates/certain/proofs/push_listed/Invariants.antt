@@ -9,4 +9,4 @@ use Rattle.certain.proofs.Pushing.{PushedTo}
 use Rattle.certain.proofs.push_listed.Given as goal
 
 abbrev pub invariant-loop-k : goal.invariant-loop-k
-invariant-loop-k l = PushedTo (successors (flow_of l.file) l.i.0) l.initial.work l.work l.n l.k (λ x. has (l.names ∷ l.reached ∷ []) 0 x ≡ 1)
+invariant-loop-k l = PushedTo (successors (flow_of l.file) l.i.0) l.initial.work l.work l.layout.n l.k (λ x. has (l.names ∷ l.reached ∷ []) 0 x ≡ 1)

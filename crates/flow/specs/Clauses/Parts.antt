@@ -1,6 +1,6 @@
 -- "One reader, the file and how far it has read": it reads a part of the file at a time, in file order.
--- Of each part, where it begins and ends, its checks, and what a reader that has come to it answers and where it stands then.
-use Rattle.std.specs.Prelude.{ℕ, ◌+◌, ◌≤◌, ◌≡◌, List, [], ◌++◌, length, Result, Ok, Err}
+-- Of each part, where it begins and ends, its checks, and what a reader that has come to it answers.
+use Rattle.std.specs.Prelude.{ℕ, ◌+◌, ◌≤◌, ◌≡◌, List, [], ◌++◌, length, Result}
 use Rattle.flow.specs.declared.Part.{Part}
 use Rattle.flow.specs.declared.Part.TheVariants.{Header, Statements, Lines, Key, End}
 use Rattle.flow.specs.declared.Refusal.{Refusal}
@@ -57,10 +57,13 @@ pub record Due (s : List ℕ) (part : Part) (at : ℕ) : Type 0 where
 abbrev pub part_answer : List ℕ → Part → Result ℕ Refusal
 part_answer s part = answer_of (verdict (part_checks s part)) (part_end s part)
 
--- a reader moves past a part that is fit, and stays where it is at one that is not
-abbrev pub place_after : Result ℕ Refusal → ℕ → ℕ
-place_after (Ok q) at = q
-place_after (Err r) at = at
+-- the answer for all parts before a part, and the answer for a part and all before it
+
+abbrev pub answer_before : List ℕ → Part → Result ℕ Refusal
+answer_before s part = answer_of (verdict (checks_before s part)) (part_start s part)
+
+abbrev pub answer_through : List ℕ → Part → Result ℕ Refusal
+answer_through s part = answer_of (verdict (checks_before s part ++ part_checks s part)) (part_end s part)
 
 -- a file that is fit was read: the lines stand at `lines_at`, the key at `key_at` and the end at `end_at`
 pub record Read (s : List ℕ) (lines_at key_at end_at : ℕ) : Type 0 where

@@ -10,6 +10,4 @@ add_clique-requires c =
     lt_of_lt_of_le (used-lt c.requires.ready c.gather_uses-all.ensures) (pow_mono c.requires.room)
 
 pub returns : goal.returns
-returns c =
-    let start = c in
-    noted-used start.requires.ready c.gather_uses-all.ensures c.add_clique.ensures
+returns c = noted-used c.requires.ready c.gather_uses-all.ensures c.add_clique.ensures

@@ -4,7 +4,4 @@ use Rattle.interference.proofs.Interfering.{used_rows}
 use Rattle.interference.proofs.used_rows.Goals as goal
 
 pub returns : goal.returns
-returns c =
-    let zeroed = c in
-    let p = zeroed.requires in
-    used_rows p.0.rows_room.ready zeroed.args.rows.now p.0.names_is p.0.rows_room.room zeroed.zero_row.ensures p.1.1 c.add_used.ensures
+returns c = used_rows c.requires.0 c.zero_row.ensures c.requires.1.1 c.add_used.ensures

@@ -7,7 +7,7 @@ use Rattle.live.specs.Clauses.LiveNames.{Begun}
 use Rattle.live.proofs.live_names.Given as goal
 
 abbrev pub invariant-loop-queue : goal.invariant-loop-queue
-invariant-loop-queue l = Begun (flow_of l.file) l.n l.fn.work l.work l.fn.live_in l.live_in l.fn.live_out l.live_out l.queue
+invariant-loop-queue l = Begun (flow_of l.file) l.layout.n l.fn.work l.work l.fn.live_in l.live_in l.fn.live_out l.live_out l.queue
 
 abbrev pub decreases-loop-queue : goal.decreases-loop-queue
-decreases-loop-queue l = l.queue.len + missing l.live_out l.n
+decreases-loop-queue l = l.queue.len + missing l.live_out l.layout.n

@@ -6,4 +6,4 @@ use Rattle.live.proofs.Noting.{Noting}
 use Rattle.live.proofs.note_predecessors.Given as goal
 
 abbrev pub invariant-loop-k : goal.invariant-loop-k
-invariant-loop-k l = Noting (successors (flow_of l.file) l.i.0) l.initial.work l.work l.n l.i.0 l.k
+invariant-loop-k l = Noting (successors (flow_of l.file) l.i.0) l.initial.work l.work l.layout.n l.i.0 l.k

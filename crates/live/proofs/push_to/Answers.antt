@@ -6,9 +6,9 @@ use Rattle.live.proofs.push_to.Goals as goal
 
 pub returns-then-union_word : goal.returns-then-union_word
 returns-then-union_word c =
-    pushed_waits c.union_word.ensures c.requires.3 c.requires.2 c.if-union_word.true (λ x. search rules) c.ranges.live.fits
+    pushed_waits c.union_word.ensures c.requires.2 c.requires.1 c.if-union_word.true (λ x. search rules) c.ranges.live.fits
     c.enqueue.ensures
 
 pub returns : goal.returns
 returns c =
-    pushed_same c.union_word.ensures c.requires.3 c.requires.2 c.if-union_word.false
+    pushed_same c.union_word.ensures c.requires.2 c.requires.1 c.if-union_word.false

@@ -4,5 +4,5 @@ use Rattle.flow.specs.Format.{reference_at}
 use Rattle.records.specs.Clauses.Fields.{set_word}
 use Rattle.records.proofs.references_word.Given as goal
 
-abbrev pub invariant-loop-k : goal.invariant-loop-k
-invariant-loop-k l = l.word ≡ set_word l.k (reference_at l.file l.p) l.w
+abbrev pub invariant-loop-a : goal.invariant-loop-a
+invariant-loop-a l = l.word ≡ set_word l.a-index (reference_at l.fn.file l.fn.p) l.w

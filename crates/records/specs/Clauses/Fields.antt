@@ -1,8 +1,9 @@
 -- The fields of a statement's record that was found fit, where Format does not give them by one position: the data of its kind, its references as
 -- a set, the part of the file that the record is, and what the second pass notes of the records.
-use Rattle.std.specs.Prelude.{ℕ, zero, suc, ◌+◌, ◌-◌, ◌*◌, ◌/◌, ◌%◌, ◌^◌, ◌≤◌, ◌<◌, Bool, cond, ◌||◌, List, ◌≡◌, length, get_or, take, drop, eqb, ltb}
+use Rattle.std.specs.Prelude.{ℕ, zero, suc, ◌+◌, ◌-◌, ◌*◌, ◌/◌, ◌%◌, ◌^◌, ◌≤◌, ◌<◌, Bool, cond, ◌||◌, List, ◌≡◌, length, get_or, take, drop, eqb, ltb, leb}
 use mathlib.Core.Option.{Option, none}
 use Rattle.std.specs.Int.Bits.{bit_or}
+use Rattle.records.specs.declared.offsets.Noted.{Noted}
 use Rattle.flow.specs.Format.{kind_at, kind_clr, kind_run, kind_dim, kind_gosub, kind_on_gosub, reference_count, data_place, data_count, elements_end, continuation_at, record_end, record_place, line_number, u16_at}
 
 -- the record at p, as that part of the file
@@ -17,10 +18,18 @@ item_count s p = cond (eqb (kind_at s p) kind_dim) (data_count s p) 0
 unfoldable pub acts_at : List ℕ → ℕ → Bool
 acts_at s p = (eqb (kind_at s p) kind_clr || eqb (kind_at s p) kind_run) || (ltb 0 (item_count s p) || ltb 0 (reference_count s p))
 
--- what is noted of the record at p, and of statement i: the place, to which 2 ^ 32 is added if the statement does something to masks
+-- a place and whether a statement does something to masks, as a word: the place, to which 2 ^ 32 is added if it does; and what such a word was made from
+
+abbrev pub word_of : Noted → ℕ
+word_of noted = cond noted.acts (noted.place + 2 ^ 32) noted.place
+
+abbrev pub noted_of : ℕ → Noted
+noted_of word = record { place = word % 2 ^ 32; acts = leb (2 ^ 32) word }
+
+-- what is noted of the record at p, and of statement i
 
 unfoldable pub word_at : List ℕ → ℕ → ℕ
-word_at s p = cond (acts_at s p) (p + 2 ^ 32) p
+word_at s p = word_of (record { place = p; acts = acts_at s p })
 
 abbrev pub noted_word : List ℕ → ℕ → ℕ
 noted_word s i = word_at s (record_place s i)
@@ -30,8 +39,11 @@ noted_word s i = word_at s (record_place s i)
 unfoldable pub call_line_count : List ℕ → ℕ → ℕ
 call_line_count s p = cond (eqb (kind_at s p) kind_gosub) 1 (cond (eqb (kind_at s p) kind_on_gosub) (data_count s p) 0)
 
+abbrev pub call_lines_place : List ℕ → ℕ → ℕ
+call_lines_place s p = cond (eqb (kind_at s p) kind_gosub) (data_place s p) (data_place s p + 1)
+
 unfoldable pub call_line_at : List ℕ → ℕ → ℕ → ℕ
-call_line_at s p k = u16_at s (cond (eqb (kind_at s p) kind_gosub) (data_place s p) (data_place s p + 1) + 2 * k)
+call_line_at s p k = u16_at s (call_lines_place s p + 2 * k)
 
 unfoldable pub continuation_in : List ℕ → ℕ → Option ℕ
 continuation_in s p =

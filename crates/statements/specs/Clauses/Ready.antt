@@ -6,7 +6,7 @@ use Rattle.flow.specs.Clauses.Answers.{header_of}
 use Rattle.flow.specs.Flow.{Flow, Item, statement, items}
 use Rattle.words.specs.Clauses.Row.{bit}
 use Rattle.flow.specs.Limits.{work_words}
-use Rattle.flow.specs.Format.{flow_of, tabulate, statements_of, line_count, record_place, kind_return, kind_clr, kind_run, kind_gosub, kind_at, successor_count, successor_at, reference_count, reference_at, written_at, read_at, item_at}
+use Rattle.flow.specs.Format.{flow_of, tabulate, statements_of, lines_place, line_count, record_place, kind_return, kind_clr, kind_run, kind_gosub, kind_at, successor_count, successor_at, reference_count, reference_at, written_at, read_at, item_at}
 use Rattle.flow.specs.Clauses.Answers.{FitFile, FitRecord}
 use Rattle.records.specs.Clauses.Fields.{noted_word, LineParts, item_count, call_line_count, call_line_at, continuation_in}
 use Rattle.theory.specs.Body.{kind, successors, references, call_lines, continuation_of, is_return}
@@ -25,6 +25,12 @@ pub record Indexed (s : List ℕ) (h : Header) (ws : List ℕ) : Type 0 where
   pub ready : Ready s ws h.statements
   pub lines : LineParts s ws (lines_at h.statements) h.statements (line_count s)
   pub header : h ≡ header_of s
+
+-- the same by numbers: of n statements the records and the parts of the lines are noted, and the file's lines stand at `place`
+pub record Located (s ws : List ℕ) (n place : ℕ) : Type 0 where
+  pub ready : Ready s ws n
+  pub parts : LineParts s ws (lines_at n) n (line_count s)
+  pub lines : place ≡ lines_place s
 
 -- the elements of l are f 0, f 1, .. of n elements
 pub record Elements {A : Type 0} (l : List A) (n : ℕ) (f : ℕ → A) : Type 0 where

@@ -1,10 +1,11 @@
 -- A word that is zero is passed over, and the lowest bit of one that is not is the answer. Assumes nothing.
 use mathlib.Core.Path.{◌≡◌, sym, ap, ◌∙◌}
-use Prim.Native.Nat.{ℕ, ◌+◌, ◌*◌, min}
+use Prim.Native.Nat.{ℕ, ◌+◌, ◌*◌, ◌≤◌, min}
 use native.Mathlib.Nat.{le_refl}
 use native.Mathlib.Omega.{arith}
 use borrow.Author.Rules.{rules}
-use Rattle.words.specs.Clauses.Row.{next_member}
+use Rattle.words.specs.Clauses.Row.{next_member, found_below}
+use Rattle.words.proofs.Found.{found-past, found-min}
 use Rattle.words.proofs.NextMember.{next_past, next-zero-word, next_whole_bit}
 use Rattle.words.proofs.next_by_word.Goals as goal
 
@@ -13,8 +14,9 @@ returns-then-word-ne0 c =
     let a = c.args in
     let s = c.loop-k in
     let word = c.type_inv.ws (a.base + s.k) in
-    c.forward.ensures
-    ∙ sym (s.invariant ∙ next_whole_bit a.ws.now a.base s.k a.bound (search rules) word.fits (omega (arith, c.if-word-ne0.true)))
+    c.forward.ensures ∙ sym (found-min _ a.bound)
+    ∙ ap (λ (m : ℕ). found_below m a.bound)
+    (sym (s.invariant ∙ next_whole_bit a.ws.now a.base s.k a.bound (search rules) word.fits (omega (arith, c.if-word-ne0.true))))
 
 pub loop-k-preserved : goal.loop-k-preserved
 loop-k-preserved c =
@@ -25,5 +27,6 @@ loop-k-preserved c =
 pub returns : goal.returns
 returns c =
     let a = c.args in
-    let past : min (64 * c.loop-k.k) a.bound ≡ a.bound = omega arith in
-    sym (c.loop-k.invariant ∙ ap (λ (x : ℕ). next_member a.ws.now a.base x a.bound) past ∙ next_past _ _ _ _ (le_refl a.bound))
+    let end : min (64 * c.loop-k.k) a.bound ≡ a.bound = omega arith in
+    let past : a.bound ≤ next_member a.ws.now a.base (min (64 * c.loop-k.k) a.bound) a.bound = omega (arith, next_past a.ws.now a.base a.bound a.bound (le_refl a.bound), ap (λ (x : ℕ). next_member a.ws.now a.base x a.bound) end) in
+    found-past past ∙ ap (λ (m : ℕ). found_below m a.bound) (sym c.loop-k.invariant)

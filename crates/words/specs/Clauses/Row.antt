@@ -1,6 +1,6 @@
 -- A set of numbers is a row of 64-bit words: number i is a member of the row at `base` when bit i % 64 of word base + i / 64 is 1.
 -- What a row has, how many, and which comes next. Assumes nothing.
-use Rattle.std.specs.Prelude.{ℕ, zero, suc, ◌+◌, ◌-◌, ◌*◌, ◌/◌, ◌%◌, ◌^◌, ◌≤◌, ◌<◌, ◌≡◌, cond, List, eqb, get_or}
+use Rattle.std.specs.Prelude.{ℕ, zero, suc, ◌+◌, ◌-◌, ◌*◌, ◌/◌, ◌%◌, ◌^◌, ◌≤◌, ◌<◌, ◌≡◌, cond, Option, Some, None, List, eqb, ltb, get_or}
 
 -- bit k of n, 0 or 1
 unfoldable pub bit : ℕ → ℕ → ℕ
@@ -32,11 +32,14 @@ seek ws base i (suc d) = cond (eqb (has ws base i) 1) i (seek ws base (i + 1) d)
 unfoldable pub next_member : List ℕ → ℕ → ℕ → ℕ → ℕ
 next_member ws base from bound = seek ws base from (bound - from)
 
--- r is a member of the row below `bound`, or `bound` if there is none
-pub record SomeMember (ws : List ℕ) (base bound r : ℕ) : Type 0 where
-  pub high : r ≤ bound
-  pub member : r < bound → has ws base r ≡ 1
-  pub none : bound ≤ r → (j : ℕ) → j < bound → has ws base j ≡ 0
+-- m where it is below the bound, else none
+unfoldable pub found_below : ℕ → ℕ → Option ℕ
+found_below m bound = cond (ltb m bound) (Some m) None
+
+-- a member of the row below `bound`, or none if there is none
+abbrev pub SomeMember : List ℕ → ℕ → ℕ → Option ℕ → Type 0
+SomeMember ws base bound (Some i) = (i < bound) × (has ws base i ≡ 1)
+SomeMember ws base bound None = (j : ℕ) → j < bound → has ws base j ≡ 0
 
 -- r is the first member of the row from `from` on and below `bound`, or `bound`
 pub record First (ws : List ℕ) (base from bound r : ℕ) : Type 0 where

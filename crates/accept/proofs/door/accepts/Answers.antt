@@ -14,7 +14,7 @@ use Rattle.theory.specs.Accept.{proposed}
 use Rattle.theory.proofs.Accept.{accepted-any, accepted-held}
 use Rattle.statements.proofs.WellFormed.{arrays-is}
 use Rattle.dataflow.specs.Clauses.Phases.{FitFlow}
-use Rattle.accept.proofs.Judging.{any-rows}
+use Rattle.accept.proofs.Judging.{any-part, any-rows}
 use Rattle.accept.proofs.door.accepts.Goals as goal
 
 -- what the header says
@@ -33,7 +33,7 @@ returns-then-opaque_handler c =
     let f = flow_of c.args.file.now in
     let p = c.args.proposal.now in
     let r = c.requires.0 in
-    c.all_any.ensures ∙ ap₂ (λ (n k : ℕ). all_below (2 * (n * k)) (λ j. eqb (get_or p j 0) any_state)) (sized r) (count r) ∙ any-rows f p
+    c.all_any.ensures ∙ any-part p (2 * (c.args.h.statements * c.args.h.arrays)) c.requires.1.room ∙ ap₂ (λ (n k : ℕ). all_below (2 * (n * k)) (λ j. eqb (get_or p j 0) any_state)) (sized r) (count r) ∙ any-rows f p
     ∙ sym (accepted-any f (proposed f p) (some r) (sym c.opaque_handler.ensures ∙ c.if-opaque_handler.true))
 
 pub returns : goal.returns

@@ -87,8 +87,8 @@ module _ {s p ws us vs xs : List ℕ} {h : Header} {w row d : ℕ} (r : SolverSt
 pub set_words-width-requires : goal.set_words-width-requires
 set_words-width-requires c = arrays-few c.requires.0.indexed
 
-pub back_row-back-requires : goal.back_row-back-requires
-back_row-back-requires c = (ready-most c.requires.0.indexed.ready, narrow c.requires.0.indexed c.set_words-width.ensures)
+pub invariant_of-layout : goal.invariant_of-layout
+invariant_of-layout c = let x = c.requires.0.indexed in record { few = ready-most x.ready; narrow = narrow x c.set_words-width.ensures }
 
 pub load_rows-requires : goal.load_rows-requires
 load_rows-requires c =
@@ -107,7 +107,7 @@ grow-requires c =
     let w : ℕ = c.set_words-width.result in
     let is = c.set_words-width.ensures in
     let row = c.back_row-back.ensures in
-    (ready-most r.indexed.ready, narrow r.indexed is, roomy r c.load_rows.new.work is (c.load_rows.ensures.keeps.size ∙ c.begin_row.ensures.size), omega (arith, c.node.ensures, within r), inl (omega arith, omega (arith, row_first n w)))
+    (roomy r c.load_rows.new.work is (c.load_rows.ensures.keeps.size ∙ c.begin_row.ensures.size), omega (arith, c.node.ensures, within r), inl (omega arith, omega (arith, row_first n w)))
 
 pub pass_rows-requires : goal.pass_rows-requires
 pass_rows-requires c =
@@ -125,7 +125,7 @@ all_settled-requires c =
     let r = c.requires.0 in
     let is = c.set_words-width.ensures in
     let before = keeps r c.requires.1 is c.back_row-back.ensures c.begin_row.ensures c.load_rows.ensures c.node.ensures c.grow.ensures in
-    (ready-most r.indexed.ready, narrow r.indexed is, roomy r c.pass_rows.new.work is (c.pass_rows.ensures.keeps.size ∙ before.size))
+    (roomy r c.pass_rows.new.work is (c.pass_rows.ensures.keeps.size ∙ before.size))
 
 pub returns : goal.returns
 unfolding all_held

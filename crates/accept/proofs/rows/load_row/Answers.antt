@@ -1,19 +1,15 @@
--- `accept::rows::load_row` meets its contract. The invariant: the first k words of the three sets are loaded.
--- The measure is what is left of the width.
-use Prim.Native.Nat.{ℕ, ◌+◌, ◌*◌}
-use mathlib.Core.Path.{◌≡◌, subst}
-use Rattle.accept.specs.Clauses.Rows.{SetsOf}
-use Rattle.accept.proofs.Loading.{loading_more, loading_all}
+-- One word of the three sets more is loaded.
+use mathlib.Core.Path.{◌≡◌}
 use native.Mathlib.Omega.{arith}
+use Rattle.accept.proofs.Loading.{word-of, loading_more, loading_all}
 use Rattle.accept.proofs.rows.load_row.Goals as goal
 
 pub loop-k-preserved : goal.loop-k-preserved
 loop-k-preserved c =
-    let a = c.args in
     let x = c.loop-k in
     let sets = c.sets_of-sets.result in
     loading_more sets.none sets.auto sets.dimmed x.invariant c.loop-k-test.true c.requires.2
-    (subst (λ (y : ℕ). SetsOf a.s.now (a.at + 64 * x.k) y 0 sets.none sets.auto sets.dimmed) c.in_word-count.ensures c.sets_of-sets.ensures)
+    (word-of c.args.s.now x.k c.in_word-count.result c.in_word-count.ensures (omega (arith, c.requires.0, c.loop-k-test.true))) c.sets_of-sets.ensures
 
 pub returns : goal.returns
 returns c =

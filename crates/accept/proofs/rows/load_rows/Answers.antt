@@ -19,6 +19,9 @@ roomy ws vs n arrays {w} is room e = let wide : nodes_end n w ≤ length ws = su
 pub set_words-width-requires : goal.set_words-width-requires
 set_words-width-requires c = c.requires.1
 
+pub invariant_of-layout : goal.invariant_of-layout
+invariant_of-layout c = record { few = c.requires.0; narrow = omega (arith, c.set_words-width.ensures, c.requires.1) }
+
 pub loop-d-init : goal.loop-d-init
 loop-d-init c = rows_none
 
@@ -26,12 +29,12 @@ pub load_next-requires : goal.load_next-requires
 load_next-requires c =
     let x = c.loop-d in
     let is = c.set_words-width.ensures in
-    (c.requires.0, c.requires.1, is, c.loop-d-test.true, roomy c.args.work.now x.work c.args.n c.args.arrays is c.requires.2 x.invariant.keeps.size, c.requires.3, subst (λ (w : ℕ). LoadedBefore c.args.s.now x.work c.args.n w c.args.arrays x.d) (sym is) (loaded_before x.invariant (omega (arith, c.loop-d-test.true)) c.requires.4))
+    (c.requires.1, is, c.loop-d-test.true, roomy c.args.work.now x.work c.args.n c.args.arrays is c.requires.2 x.invariant.keeps.size, c.requires.3, subst (λ (w : ℕ). LoadedBefore c.args.s.now x.work c.args.n w c.args.arrays x.d) (sym is) (loaded_before x.invariant (omega (arith, c.loop-d-test.true)) c.requires.4))
 
 pub settle-requires : goal.settle-requires
 settle-requires c =
     let is = c.set_words-width.ensures in
-    (c.requires.0, omega (arith, is, c.requires.1), roomy c.args.work.now c.load_next.new.work c.args.n c.args.arrays is c.requires.2 (c.load_next.ensures.keeps.size ∙ c.loop-d.invariant.keeps.size), c.loop-d-test.true)
+    (roomy c.args.work.now c.load_next.new.work c.args.n c.args.arrays is c.requires.2 (c.load_next.ensures.keeps.size ∙ c.loop-d.invariant.keeps.size), c.loop-d-test.true)
 
 pub loop-d-preserved : goal.loop-d-preserved
 loop-d-preserved c =

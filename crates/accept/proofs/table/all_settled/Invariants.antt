@@ -6,7 +6,7 @@ use Rattle.solve.specs.Clauses.Layout.{settled_in}
 use Rattle.accept.proofs.table.all_settled.Given as goal
 
 abbrev pub invariant-loop-d : goal.invariant-loop-d
-invariant-loop-d l = (l.d ≤ 2 * l.n) × ((x : ℕ) → x < l.d → settled_in l.work l.n l.width x ≡ 1)
+invariant-loop-d l = (l.d ≤ 2 * l.layout.n) × ((x : ℕ) → x < l.d → settled_in l.work l.layout.n l.layout.width x ≡ 1)
 
 abbrev pub decreases-loop-d : goal.decreases-loop-d
-decreases-loop-d l = 2 * l.n - l.d
+decreases-loop-d l = 2 * l.layout.n - l.d

@@ -16,17 +16,17 @@ returns-then-work-row-ne0 c =
     let k = c.loop-k.k in
     let row = c.mask_row-row in
     let known = c.shared_slice_known-in-loop-k-3-1.given in
-    sym (some_word a.work.now a.width row.result k (omega arith) (omega (arith, known (row.result + k))) (omega (arith, known (row.result + a.width + k))) (omega (arith, known (row.result + 2 * a.width + k))) c.if-work-row-ne0.true
-    ) ∙ ap (λ (x : ℕ). not (all_below (64 * a.width) (λ b. eqb (mask_at a.work.now a.width x b) 0))) row.ensures
+    sym (some_word a.work.now a.layout.width row.result k (omega arith) (omega (arith, known (row.result + k))) (omega (arith, known (row.result + a.layout.width + k))) (omega (arith, known (row.result + 2 * a.layout.width + k))) c.if-work-row-ne0.true
+    ) ∙ ap (λ (x : ℕ). not (all_below (64 * a.layout.width) (λ b. eqb (mask_at a.work.now a.layout.width x b) 0))) row.ensures
 
 pub loop-k-preserved : goal.loop-k-preserved
 loop-k-preserved c =
     let a = c.args in
     let x = c.loop-k in
-    (omega arith, zero_more a.work.now a.width c.mask_row-row.result x.k c.if-work-row-ne0.false x.invariant.1)
+    (omega arith, zero_more a.work.now a.layout.width c.mask_row-row.result x.k c.if-work-row-ne0.false x.invariant.1)
 
 pub returns : goal.returns
 returns c =
     let a = c.args in
     let row = c.mask_row-row in
-    sym (zero-all a.work.now a.width row.result (λ b l. c.loop-k.invariant.1 b (omega arith))) ∙ ap (λ (x : ℕ). not (all_below (64 * a.width) (λ b. eqb (mask_at a.work.now a.width x b) 0))) row.ensures
+    sym (zero-all a.work.now a.layout.width row.result (λ b l. c.loop-k.invariant.1 b (omega arith))) ∙ ap (λ (x : ℕ). not (all_below (64 * a.layout.width) (λ b. eqb (mask_at a.work.now a.layout.width x b) 0))) row.ensures

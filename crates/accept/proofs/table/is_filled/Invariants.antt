@@ -6,7 +6,7 @@ use Rattle.solve.specs.Clauses.Rows.{mask_at}
 use Rattle.accept.proofs.table.is_filled.Given as goal
 
 abbrev pub invariant-loop-k : goal.invariant-loop-k
-invariant-loop-k l = (l.k ≤ l.width) × ((a : ℕ) → a < 64 * l.k → mask_at l.work l.width l.row a ≡ 0)
+invariant-loop-k l = (l.k ≤ l.layout.width) × ((a : ℕ) → a < 64 * l.k → mask_at l.work l.layout.width l.row a ≡ 0)
 
 abbrev pub decreases-loop-k : goal.decreases-loop-k
-decreases-loop-k l = l.width - l.k
+decreases-loop-k l = l.layout.width - l.k

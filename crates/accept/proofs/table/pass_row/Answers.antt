@@ -10,11 +10,14 @@ use Rattle.dataflow.proofs.Headers.{narrow, arrays_told}
 use Rattle.accept.proofs.Passing.{passed_by, passed_on}
 use Rattle.accept.proofs.table.pass_row.Goals as goal
 
+pub invariant_of-layout : goal.invariant_of-layout
+invariant_of-layout c = let x = c.requires.1.indexed in record { few = ready-most x.ready; narrow = narrow x c.requires.0 }
+
 pub is_filled-requires : goal.is_filled-requires
 is_filled-requires c =
     let x = c.requires.1.indexed in
     let few = narrow x c.requires.0 in
-    (ready-most x.ready, few, c.requires.2, nodes-room x.ready c.requires.1.some few)
+    (c.requires.2, nodes-room x.ready c.requires.1.some few)
 
 pub returns-then-is_filled : goal.returns-then-is_filled
 returns-then-is_filled c =

@@ -2,13 +2,13 @@
 -- Assumes nothing.
 use mathlib.Core.Path.{sym, ◌∙◌}
 use Rattle.flow.specs.Format.{flow_of}
-use Rattle.statements.proofs.Keeps.{ready-most, ready-size}
+use Rattle.statements.proofs.Keeps.{ready-size}
 use Rattle.calls.proofs.Checked.{row_room}
 use Rattle.calls.proofs.Classes.{call_says, call-row}
 use Rattle.calls.proofs.edges.call_of.Goals as goal
 
 pub row-requires : goal.row-requires
-row-requires c = (ready-most c.requires.0, c.requires.2)
+row-requires c = (c.requires.2)
 
 pub returns : goal.returns
 returns c =

@@ -1,33 +1,26 @@
 -- `line_entered` meets its contract: the one member of the row of a call that names one line, and else what the line enters.
 -- By what such a row holds. Assumes nothing.
 use Prim.Native.Nat.{ℕ, ◌+◌, ◌/◌, ◌<◌, ◌≤◌}
-use mathlib.Core.Path.{ap, sym, subst}
+use mathlib.Core.Path.{ap, subst}
 use native.Mathlib.Omega.{arith}
 use lib.ListN.{length, get_or}
 use Rattle.flow.specs.declared.Header.{Header}
 use Rattle.flow.specs.Format.{flow_of}
-use Rattle.flow.specs.Clauses.Answers.{statement_in}
 use Rattle.theory.specs.Body.{kind, call_lines}
 use Rattle.statements.proofs.Keeps.{ready-most, ready-room, ready-size, ready_formed, ready-below}
-use Rattle.calls.proofs.Classes.{line-member, line_nowhere}
+use Rattle.calls.proofs.Classes.{line-first}
 use Rattle.calls.proofs.edges.line_entered.Goals as goal
 
-pub next-b-requires : goal.next-b-requires
-next-b-requires c =
+pub next-requires : goal.next-requires
+next-requires c =
     subst (λ (m : ℕ). c.args.call.row + (m + 63) / 64 ≤ length c.args.work.now) (ready-size c.requires.0.ready) c.requires.3.room
-
-pub returns-then-b-n : goal.returns-then-b-n
-returns-then-b-n c =
-    let p = c.requires in
-    sym (ap statement_in (line-member (ready-size p.0.ready) p.3 c.if-call-eq1.true p.4 c.next-b.ensures c.if-b-n.true))
 
 pub returns-then-call-eq1 : goal.returns-then-call-eq1
 returns-then-call-eq1 c =
     let a = c.args in
-    let f = flow_of a.file.now in
-    let p = c.requires in
-    let ready = p.0.ready in
-    sym (ap statement_in (line_nowhere (ready-size ready) p.3 c.if-call-eq1.true p.4 c.next-b.ensures c.if-b-n.false (λ d e. ready-below ready ((ready_formed ready).first (get_or (call_lines (kind f a.i.0)) a.l 0) d e))))
+    let ready = c.requires.0.ready in
+    line-first (ready-size ready) c.requires.3 c.if-call-eq1.true c.requires.4 c.next.result c.map.result c.next.ensures
+    (λ d e. ready-below ready ((ready_formed ready).first (get_or (call_lines (kind (flow_of a.file.now) a.i.0)) a.l 0) d e)) c.map.ensures.cases
 
 pub line_entry-requires : goal.line_entry-requires
 line_entry-requires c =

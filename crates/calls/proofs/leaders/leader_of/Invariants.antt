@@ -4,7 +4,7 @@ use Prim.Native.Nat.{◌-◌, ◌≤◌}
 use Rattle.calls.proofs.leaders.leader_of.Given as goal
 
 abbrev pub invariant-loop-l : goal.invariant-loop-l
-invariant-loop-l l = l.l ≤ l.r.0
+invariant-loop-l l = l.from ≤ l.r.0
 
 abbrev pub decreases-loop-l : goal.decreases-loop-l
-decreases-loop-l l = l.r.0 - l.l
+decreases-loop-l l = l.r.0 - l.from

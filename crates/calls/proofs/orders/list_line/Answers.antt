@@ -13,6 +13,9 @@ use Rattle.calls.specs.Clauses.Orders.{firsts, Listing}
 use Rattle.statements.proofs.Told.{enters-at, enters-nothing}
 use Rattle.calls.proofs.orders.list_line.Goals as goal
 
+pub invariant_of-list_statement : goal.invariant_of-list_statement
+invariant_of-list_statement c = record { few = ready-most c.requires.0.ready }
+
 pub list_statement-requires : goal.list_statement-requires
 list_statement-requires c =
     let f = flow_of c.args.file.now in

@@ -25,13 +25,13 @@ zeroed {ws} {vs} {n} e z = subst (λ (x : ℕ). Empty vs n x × Keeps x (x + row
 below : (n at k count : ℕ) → n ≤ max_statements → k ≤ count → list_end at count ≤ queue_at n → k + at ≤ 5 * (48 * 2048)
 below n at k count most few room = let short : list_end at k ≤ queue_at n = omega arith in omega (arith, short, queue-below most, most)
 
-pub entered_row-requires : goal.entered_row-requires
-entered_row-requires c = ready-most c.requires.0.ready
+pub invariant_of-layout : goal.invariant_of-layout
+invariant_of-layout c = record { few = ready-most c.requires.0.ready }
 
 pub zero_row-requires : goal.zero_row-requires
 zero_row-requires c =
     let ready = c.requires.0.ready in
-    (ready-most ready, omega (arith, c.entered_row.ensures, entered-room (record { few = ready-most ready; room = ready.room }) (omega (arith, c.requires.1))))
+    (omega (arith, c.entered_row.ensures, entered-room (record { few = ready-most ready; room = ready.room }) (omega (arith, c.requires.1))))
 
 pub list_lines-k-requires : goal.list_lines-k-requires
 list_lines-k-requires c =
@@ -44,9 +44,6 @@ overflow_mul-work c = omega (arith, below c.args.h.statements c.args.at c.list_l
 
 pub overflow_add-work : goal.overflow_add-work
 overflow_add-work c = omega (arith, below c.args.h.statements c.args.at c.list_lines-k.result c.args.count (ready-most c.requires.0.ready) c.list_lines-k.ensures.1 c.requires.4)
-
-pub touched-requires : goal.touched-requires
-touched-requires c = ready-most c.requires.0.ready
 
 pub overflow_add-result : goal.overflow_add-result
 overflow_add-result c = omega (arith, below c.args.h.statements c.args.at c.list_lines-k.result c.args.count (ready-most c.requires.0.ready) c.list_lines-k.ensures.1 c.requires.4)

@@ -22,18 +22,18 @@ use Rattle.flow.specs.Flow.{Flow}
 use mathlib.Core.List.{List}
 use Rattle.calls.proofs.orders.note_order.Goals as goal
 
-pub calls-requires : goal.calls-requires
-calls-requires c = ready-most c.requires.0.ready
-
 -- what the call's state says
 state : {f : Flow} {ws : List ℕ} {n at i : ℕ} → at ≡ calls_at n → CallSummaries f ws n → i < n → eqb (get_or ws (at + i) 0) transparent ≡ transparent_call f i
 state {f} {ws} {n} {at} {i} e calls below = ap (λ (x : ℕ). eqb (get_or ws (x + i) 0) transparent) e ∙ call-state calls below
 
-pub returns-then-work-calls-ne-TRANSPARENT : goal.returns-then-work-calls-ne-TRANSPARENT
-returns-then-work-calls-ne-TRANSPARENT c =
+pub invariant_of-layout : goal.invariant_of-layout
+invariant_of-layout c = record { few = ready-most c.requires.0.ready }
+
+pub returns-then-work-calls : goal.returns-then-work-calls
+returns-then-work-calls c =
     let f = flow_of c.args.file.now in
     let i = c.args.c.0 in
-    unasked f (ap (λ (t : Bool). t && ltb 1 (length (call_lines (kind f i)))) (sym (state c.calls.ensures c.requires.1 c.requires.2) ∙ ne_eqb _ transparent c.if-work-calls-ne-TRANSPARENT.true))
+    unasked f (ap (λ (t : Bool). t && ltb 1 (length (call_lines (kind f i)))) (sym (state c.calls.ensures c.requires.1 c.requires.2) ∙ ne_eqb _ transparent c.if-work-calls.true))
 
 pub returns-then-count-lt2 : goal.returns-then-count-lt2
 returns-then-count-lt2 c =
@@ -41,18 +41,12 @@ returns-then-count-lt2 c =
     let i = c.args.c.0 in
     unasked f (ap (λ (t : Bool). transparent_call f i && t) (le-ltb 1 (length (call_lines (kind f i))) (omega (arith, c.line_count-count.ensures, c.if-count-lt2.true))) ∙ and-false (transparent_call f i))
 
-pub queue-requires : goal.queue-requires
-queue-requires c = ready-most c.requires.0.ready
-
 pub overflow_add-count : goal.overflow_add-count
 overflow_add-count c = omega (arith, c.line_count-count.ensures, lines-few c.requires.0.ready c.requires.2)
 
 pub overflow_add-at : goal.overflow_add-at
 overflow_add-at c =
     omega (arith, c.line_count-count.ensures, lines-few c.requires.0.ready c.requires.2, c.requires.4, queue-below (ready-most c.requires.0.ready), ready-most c.requires.0.ready)
-
-pub touched-requires : goal.touched-requires
-touched-requires c = ready-most c.requires.0.ready
 
 pub returns-then-queue-at : goal.returns-then-queue-at
 returns-then-queue-at c =
@@ -68,7 +62,7 @@ note_list-requires c =
     let f = flow_of c.args.file.now in
     let i = c.args.c.0 in
     let count = c.line_count-count.ensures in
-    let is_transparent : transparent_call f i ≡ true = sym (state c.calls.ensures c.requires.1 c.requires.2) ∙ eq-eqb _ transparent c.if-work-calls-ne-TRANSPARENT.false in
+    let is_transparent : transparent_call f i ≡ true = sym (state c.calls.ensures c.requires.1 c.requires.2) ∙ eq-eqb _ transparent c.if-work-calls.false in
     let many : ltb 1 (length (call_lines (kind f i))) ≡ true = lt-ltb 1 (length (call_lines (kind f i))) (omega (arith, count, c.if-count-lt2.false)) in (
       c.requires.0,
       c.requires.2,

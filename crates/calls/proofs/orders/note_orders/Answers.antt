@@ -8,8 +8,8 @@ use Rattle.calls.proofs.Gathered.{summaries_kept}
 use Rattle.calls.proofs.Ordering.{lists_from, lists_to, orders-none, orders-more, next-end, orders_keep}
 use Rattle.calls.proofs.orders.note_orders.Goals as goal
 
-pub lists-at-requires : goal.lists-at-requires
-lists-at-requires c = ready-most c.requires.0.ready
+pub invariant_of-layout : goal.invariant_of-layout
+invariant_of-layout c = record { few = ready-most c.requires.0.ready }
 
 pub loop-c-init : goal.loop-c-init
 unfolding lists_end

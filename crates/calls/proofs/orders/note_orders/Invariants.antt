@@ -6,4 +6,4 @@ use Rattle.calls.specs.Clauses.Orders.{lists_end, OrdersNoted}
 use Rattle.calls.proofs.orders.note_orders.Given as goal
 
 abbrev pub invariant-loop-c : goal.invariant-loop-c
-invariant-loop-c l = (l.at ≡ lists_end (flow_of l.file) l.n l.c) × OrdersNoted (flow_of l.file) l.initial.work l.work l.n l.c
+invariant-loop-c l = (l.at ≡ lists_end (flow_of l.file) l.h.statements l.c) × OrdersNoted (flow_of l.file) l.initial.work l.work l.h.statements l.c

@@ -39,6 +39,9 @@ one_line {s} {i = i} {b = b} r counted single told =
     let among = entered-line (flow_of s) i 0 b.0 (omega arith) names in
     record { one = sym counted ∙ single; names = names; among = among; below = ready-below r (entered_below (ready_formed r) i b.0 among) }
 
+pub invariant_of-layout : goal.invariant_of-layout
+invariant_of-layout c = record { few = ready-most c.requires.0.ready }
+
 pub is_return-requires : goal.is_return-requires
 is_return-requires c =
     let o = one_line c.requires.0.ready c.line_count.ensures c.if-line_count-eq1.true (sym c.entered.ensures ∙ c.in-Some.is) in
@@ -47,10 +50,10 @@ is_return-requires c =
 pub row-requires : goal.row-requires
 row-requires c =
     let o = one_line c.requires.0.ready c.line_count.ensures c.if-line_count-eq1.true (sym c.entered.ensures ∙ c.in-Some.is) in
-    (ready-most c.requires.0.ready, o.below)
+    (o.below)
 
-pub returns-then-not-is_return : goal.returns-then-not-is_return
-returns-then-not-is_return c =
+pub returns : goal.returns
+returns c =
     let p = c.requires in
     let r = p.0.ready in
     let f = flow_of c.args.file.now in

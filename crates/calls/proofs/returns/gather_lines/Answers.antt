@@ -18,11 +18,11 @@ use Rattle.calls.proofs.returns.gather_lines.Goals as goal
 inside : {s ws : List ℕ} {n at : ℕ} → Ready s ws n → 0 < n → at ≡ entered_row_at n → at + row_words n ≤ length ws
 inside {n = n} r some e = omega (arith, row-words-le n, ready-room r some)
 
-pub entered_row-row-requires : goal.entered_row-row-requires
-entered_row-row-requires c = ready-most c.requires.0.ready
+pub invariant_of-layout : goal.invariant_of-layout
+invariant_of-layout c = record { few = ready-most c.requires.0.ready }
 
 pub zero_row-requires : goal.zero_row-requires
-zero_row-requires c = let r = c.requires.0.ready in (ready-most r, inside r (omega (arith, c.requires.1)) c.entered_row-row.ensures)
+zero_row-requires c = let r = c.requires.0.ready in (inside r (omega (arith, c.requires.1)) c.entered_row-row.ensures)
 
 pub add_lines-requires : goal.add_lines-requires
 add_lines-requires c =

@@ -8,6 +8,9 @@ use Rattle.calls.proofs.Gathered.{bodies-noted}
 use Rattle.calls.proofs.ReturnSet.{return-set-stays}
 use Rattle.calls.proofs.returns.note_bodies.Goals as goal
 
+pub invariant_of-layout : goal.invariant_of-layout
+invariant_of-layout c = record { few = ready-most c.requires.0.ready }
+
 pub note_shared-requires : goal.note_shared-requires
 note_shared-requires c =
     let start = c in

@@ -9,13 +9,13 @@ use Rattle.statements.proofs.Told.{continues-to, continues_nowhere}
 use Rattle.calls.proofs.Gathered.{call_none, call-transparent, call-opaque}
 use Rattle.calls.proofs.returns.note_call.Goals as goal
 
-pub calls-requires : goal.calls-requires
-calls-requires c = ready-most c.requires.0.ready
+pub invariant_of-layout : goal.invariant_of-layout
+invariant_of-layout c = record { few = ready-most c.requires.0.ready }
 
-pub returns-then-work-calls-ne-OPAQUE : goal.returns-then-work-calls-ne-OPAQUE
-returns-then-work-calls-ne-OPAQUE c =
+pub returns-then-work-calls : goal.returns-then-work-calls
+returns-then-work-calls c =
     let a = c.args in
-    call-transparent a.c.0 c.requires.2 (λ e. c.if-work-calls-ne-OPAQUE.true (ap (λ (b : ℕ). get_or a.work.now (b + a.c.0) 0) c.calls.ensures ∙ e))
+    call-transparent a.c.0 c.requires.2 (λ e. c.if-work-calls.true (ap (λ (b : ℕ). get_or a.work.now (b + a.c.0) 0) c.calls.ensures ∙ e))
 
 pub note_bodies-requires : goal.note_bodies-requires
 note_bodies-requires c =
@@ -29,7 +29,7 @@ returns-in-Some c =
     let a = c.args in
     let e = continues-to (continuation_of (kind (flow_of a.file.now) a.c.0)) c.in-Some.k (sym c.continuation.ensures ∙ c.in-Some.is) in
     call-opaque a.c.0 c.in-Some.k.0 c.requires.2
-    (sym (ap (λ (b : ℕ). get_or a.work.now (b + a.c.0) 0) c.calls.ensures) ∙ c.if-work-calls-ne-OPAQUE.false) e c.note_bodies.ensures
+    (sym (ap (λ (b : ℕ). get_or a.work.now (b + a.c.0) 0) c.calls.ensures) ∙ c.if-work-calls.false) e c.note_bodies.ensures
 
 pub returns-in_default : goal.returns-in_default
 returns-in_default c =

@@ -21,6 +21,7 @@ use Rattle.calls.proofs.Ordering.{orders_keep}
 use Rattle.calls.proofs.ReturnSet.{return-set-stays, summarized-stays}
 use Rattle.flow.specs.Flow.{Flow}
 use Rattle.flow.specs.declared.Header.{Header}
+use Rattle.statements.proofs.Keeps.{ready-most}
 use Rattle.calls.proofs.returns.note_edges.Goals as goal
 
 -- the RETURNs are noted, and their rows are empty
@@ -48,6 +49,9 @@ module _ {s ws us cs : List ℕ} {h : Header} (x : Indexed s h ws) (t : Summariz
   free : (r : ℕ) → r < n → is_return (kind (flow_of s) r) ≡ true → EmptyRow cs n r
   unfolding elem
   free r l is j m = cleared.noted r j (omega arith) l m is
+
+pub invariant_of-layout : goal.invariant_of-layout
+invariant_of-layout c = record { few = ready-most c.requires.0.ready }
 
 pub loop-c-init : goal.loop-c-init
 loop-c-init c = calling_start (flow_of c.args.file.now) c.clear_rows.new.work c.args.h.statements

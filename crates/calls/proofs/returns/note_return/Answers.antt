@@ -5,24 +5,20 @@ use mathlib.Core.Path.{sym, ◌∙◌, subst}
 use native.Mathlib.Omega.{arith}
 use Rattle.words.specs.Clauses.Change.{Inserted}
 use Rattle.statements.proofs.WorkArea.{member-word}
-use Rattle.statements.proofs.Keeps.{ready-most}
 use Rattle.calls.proofs.Joined.{adds_none, adds_insert}
 use Rattle.calls.proofs.ReturnSet.{returns-room}
 use Rattle.calls.proofs.returns.note_return.Goals as goal
 
-pub returns_row-requires : goal.returns_row-requires
-returns_row-requires c = ready-most c.requires.0
-
 pub insert-requires : goal.insert-requires
 insert-requires c =
-    omega (arith, returns-room c.args.n c.requires.0, member-word c.requires.1, c.returns_row.ensures)
+    omega (arith, returns-room c.args.layout.n c.requires.0, member-word c.requires.1, c.returns_row.ensures)
 
 pub returns-then-is_return : goal.returns-then-is_return
 returns-then-is_return c =
     let a = c.args in
     let i = c.insert in
     rw (sym c.is_return.ensures ∙ c.if-is_return.true)
-    (adds_insert (subst (λ (b : ℕ). Inserted a.work.now i.new.ws b a.r.0 i.result) c.returns_row.ensures i.ensures) c.requires.1 (returns-room a.n c.requires.0))
+    (adds_insert (subst (λ (b : ℕ). Inserted a.work.now i.new.ws b a.r.0 i.result) c.returns_row.ensures i.ensures) c.requires.1 (returns-room a.layout.n c.requires.0))
 
 pub returns-else-is_return : goal.returns-else-is_return
 returns-else-is_return c = rw (sym c.is_return.ensures ∙ c.if-is_return.false) adds_none

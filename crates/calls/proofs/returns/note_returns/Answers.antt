@@ -6,7 +6,7 @@ use Rattle.flow.specs.Format.{flow_of}
 use Rattle.theory.specs.Lists.{concat_map, up_to}
 use Rattle.statements.specs.Clauses.Layout.{row_words, returns_row_at}
 use Rattle.statements.specs.Clauses.Ready.{Keeps}
-use Rattle.statements.proofs.Keeps.{keeps-trans, ready-most}
+use Rattle.statements.proofs.Keeps.{keeps-trans}
 use Rattle.calls.specs.Clauses.Held.{Empty}
 use Rattle.calls.specs.Clauses.Joins.{Adds}
 use Rattle.calls.proofs.Joined.{adds_none}
@@ -19,11 +19,8 @@ emptied : {ws vs : List ℕ} {n at : ℕ} → at ≡ returns_row_at n → Empty 
     → Empty vs n (returns_row_at n) × Keeps (returns_row_at n) (returns_row_at n + row_words n) ws vs
 emptied {ws} {vs} {n} e z = subst (λ (to : ℕ). Empty vs n to × Keeps to (to + row_words n) ws vs) e z
 
-pub returns_row-requires : goal.returns_row-requires
-returns_row-requires c = ready-most c.requires
-
 pub zero_row-requires : goal.zero_row-requires
-zero_row-requires c = (ready-most c.requires, omega (arith, returns-room c.args.n c.requires, c.returns_row.ensures))
+zero_row-requires c = (omega (arith, returns-room c.args.layout.n c.requires, c.returns_row.ensures))
 
 pub loop-r-init : goal.loop-r-init
 unfolding concat_map up_to
@@ -34,7 +31,7 @@ loop-r-preserved c = returns-more (flow_of c.args.file.now) c.loop-r.r c.loop-r.
 
 pub returns : goal.returns
 returns c =
-    let n = c.args.n in
+    let n = c.args.layout.n in
     let f = flow_of c.args.file.now in
     let z = emptied c.returns_row.ensures c.zero_row.ensures in
     let all : c.loop-r.r ≡ n = omega arith in

@@ -6,4 +6,4 @@ use Rattle.calls.proofs.ReturnSet.{returns_below}
 use Rattle.calls.proofs.returns.note_returns.Given as goal
 
 abbrev pub invariant-loop-r : goal.invariant-loop-r
-invariant-loop-r l = Adds (returns_row_at l.n) l.initial.work l.work l.n (returns_below (flow_of l.file) l.r)
+invariant-loop-r l = Adds (returns_row_at l.layout.n) l.initial.work l.work l.layout.n (returns_below (flow_of l.file) l.r)

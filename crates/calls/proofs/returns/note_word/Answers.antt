@@ -38,15 +38,15 @@ overflow_mul-r c = omega (arith, few c.requires.0.few c.requires.1)
 pub overflow_add-r : goal.overflow_add-r
 overflow_add-r c = omega (arith, few c.requires.0.few c.requires.1, low c.loop-rest.invariant.1 c.loop-rest-test.true)
 
-pub returns-then-n-r : goal.returns-then-n-r
-returns-then-n-r c = c.loop-rest.invariant.2 c.loop-rest.work (gains-none (word_past c.loop-rest.rest c.args.j c.if-n-r.true))
+pub returns-then-layout-r : goal.returns-then-layout-r
+returns-then-layout-r c = c.loop-rest.invariant.2 c.loop-rest.work (gains-none (word_past c.loop-rest.rest c.args.j c.if-layout-r.true))
 
 room : {ws : List ℕ} {n : ℕ} (vs : List ℕ) → Area ws n → 0 < n → length vs ≡ length ws → queue_at n ≤ length vs
 room {n = n} vs a l size = omega (arith, area-fits {n = n} l a.few, a.room)
 
 pub insert-requires : goal.insert-requires
 insert-requires c =
-    omega (arith, room c.loop-rest.work c.requires.0 (omega (arith, c.requires.2)) c.loop-rest.invariant.0, c.row.ensures, row_fits c.args.n c.if-n-r.false, member-word c.requires.2)
+    omega (arith, room c.loop-rest.work c.requires.0 (omega (arith, c.requires.2)) c.loop-rest.invariant.0, c.row.ensures, row_fits c.args.layout.n c.if-layout-r.false, member-word c.requires.2)
 
 pub loop-rest-smaller : goal.loop-rest-smaller
 loop-rest-smaller c =
@@ -64,8 +64,8 @@ loop-rest-preserved c =
       i.auto.ws ∙ inv.0,
       c.difference-rest.type_inv,
       λ vs g. inv.2 vs
-          (word_on rest a.j inv.1 (some c.loop-rest-test.true) new c.if-n-r.false c.requires.2 (room c.loop-rest.work c.requires.0 (omega (arith, c.requires.2)) inv.0)
-          (subst (λ (x : ℕ). Gains i.new.ws vs a.n (queue_at a.n) (in_word x a.j) a.k.0) (left inv.1 c.loop-rest-test.true c.difference-rest.ensures) g)),
+          (word_on rest a.j inv.1 (some c.loop-rest-test.true) new c.if-layout-r.false c.requires.2 (room c.loop-rest.work c.requires.0 (omega (arith, c.requires.2)) inv.0)
+          (subst (λ (x : ℕ). Gains i.new.ws vs a.layout.n (queue_at a.layout.n) (in_word x a.j) a.k.0) (left inv.1 c.loop-rest-test.true c.difference-rest.ensures) g)),
     )
 
 pub returns : goal.returns

@@ -9,7 +9,7 @@ abbrev pub invariant-loop-rest : goal.invariant-loop-rest
 invariant-loop-rest l =
     (length l.work ≡ length l.initial.work)
     × (l.rest < 2 ^ 64)
-    × ((vs : List ℕ) → Gains l.work vs l.n (queue_at l.n) (in_word l.rest l.j) l.fn.k.0 → Gains l.initial.work vs l.n (queue_at l.n) (in_word l.word l.j) l.fn.k.0)
+    × ((vs : List ℕ) → Gains l.work vs l.layout.n (queue_at l.layout.n) (in_word l.rest l.j) l.fn.k.0 → Gains l.initial.work vs l.layout.n (queue_at l.layout.n) (in_word l.word l.j) l.fn.k.0)
 
 abbrev pub decreases-loop-rest : goal.decreases-loop-rest
 decreases-loop-rest l = tally (bit l.rest) 64

@@ -13,7 +13,11 @@ use Rattle.calls.specs.Clauses.Joins.{Adds, bodies_of}
 use Rattle.statements.proofs.Told.{enters-at}
 use Rattle.calls.proofs.Lines.{entered-line, adds_entered, adds_nothing}
 use Rattle.calls.proofs.Gathered.{bodies-one}
+use Rattle.statements.proofs.Keeps.{ready-most}
 use Rattle.calls.proofs.rows.add_line.Goals as goal
+
+pub invariant_of-layout : goal.invariant_of-layout
+invariant_of-layout c = record { few = ready-most c.requires.0.ready }
 
 pub add_body-requires : goal.add_body-requires
 add_body-requires c =

@@ -18,13 +18,12 @@ loop-l-init c = adds_none
 pub add_line-requires : goal.add_line-requires
 add_line-requires c =
     let p = c.requires in
-    let ready = p.0.ready in
     let added = c.loop-l.invariant in (
       indexed-keeps p.0 added.kept (omega (arith, p.2.low)),
       p.1,
       omega (arith, c.line_count-count.ensures),
       adds_target added p.2,
-      λ w. rows_stay c.args.c.0 (ready_formed ready) (ready-size ready) added.kept (p.2.apart w) (p.3 w),
+      λ w. rows_stay c.args.c.0 (ready_formed p.0.ready) (ready-size p.0.ready) added.kept (p.2.apart w) (p.3 w),
     )
 
 pub loop-l-preserved : goal.loop-l-preserved

@@ -5,4 +5,4 @@ use Rattle.calls.specs.Clauses.Joins.{ClearsReturns}
 use Rattle.calls.proofs.rows.clear_rows.Given as goal
 
 abbrev pub invariant-loop-r : goal.invariant-loop-r
-invariant-loop-r l = ClearsReturns (flow_of l.file) l.initial.work l.work l.n 0 l.r
+invariant-loop-r l = ClearsReturns (flow_of l.file) l.initial.work l.work l.layout.n 0 l.r

@@ -19,23 +19,23 @@ use Rattle.calls.proofs.Gathered.{bodies-alone}
 use Rattle.calls.proofs.CallRows.{notes_skip, notes_row}
 use Rattle.calls.proofs.rows.note_row.Goals as goal
 
-pub calls-requires : goal.calls-requires
-calls-requires c = ready-most c.requires.0.ready
+pub invariant_of-layout : goal.invariant_of-layout
+invariant_of-layout c = record { few = ready-most c.requires.0.ready }
 
-pub returns-then-work-calls-ne-TRANSPARENT : goal.returns-then-work-calls-ne-TRANSPARENT
-returns-then-work-calls-ne-TRANSPARENT c =
+pub returns-then-work-calls : goal.returns-then-work-calls
+returns-then-work-calls c =
     let a = c.args in
-    notes_skip (λ e. c.if-work-calls-ne-TRANSPARENT.true (ap (λ (b : ℕ). get_or a.work.now (b + a.i.0) 0) c.calls.ensures ∙ e))
+    notes_skip (λ e. c.if-work-calls.true (ap (λ (b : ℕ). get_or a.work.now (b + a.i.0) 0) c.calls.ensures ∙ e))
 
 pub row-row-requires : goal.row-row-requires
-row-row-requires c = let p = c.requires in (ready-most p.0.ready, p.1)
+row-row-requires c = let p = c.requires in (p.1)
 
 -- the row lies in the matrix
 inside : {s ws : List ℕ} {n i row : ℕ} → Ready s ws n → i < n → row ≡ row_at n i → row + row_words n ≤ length ws
 inside r below e = omega (arith, row_fits _ below, ready-room r (omega arith))
 
 pub zero_row-requires : goal.zero_row-requires
-zero_row-requires c = let r = c.requires.0.ready in (ready-most r, inside r c.requires.1 c.row-row.ensures)
+zero_row-requires c = let r = c.requires.0.ready in (inside r c.requires.1 c.row-row.ensures)
 
 pub add_lines-requires : goal.add_lines-requires
 add_lines-requires c =
@@ -60,7 +60,7 @@ returns c =
     let vs = c.add_lines.new.work in
     let e = c.row-row.ensures in
     let zeroed = c.zero_row.ensures in
-    let state = sym (ap (λ (b : ℕ). get_or ws (b + i) 0) c.calls.ensures) ∙ c.if-work-calls-ne-TRANSPARENT.false in
+    let state = sym (ap (λ (b : ℕ). get_or ws (b + i) 0) c.calls.ensures) ∙ c.if-work-calls.false in
     let adds : Adds (row_at n i) us vs n (entered f i) = subst₂ (λ (x : ℕ) (xs : List ℕ). Adds x us vs n xs) e (bodies-alone f (entered f i)) c.add_lines.ensures in
     notes_row c.requires.1 state (keeps-trans (subst (λ (x : ℕ). Keeps x (x + row_words n) ws us) e zeroed.1) adds.kept)
     (adds_all (subst (λ (x : ℕ). Empty us n x) e zeroed.0) adds)

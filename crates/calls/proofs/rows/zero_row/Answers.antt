@@ -16,9 +16,9 @@ use Rattle.calls.proofs.rows.zero_row.Goals as goal
 pub returns : goal.returns
 returns c =
     let ws = c.args.work.now in
-    let n = c.args.n in
+    let n = c.args.layout.n in
     let to = c.args.to in
     let slice : c.zero_row.new.ws ≡ zeroed ws to (row_words n) = c.zero_row.ensures ∙ ap (zeroed ws to) c.row_words.ensures in (
-      λ j l. ap (λ (vs : List ℕ). has vs to j) slice ∙ zeroed-has ws to (row_words n) c.requires.1 j (omega (arith, row-holds n)),
+      λ j l. ap (λ (vs : List ℕ). has vs to j) slice ∙ zeroed-has ws to (row_words n) c.requires j (omega (arith, row-holds n)),
       subst (λ (vs : List ℕ). Keeps to (to + row_words n) ws vs) (sym slice) (keeps-zeroed ws to (row_words n) (omega arith) (omega arith)),
     )

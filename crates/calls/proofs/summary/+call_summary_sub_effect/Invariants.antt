@@ -15,11 +15,8 @@ decreases-sub_effect l = 2 * unentered_count l.work.now (statements_of l.file.no
 abbrev pub invariant-call_summary-loop-k : goal.invariant-call_summary-loop-k
 invariant-call_summary-loop-k l = CallLoop (flow_of l.file) l.initial.work l.work (statements_of l.file) l.c.0 l.opaque l.k
 
-abbrev pub decreases-call_summary-loop-k : goal.decreases-call_summary-loop-k
-decreases-call_summary-loop-k l = l.count - l.k
-
 abbrev pub invariant-sub_effect-loop-i : goal.invariant-sub_effect-loop-i
-invariant-sub_effect-loop-i l = BodyLoop (flow_of l.file) l.initial.work l.work (statements_of l.file) l.e.0 l.opaque l.i
+invariant-sub_effect-loop-i l = BodyLoop (flow_of l.file) l.initial.work l.work (statements_of l.file) l.e.0 l.opaque l.from
 
 abbrev pub decreases-sub_effect-loop-i : goal.decreases-sub_effect-loop-i
-decreases-sub_effect-loop-i l = statements_of l.file - l.i
+decreases-sub_effect-loop-i l = statements_of l.file - l.from

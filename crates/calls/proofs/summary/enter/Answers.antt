@@ -8,7 +8,7 @@ use Rattle.flow.specs.Format.{flow_of, statements_of}
 use Rattle.statements.specs.Clauses.Layout.{bodies_at, matrix_at, row_at, row_words}
 use Rattle.statements.specs.Clauses.Ready.{Ready, Keeps}
 use Rattle.statements.proofs.WorkArea.{row_from, row_fits}
-use Rattle.statements.proofs.Keeps.{ready-keeps, ready-most, ready-room, keeps-set, ready_formed, ready-size}
+use Rattle.statements.proofs.Keeps.{ready-keeps, ready-room, keeps-set, ready_formed, ready-size}
 use Rattle.calls.specs.Clauses.Held.{opened, transparent, Empty, EmptyRow, Walked}
 use Rattle.calls.specs.Clauses.Summing.{body, BodySummed}
 use Rattle.calls.proofs.Checked.{ready-again}
@@ -52,21 +52,21 @@ returns-then-is_return c =
     let n = statements_of a.file.now in
     let e = a.e.0 in
     let r = c.requires.0 in
-    let count = c.statement_count-n.ensures.0 in
+    let count = c.layout_of-layout.ensures in
     subst (λ (x : ℕ). BodySummed (flow_of a.file.now) a.work.now (set c.pass_by.new.work (x + e) transparent) n e) (sym (at-body c.bodies.ensures count))
-    (return_done (ready_formed r) (ready-size r) c.requires.2 (omega (arith, r.room)) c.requires.1 (sym (state (statements_of c.args.file.now) c.args.work.now c.args.e.0 (at-body c.bodies.ensures count)) ∙ c.if-work-at-ne-UNENTERED.false)
+    (return_done (ready_formed r) (ready-size r) c.requires.2 (omega (arith, r.room)) c.requires.1 (sym (state (statements_of c.args.file.now) c.args.work.now c.args.e.0 (at-body c.bodies.ensures count)) ∙ c.if-work-at.false)
     (sym c.is_return.ensures ∙ c.if-is_return.true) c.pass_by.ensures)
 
 pub zero_row-requires : goal.zero_row-requires
 zero_row-requires c =
-    let count = c.statement_count-n.ensures.0 in
+    let count = c.layout_of-layout.ensures in
     let r = ready-again count c.requires.0 in
-    let l : c.args.e.0 < c.statement_count-n.result = omega (arith, count, c.requires.1) in
-    (ready-most r, omega (arith, c.row.ensures, row_fits _ l, ready-room r (omega arith), (opens-keeps c.requires.0 c.requires.1 c.bodies.ensures count).size))
+    let l : c.args.e.0 < c.layout_of-layout.result.n = omega (arith, count, c.requires.1) in
+    (omega (arith, c.row.ensures, row_fits _ l, ready-room r (omega arith), (opens-keeps c.requires.0 c.requires.1 c.bodies.ensures count).size))
 
 pub walk-requires : goal.walk-requires
 walk-requires c =
-    let count = c.statement_count-n.ensures.0 in
+    let count = c.layout_of-layout.ensures in
     let p = c.requires in
     (ready-again count (ready p.0 p.1 c.bodies.ensures count c.row.ensures c.zero_row.ensures), rw count p.1, rw count (emptied p.0 p.1 c.bodies.ensures count c.row.ensures c.zero_row.ensures).0)
 
@@ -75,11 +75,11 @@ returns c =
     let p = c.requires in
     let r = p.0 in
     let room : matrix_at (statements_of c.args.file.now) ≤ length c.args.work.now = omega (arith, r.room) in
-    let count = c.statement_count-n.ensures.0 in
+    let count = c.layout_of-layout.ensures in
     let walked = is-walked r p.1 c.bodies.ensures count c.row.ensures c.zero_row.ensures c.walk.ensures in
     record {
       summing = summing_open (ready_formed r) (ready-size r) p.2 room p.1 walked;
       onward = onward_open (ready_formed r) (ready-size r) p.2 room p.1 walked;
-      was = sym (state (statements_of c.args.file.now) c.args.work.now c.args.e.0 (at-body c.bodies.ensures count)) ∙ c.if-work-at-ne-UNENTERED.false;
+      was = sym (state (statements_of c.args.file.now) c.args.work.now c.args.e.0 (at-body c.bodies.ensures count)) ∙ c.if-work-at.false;
       is = body_open (ready_formed r) (ready-size r) p.2 room p.1 walked;
     }

@@ -6,5 +6,5 @@ use Rattle.calls.proofs.summary.next_walked.Goals as goal
 
 pub next-requires : goal.next-requires
 next-requires c =
-    let e = c.statement_count-n.ensures.0 in
+    let e = c.layout_of-layout.ensures in
     omega (arith, c.row.ensures, row_room (ready-again e c.requires.0) {i = c.args.e.0} (rw e c.requires.1))

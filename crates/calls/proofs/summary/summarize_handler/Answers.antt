@@ -1,8 +1,8 @@
 -- The header tells the flow's handler, and no body is open, so that calls need not lead from any to the handler's. Assumes nothing.
 use Prim.Native.Nat.{ℕ}
 use Rattle.flow.specs.Format.{flow_of}
-use Rattle.statements.proofs.Keeps.{ready_formed, ready-size}
-use Rattle.calls.proofs.Checked.{located, handler-at, handler-none}
+use Rattle.statements.proofs.Keeps.{ready_formed, ready-size, located}
+use Rattle.calls.proofs.Checked.{handler-at, handler-none}
 use Rattle.calls.proofs.Summing.{onward-refl, handler-low}
 use Rattle.calls.proofs.Summaries.{fresh-summing, leads_any, no_handler, handler-body}
 use Rattle.calls.proofs.summary.summarize_handler.Goals as goal
@@ -13,7 +13,7 @@ sub_effect-requires c =
     let n : ℕ = c.args.h.statements in
     let e : ℕ = c.in-Some.e.0 in
     let r = c.requires.0.ready in (
-      located c.requires.0,
+      rw (← r.count) (located c.requires.0),
       rw (← r.count) (handler-low (ready_formed r) (ready-size r) e (handler-at c.requires.0 c.in-Some.e c.in-Some.is)),
       rw (← r.count) (fresh-summing c.requires.1 f),
       rw (← r.count) (leads_any c.requires.1 f (onward-refl c.args.work.now n n) e),

@@ -58,4 +58,4 @@ returns c =
     let a = c.args in
     let done : c.loop-top.top ≡ 0 = omega arith in
     walking_end c.requires.1 (ready-next c.requires.0) c.meet-top.ensures.only
-    (subst (λ (t : ℕ). Walking (flow_of a.file.now) c.meet-top.new.work c.loop-top.work a.n a.e.0 t) done c.loop-top.invariant)
+    (subst (λ (t : ℕ). Walking (flow_of a.file.now) c.meet-top.new.work c.loop-top.work a.layout.n a.e.0 t) done c.loop-top.invariant)

@@ -24,7 +24,7 @@ use Rattle.statements.specs.Clauses.Layout.{queue_at, set_words}
 use Rattle.calls.specs.Clauses.Held.{Linked}
 use Rattle.solve.specs.declared.Queue.{Queue}
 use Rattle.solve.specs.Clauses.Waiting.{Waits, Enqueued}
-use Rattle.dataflow.proofs.Headers.{arrays-few, narrow, wide, room}
+use Rattle.dataflow.proofs.Headers.{wide, room}
 use mathlib.Core.List.{List}
 use Rattle.dataflow.proofs.arrays.array_states.Goals as goal
 
@@ -75,9 +75,6 @@ bound {visits = visits} x some width r waits =
     let h = running_bound (well_formed x.ready.fit) (ready-size x.ready) some (wide x width) visits r in
     omega (arith, h, waits)
 
-pub set_words-width-requires : goal.set_words-width-requires
-set_words-width-requires c = arrays-few c.requires.0
-
 pub node-entry-requires : goal.node-entry-requires
 node-entry-requires c = (ready-most c.requires.0.ready, entry-within c.requires.0 c.requires.3)
 
@@ -85,7 +82,7 @@ pub mask_row-requires : goal.mask_row-requires
 mask_row-requires c =
     let x = c.requires.0 in
     let within = entry-within x c.requires.3 in
-    (ready-most x.ready, narrow x c.set_words-width.ensures, omega (arith, within, c.node-entry.ensures, zero-add c.args.h.entry.0))
+    omega (arith, within, c.node-entry.ensures, zero-add c.args.h.entry.0)
 
 pub begin_row-requires : goal.begin_row-requires
 begin_row-requires c =
@@ -117,8 +114,6 @@ enqueue-queue-requires c =
     let room = room x width c.requires.3 in
     let size = c.begin_row.ensures.size in
     let within = entry-within x c.requires.3 in (
-      ready-most x.ready,
-      narrow x width,
       omega arith,
       omega (arith, within, c.node-entry.ensures, zero-add c.args.h.entry.0),
       ([], waits-first x c.requires.1 c.requires.3 width c.requires.4 c.node-entry.ensures (begun _ c.mask_row.ensures c.begin_row.ensures)),

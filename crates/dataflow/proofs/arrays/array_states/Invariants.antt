@@ -8,7 +8,7 @@ use Rattle.dataflow.proofs.Running.{Running}
 use Rattle.dataflow.proofs.arrays.array_states.Given as goal
 
 abbrev pub invariant-loop-queue : goal.invariant-loop-queue
-invariant-loop-queue l = Running (flow_of l.file) l.n l.width l.initial.work l.work l.queue l.visits
+invariant-loop-queue l = Running (flow_of l.file) l.h.statements l.width l.initial.work l.work l.queue l.visits
 
 abbrev pub decreases-loop-queue : goal.decreases-loop-queue
 decreases-loop-queue l = visit_bound (doubled (flow_of l.file)) - l.visits

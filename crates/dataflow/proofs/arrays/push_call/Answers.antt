@@ -23,9 +23,6 @@ use Rattle.dataflow.proofs.Kept.{ready_stays, call_stays}
 use Rattle.dataflow.proofs.Sending.{sent-edge, sent-append, source_of, sources_call, copy-below, back_below}
 use Rattle.dataflow.proofs.arrays.push_call.Goals as goal
 
-pub back_row-back-requires : goal.back_row-back-requires
-back_row-back-requires c = (ready-most c.requires.1.ready, c.requires.0)
-
 pub node-requires : goal.node-requires
 node-requires c = (ready-most c.requires.1.ready, back_below c.requires.1.ready c.requires.4)
 
@@ -36,10 +33,8 @@ push-queue-requires c =
     let sent = c.push_lines-entered.ensures in
     let size = sent.keeps.size in
     let room = nodes-room ready (omega (arith, c.requires.3)) c.requires.0 in (
-      ready-most ready,
-      c.requires.0,
       omega arith,
-      omega (arith, copy-below n c.args.base (back_below c.requires.1.ready c.requires.4), c.node.ensures),
+      omega (arith, copy-below n c.args.copy.base (back_below c.requires.1.ready c.requires.4), c.node.ensures),
       subst (Source n c.args.width) (sym c.back_row-back.ensures) (source_of n c.args.width (edge_row n c.args.width) (sources_call n c.args.width) true),
       (_, sent.waits c.requires.6.0 c.requires.6.1),
     )
@@ -52,9 +47,9 @@ back-sent f {n = n} {w = w} i v z e d p = sent-edge (edge_to v v) z (sources_cal
 pub push_others-requires : goal.push_others-requires
 push_others-requires c =
     let lines = c.push_lines-entered.ensures in
-    let back = back-sent (flow_of c.args.file.now) c.args.i.0 (at c.args.base c.args.call.continuation.0) (ready-size c.requires.1.ready) c.back_row-back.ensures c.node.ensures c.push-queue.ensures in
+    let back = back-sent (flow_of c.args.file.now) c.args.copy.stmt.0 (at c.args.copy.base c.args.call.continuation.0) (ready-size c.requires.1.ready) c.back_row-back.ensures c.node.ensures c.push-queue.ensures in
     let keeps = keeps-trans lines.keeps back.keeps in
-    (c.requires.0, ready_stays keeps c.requires.1.ready, c.requires.2, c.requires.3, call_stays keeps (ready-size c.requires.1.ready) c.requires.3 c.requires.4, (_, back.waits _ (lines.waits c.requires.6.0 c.requires.6.1)))
+    (ready_stays keeps c.requires.1.ready, c.requires.2, c.requires.3, call_stays keeps (ready-size c.requires.1.ready) c.requires.3 c.requires.4, (_, back.waits _ (lines.waits c.requires.6.0 c.requires.6.1)))
 
 -- the edges of a call, part by part
 parts : (f : Flow) (b : Base) (i k : ℕ) → present (call_slots f b i k) ≡ present (line_slots f b i k) ++ (edge_to (at b k) (at b k) ∷ present (other_slots f b i k))
@@ -65,6 +60,6 @@ pub returns : goal.returns
 returns c =
     let f = flow_of c.args.file.now in
     let n = c.args.h.statements in
-    subst (λ (xs : List Edge). Sent f c.args.work.now c.push_others.new.work n c.args.width (edge_row n c.args.width) c.args.first c.args.i.0 xs c.push_others.result)
-    (sym (parts f c.args.base c.args.i.0 c.args.call.continuation.0))
-    (sent-append c.push_lines-entered.ensures (sent-append (back-sent (flow_of c.args.file.now) c.args.i.0 (at c.args.base c.args.call.continuation.0) (ready-size c.requires.1.ready) c.back_row-back.ensures c.node.ensures c.push-queue.ensures) c.push_others.ensures))
+    subst (λ (xs : List Edge). Sent f c.args.work.now c.push_others.new.work n c.args.width (edge_row n c.args.width) c.args.first c.args.copy.stmt.0 xs c.push_others.result)
+    (sym (parts f c.args.copy.base c.args.copy.stmt.0 c.args.call.continuation.0))
+    (sent-append c.push_lines-entered.ensures (sent-append (back-sent (flow_of c.args.file.now) c.args.copy.stmt.0 (at c.args.copy.base c.args.call.continuation.0) (ready-size c.requires.1.ready) c.back_row-back.ensures c.node.ensures c.push-queue.ensures) c.push_others.ensures))

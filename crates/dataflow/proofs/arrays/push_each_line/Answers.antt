@@ -17,7 +17,7 @@ push_line-queue-requires c =
 
 pub loop-l-preserved : goal.loop-l-preserved
 loop-l-preserved c =
-    sending_on c.loop-l.invariant (line-slot (flow_of c.args.file.now) c.args.base c.args.i.0 c.args.call.continuation.0 c.loop-l.l (omega (arith, c.requires.4.lines, c.loop-l-test.true))) c.push_line-queue.ensures
+    sending_on c.loop-l.invariant (line-slot (flow_of c.args.file.now) c.args.copy.base c.args.copy.stmt.0 c.args.call.continuation.0 c.loop-l.l (omega (arith, c.requires.4.lines, c.loop-l-test.true))) c.push_line-queue.ensures
 
 pub returns : goal.returns
-returns c = sending_all c.loop-l.invariant (line-end (flow_of c.args.file.now) c.args.base c.args.i.0 c.args.call.continuation.0 c.loop-l.l (omega (arith, c.requires.4.lines, c.loop-l-test.false)))
+returns c = sending_all c.loop-l.invariant (line-end (flow_of c.args.file.now) c.args.copy.base c.args.copy.stmt.0 c.args.call.continuation.0 c.loop-l.l (omega (arith, c.requires.4.lines, c.loop-l-test.false)))

@@ -8,4 +8,4 @@ use Rattle.dataflow.proofs.arrays.push_each_line.Given as goal
 
 abbrev pub invariant-loop-l : goal.invariant-loop-l
 invariant-loop-l l =
-    Sending (flow_of l.file) l.initial.work l.work l.h.statements l.width (edge_row l.h.statements l.width) l.initial.queue l.i.0 (present (line_slots (flow_of l.file) l.base l.i.0 l.call.continuation.0)) l.queue (left_from l.l (line_slots (flow_of l.file) l.base l.i.0 l.call.continuation.0))
+    Sending (flow_of l.file) l.initial.work l.work l.h.statements l.width (edge_row l.h.statements l.width) l.initial.queue l.copy.stmt.0 (present (line_slots (flow_of l.file) l.copy.base l.copy.stmt.0 l.call.continuation.0)) l.queue (left_from l.l (line_slots (flow_of l.file) l.copy.base l.copy.stmt.0 l.call.continuation.0))

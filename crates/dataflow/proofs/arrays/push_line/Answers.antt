@@ -33,15 +33,10 @@ node-t-requires c = (ready-most c.requires.1.ready, below _ c.requires.1.ready (
 pub node-requires : goal.node-requires
 node-requires c = (ready-most c.requires.1.ready, back_below c.requires.1.ready c.requires.4)
 
-pub call_row-from-requires : goal.call_row-from-requires
-call_row-from-requires c = (ready-most c.requires.1.ready, c.requires.0)
-
 pub push-requires : goal.push-requires
 push-requires c =
     let n = c.args.h.statements in
     let ready = c.requires.1.ready in (
-      ready-most ready,
-      c.requires.0,
       nodes-room ready (omega (arith, c.requires.3)) c.requires.0,
       omega (arith, copy-below n N (below _ c.requires.1.ready (enters-at _ _ (sym c.line_entered.ensures ∙ c.in-Some.is))), c.node-t.ensures),
       subst (Source n c.args.width) (sym c.call_row-from.ensures) (source_of n c.args.width (edge_row n c.args.width) (sources_call n c.args.width) (eqb c.node-t.result.0 c.node.result.0)),
@@ -53,10 +48,10 @@ unfolding option_list
 returns-in-Some c =
     let f = flow_of c.args.file.now in
     let n = c.args.h.statements in
-    let b = c.args.base in
+    let b = c.args.copy.base in
     let k = c.args.call.continuation.0 in
     let e = c.in-Some.b.0 in
-    subst (λ (o : Option ℕ). Sent f c.args.work.now c.push.new.work n c.args.width (edge_row n c.args.width) c.args.queue c.args.i.0 (option_list (if_entered (at b k) o)) c.push.result) (sym (enters-at _ _ (sym c.line_entered.ensures ∙ c.in-Some.is)))
+    subst (λ (o : Option ℕ). Sent f c.args.work.now c.push.new.work n c.args.width (edge_row n c.args.width) c.args.queue c.args.copy.stmt.0 (option_list (if_entered (at b k) o)) c.push.result) (sym (enters-at _ _ (sym c.line_entered.ensures ∙ c.in-Some.is)))
     (sent-edge (edge_to (at b k) (at N e)) (ready-size c.requires.1.ready) (sources_call n c.args.width)
     (c.call_row-from.ensures ∙ ap (edge_row n c.args.width) (ap₂ eqb c.node-t.ensures c.node.ensures ∙ same_number b e k (back_below c.requires.1.ready c.requires.4))) c.node-t.ensures c.push.ensures)
 
@@ -65,5 +60,5 @@ unfolding option_list
 returns-in-None c =
     let f = flow_of c.args.file.now in
     let n = c.args.h.statements in
-    subst (λ (o : Option ℕ). Sent f c.args.work.now c.args.work.now n c.args.width (edge_row n c.args.width) c.args.queue c.args.i.0 (option_list (if_entered (at c.args.base c.args.call.continuation.0) o)) c.args.queue)
-    (sym (enters-nothing (enters f (get_or (call_lines (kind f c.args.i.0)) c.args.l 0)) (sym c.line_entered.ensures ∙ c.in-None.is))) sent-none
+    subst (λ (o : Option ℕ). Sent f c.args.work.now c.args.work.now n c.args.width (edge_row n c.args.width) c.args.queue c.args.copy.stmt.0 (option_list (if_entered (at c.args.copy.base c.args.call.continuation.0) o)) c.args.queue)
+    (sym (enters-nothing (enters f (get_or (call_lines (kind f c.args.copy.stmt.0)) c.args.l 0)) (sym c.line_entered.ensures ∙ c.in-None.is))) sent-none

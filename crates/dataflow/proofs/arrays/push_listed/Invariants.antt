@@ -7,4 +7,4 @@ use Rattle.dataflow.proofs.arrays.push_listed.Given as goal
 
 abbrev pub invariant-loop-k : goal.invariant-loop-k
 invariant-loop-k l =
-    Sending (flow_of l.file) l.initial.work l.work l.n l.width (λ b. l.from) l.initial.queue l.i.0 (present (listed_slots (flow_of l.file) l.fn.base l.i.0)) l.queue (left_from l.k (listed_slots (flow_of l.file) l.fn.base l.i.0))
+    Sending (flow_of l.file) l.initial.work l.work l.layout.n l.layout.width (λ b. l.from) l.initial.queue l.copy.stmt.0 (present (listed_slots (flow_of l.file) l.fn.copy.base l.copy.stmt.0)) l.queue (left_from l.k (listed_slots (flow_of l.file) l.fn.copy.base l.copy.stmt.0))

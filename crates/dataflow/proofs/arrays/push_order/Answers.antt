@@ -10,14 +10,13 @@ use Rattle.flow.specs.Format.{flow_of}
 use Rattle.theory.specs.Doubled.{at, number_in}
 use Rattle.statements.specs.Clauses.Layout.{queue_at}
 use Rattle.statements.specs.Clauses.Ready.{Ready, Keeps}
-use Rattle.statements.proofs.Keeps.{ready-most, ready-size, ready_formed, ready-below}
+use Rattle.statements.proofs.Keeps.{ready-size, ready_formed, ready-below}
 use Rattle.calls.specs.Clauses.Orders.{order, ListOf, entry_at}
 use Rattle.calls.proofs.Found.{same_number}
 use Rattle.solve.specs.Clauses.Pushed.{Source}
-use Rattle.solve.proofs.Room.{nodes-room}
 use Rattle.dataflow.specs.Clauses.Sent.{edge_row}
 use Rattle.dataflow.proofs.Kept.{list-stays}
-use Rattle.dataflow.proofs.Sending.{sending_none, sending_on, sending_all, sent-edge, source_of, sources_call, copy-below, back_below}
+use Rattle.dataflow.proofs.Sending.{sending_none, sending_on, sending_all, sent-edge, source_of, sources_call, places, waiting, back_below}
 use Rattle.dataflow.proofs.Ordered.{order_edge, lines-sent, order_below, order-here, order-end}
 use Rattle.dataflow.proofs.arrays.push_order.Goals as goal
 
@@ -33,57 +32,45 @@ module _ (s : List ℕ) {ws vs : List ℕ} {n i p count hi j : ℕ} (list : List
   below r = subst (λ (j : ℕ). j < n) (sym entry_is) (ready-below r (order_below (ready_formed r) i k within))
 
 pub node-back-requires : goal.node-back-requires
-node-back-requires c = (ready-most c.requires.1, back_below c.requires.1 c.requires.3)
+node-back-requires c = (c.args.layout.few, back_below c.requires.0 c.requires.2)
 
 pub loop-k-init : goal.loop-k-init
 loop-k-init c = sending_none
 
-pub entry-requires : goal.entry-requires
-entry-requires c =
-    let size = c.loop-k.invariant.sent.keeps.size in
-    let room = nodes-room c.requires.1 (omega (arith, c.requires.2)) c.requires.0 in
-    omega (arith, c.requires.4.to)
-
 pub node-t-requires : goal.node-t-requires
-node-t-requires c = (ready-most c.requires.1, below c.args.file.now c.requires.4 c.loop-k.invariant.sent.keeps c.loop-k.k c.loop-k-test.true c.entry.ensures c.requires.1)
-
-pub call_row-requires : goal.call_row-requires
-call_row-requires c = (ready-most c.requires.1, c.requires.0)
+node-t-requires c = (c.args.layout.few, below c.args.file.now c.requires.3 c.loop-k.invariant.sent.keeps c.loop-k.k c.loop-k-test.true c.entry.ensures c.requires.0)
 
 pub push-queue-requires : goal.push-queue-requires
 push-queue-requires c =
-    let n = c.args.n in
-    let w = c.args.width in
-    let sent = c.loop-k.invariant.sent in
-    let size = sent.keeps.size in
-    let room = nodes-room c.requires.1 (omega (arith, c.requires.2)) c.requires.0 in (
-      ready-most c.requires.1,
-      c.requires.0,
-      omega arith,
-      omega (arith, copy-below n N (below c.args.file.now c.requires.4 sent.keeps c.loop-k.k c.loop-k-test.true c.entry.ensures c.requires.1), c.node-t.ensures),
+    let n = c.args.layout.n in
+    let w = c.args.layout.width in
+    let going = c.loop-k.invariant in
+    let place = places going c.requires.0 c.args.layout.narrow N (below c.args.file.now c.requires.3 going.sent.keeps c.loop-k.k c.loop-k-test.true c.entry.ensures c.requires.0) c.node-t.ensures in (
+      place.0,
+      place.1,
       subst (Source n w) (sym c.call_row.ensures) (source_of n w (edge_row n w) (sources_call n w) (eqb c.node-t.result.0 c.node-back.result.0)),
-      (_, sent.waits c.requires.5.0 c.requires.5.1),
+      waiting going c.requires.4,
     )
 
 pub loop-k-preserved : goal.loop-k-preserved
 loop-k-preserved c =
     let f = flow_of c.args.file.now in
-    let n = c.args.n in
-    let w = c.args.width in
-    let b = c.args.base in
-    let i = c.args.i.0 in
+    let n = c.args.layout.n in
+    let w = c.args.layout.width in
+    let b = c.args.copy.base in
+    let i = c.args.copy.stmt.0 in
     let m = c.args.call.continuation.0 in
     let k = c.loop-k.k in
-    let list = c.requires.4 in
+    let list = c.requires.3 in
     let keeps = c.loop-k.invariant.sent.keeps in
     let e = get_or (order f i) k 0 in
     let number : c.node-t.result.0 ≡ number_in n (at N e) = c.node-t.ensures ∙ ap (λ (j : ℕ). number_in n (at N j)) (entry_is c.args.file.now list keeps k c.loop-k-test.true c.entry.ensures) in
     sending_on c.loop-k.invariant (order-here f b i m k (within c.args.file.now list keeps k c.loop-k-test.true c.entry.ensures))
-    (sent-edge (order_edge b m e) (ready-size c.requires.1) (sources_call n w) (c.call_row.ensures ∙ ap (edge_row n w) (ap₂ eqb number c.node-back.ensures ∙ same_number b e m (back_below c.requires.1 c.requires.3))) number c.push-queue.ensures)
+    (sent-edge (order_edge b m e) (ready-size c.requires.0) (sources_call n w) (c.call_row.ensures ∙ ap (edge_row n w) (ap₂ eqb number c.node-back.ensures ∙ same_number b e m (back_below c.requires.0 c.requires.2))) number c.push-queue.ensures)
 
 pub returns : goal.returns
 returns c =
-    let b = c.args.base in
-    let i = c.args.i.0 in
+    let b = c.args.copy.base in
+    let i = c.args.copy.stmt.0 in
     let m = c.args.call.continuation.0 in
-    lines-sent b m (sending_all c.loop-k.invariant (order-end (flow_of c.args.file.now) b i m c.loop-k.k (omega (arith, c.requires.4.count))))
+    lines-sent b m (sending_all c.loop-k.invariant (order-end (flow_of c.args.file.now) b i m c.loop-k.k (omega (arith, c.requires.3.count))))

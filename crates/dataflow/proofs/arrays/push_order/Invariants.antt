@@ -8,5 +8,5 @@ use Rattle.dataflow.proofs.arrays.push_order.Given as goal
 
 abbrev pub invariant-loop-k : goal.invariant-loop-k
 invariant-loop-k l =
-    let edges = order_edges (flow_of l.file) l.fn.base l.fn.i.0 l.fn.call.continuation.0 in
-    Sending (flow_of l.file) l.initial.work l.work l.n l.width (edge_row l.n l.width) l.initial.queue l.fn.i.0 edges l.queue (drop l.k edges)
+    let edges = order_edges (flow_of l.file) l.fn.copy.base l.fn.copy.stmt.0 l.fn.call.continuation.0 in
+    Sending (flow_of l.file) l.initial.work l.work l.layout.n l.layout.width (edge_row l.layout.n l.layout.width) l.initial.queue l.fn.copy.stmt.0 edges l.queue (drop l.k edges)

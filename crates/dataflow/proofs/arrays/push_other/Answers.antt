@@ -1,6 +1,6 @@
 -- The slot of the successor has an edge where it is not left out. By what is left out.
 use Prim.Native.Nat.{ℕ, ◌<◌}
-use mathlib.Core.Bool.{Bool, false, cond, not, ◌||◌}
+use mathlib.Core.Bool.{Bool, cond, not, ◌||◌}
 use mathlib.Core.List.{List}
 use mathlib.Core.Option.{Option, none, some}
 use mathlib.Core.Path.{◌≡◌, sym, ap, subst, ◌∙◌}
@@ -13,17 +13,13 @@ use Rattle.flow.specs.Format.{flow_of}
 use Rattle.theory.specs.Lists.{elem, option_list}
 use Rattle.theory.specs.Body.{entered}
 use Rattle.theory.specs.Doubled.{Edge, at}
-use Rattle.statements.specs.Clauses.Layout.{row_words}
-use Rattle.statements.proofs.Keeps.{ready-most, ready-size}
-use Rattle.statements.proofs.WorkArea.{member-word}
+use Rattle.statements.proofs.Keeps.{ready-size}
 use Rattle.calls.specs.declared.edges.Call.{Call}
 use Rattle.calls.specs.Clauses.Class.{CallOf}
 use Rattle.calls.specs.Clauses.Slots.{edge_to}
 use Rattle.calls.proofs.Found.{not_back, left-out-is}
-use Rattle.solve.specs.Clauses.Pushed.{Source}
-use Rattle.solve.proofs.Room.{nodes-room}
 use Rattle.dataflow.specs.Clauses.Sent.{edge_row, Sent}
-use Rattle.dataflow.proofs.Sending.{sent-none, sent-edge, source_of, sources_call, copy-below}
+use Rattle.dataflow.proofs.Sending.{sent-none, sent-edge, sources_call}
 use Rattle.dataflow.proofs.arrays.push_other.Goals as goal
 
 -- the successor is left out where the test says so
@@ -34,38 +30,22 @@ left {f} ws j c low e = sym (e ∙ left-out-is f ws j c low)
 slot_of : Flow → Base → ℕ → ℕ → Bool → Option Edge
 slot_of f b k j t = cond (not t) (some (edge_to (at b k) (at b j))) none
 
-pub left_out-requires : goal.left_out-requires
-unfolding row_words
-left_out-requires c = omega (arith, c.requires.3.room, member-word (subst (λ (m : ℕ). c.args.j.0 < m) (sym (ready-size c.requires.1)) c.requires.4))
-
 pub returns-then-left_out : goal.returns-then-left_out
 unfolding slot_of option_list
 returns-then-left_out c =
-    let n = c.args.n in
+    let n = c.args.layout.n in
     let f = flow_of c.args.file.now in
-    subst (λ (t : Bool). Sent f c.args.work.now c.args.work.now n c.args.width (edge_row n c.args.width) c.args.queue c.args.i.0 (option_list (slot_of f c.args.base c.args.call.continuation.0 c.args.j.0 t)) c.args.queue)
-    (sym (left c.args.work.now c.args.j.0 c.requires.3 (omega (arith, c.requires.4, ready-size c.requires.1)) c.left_out.ensures ∙ c.if-left_out.true)) sent-none
-
-pub out_row-requires : goal.out_row-requires
-out_row-requires c = (ready-most c.requires.1, c.requires.0)
-
-pub node-requires : goal.node-requires
-node-requires c = (ready-most c.requires.1, c.requires.4)
-
-pub push-requires : goal.push-requires
-push-requires c =
-    let n = c.args.n in
-    let ready = c.requires.1 in
-    (ready-most ready, c.requires.0, nodes-room ready (omega (arith, c.requires.2)) c.requires.0, omega (arith, copy-below n c.args.base c.requires.4, c.node.ensures), subst (Source n c.args.width) (sym c.out_row.ensures) (source_of n c.args.width (edge_row n c.args.width) (sources_call n c.args.width) false), c.requires.5)
+    subst (λ (t : Bool). Sent f c.args.work.now c.args.work.now n c.args.layout.width (edge_row n c.args.layout.width) c.args.queue c.args.copy.stmt.0 (option_list (slot_of f c.args.copy.base c.args.call.continuation.0 c.args.j.0 t)) c.args.queue)
+    (sym (left c.args.work.now c.args.j.0 c.requires.2 (omega (arith, c.requires.3, ready-size c.requires.0)) c.left_out.ensures ∙ c.if-left_out.true)) sent-none
 
 pub returns : goal.returns
 unfolding slot_of option_list
 returns c =
-    let n = c.args.n in
+    let n = c.args.layout.n in
     let f = flow_of c.args.file.now in
-    let b = c.args.base in
+    let b = c.args.copy.base in
     let k = c.args.call.continuation.0 in
     let j = c.args.j.0 in
-    let out = left c.args.work.now c.args.j.0 c.requires.3 (omega (arith, c.requires.4, ready-size c.requires.1)) c.left_out.ensures ∙ c.if-left_out.false in
-    subst (λ (t : Bool). Sent f c.args.work.now c.push.new.work n c.args.width (edge_row n c.args.width) c.args.queue c.args.i.0 (option_list (slot_of f b k j t)) c.push.result) (sym out)
-    (sent-edge (edge_to (at b k) (at b j)) (ready-size c.requires.1) (sources_call n c.args.width) (c.out_row.ensures ∙ sym (ap (edge_row n c.args.width) (not_back b (elem j (entered f c.args.i.0)) j k out))) c.node.ensures c.push.ensures)
+    let out = left c.args.work.now c.args.j.0 c.requires.2 (omega (arith, c.requires.3, ready-size c.requires.0)) c.left_out.ensures ∙ c.if-left_out.false in
+    subst (λ (t : Bool). Sent f c.args.work.now c.push.new.work n c.args.layout.width (edge_row n c.args.layout.width) c.args.queue c.args.copy.stmt.0 (option_list (slot_of f b k j t)) c.push.result) (sym out)
+    (sent-edge (edge_to (at b k) (at b j)) (ready-size c.requires.0) (sources_call n c.args.layout.width) (c.out_row.ensures ∙ sym (ap (edge_row n c.args.layout.width) (not_back b (elem j (entered f c.args.copy.stmt.0)) j k out))) c.node.ensures c.push.ensures)

@@ -8,4 +8,4 @@ use Rattle.dataflow.proofs.arrays.push_others.Given as goal
 
 abbrev pub invariant-loop-k : goal.invariant-loop-k
 invariant-loop-k l =
-    Sending (flow_of l.file) l.initial.work l.work l.n l.width (edge_row l.n l.width) l.initial.queue l.i.0 (present (other_slots (flow_of l.file) l.base l.i.0 l.call.continuation.0)) l.queue (left_from l.k (other_slots (flow_of l.file) l.base l.i.0 l.call.continuation.0))
+    Sending (flow_of l.file) l.initial.work l.work l.layout.n l.layout.width (edge_row l.layout.n l.layout.width) l.initial.queue l.copy.stmt.0 (present (other_slots (flow_of l.file) l.copy.base l.copy.stmt.0 l.call.continuation.0)) l.queue (left_from l.k (other_slots (flow_of l.file) l.copy.base l.copy.stmt.0 l.call.continuation.0))

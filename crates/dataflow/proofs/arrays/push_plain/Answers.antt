@@ -33,24 +33,21 @@ listed {s} {p = p} r e other = sym r.return ∙ ne_eqb (kind_at s p) kind_return
 pub returns-then-ne : goal.returns-then-ne
 returns-then-ne c =
     let f = flow_of c.args.file.now in
-    let slots-are = slots_listed f c.args.base c.args.i.0 (listed c.requires.3 c.kind.ensures (other-unlike _ _ c.if-ne.ensures)) (plain_says f c.args.i.0 c.requires.5) in
-    subst (λ (xs : List (Option Edge)). Goes f c.args.work.now c.push_listed.new.work c.args.n c.args.width (λ b. c.args.from) c.args.first c.args.i.0 (present xs) c.push_listed.result)
-    (sym slots-are) (goes_sent c.requires.7 c.push_listed.ensures)
-
-pub push_return-requires : goal.push_return-requires
-push_return-requires c = (c.requires.0, c.requires.1, c.requires.2, returned c.requires.3 c.kind.ensures (same-unlike _ _ c.if-ne.ensures), c.requires.4, c.requires.6, c.requires.7, c.requires.8)
+    let slots-are = slots_listed f c.args.copy.base c.args.copy.stmt.0 (listed c.requires.2 c.kind.ensures (other-unlike _ _ c.if-ne.ensures)) (plain_says f c.args.copy.stmt.0 c.requires.4) in
+    subst (λ (xs : List (Option Edge)). Goes f c.args.work.now c.push_listed.new.work c.args.layout.n c.args.layout.width (λ b. c.args.from) c.args.first c.args.copy.stmt.0 (present xs) c.push_listed.result)
+    (sym slots-are) (goes_sent c.requires.6 c.push_listed.ensures)
 
 pub returns-in-Zero : goal.returns-in-Zero
 returns-in-Zero c =
     let f = flow_of c.args.file.now in
-    let back = returned c.requires.3 c.kind.ensures (same-unlike _ _ c.if-ne.ensures) in
-    subst (λ (xs : List (Option Edge)). Goes f c.args.work.now c.push_return.new.work c.args.n c.args.width (λ b. c.args.from) c.args.first c.args.i.0 (present xs) c.push_return.result)
-    (sym (slots-return f c.args.base c.args.i.0 back ∙ ap (λ (b : Base). return_slots f b c.args.i.0) c.in-Zero.is)) c.push_return.ensures
+    let back = returned c.requires.2 c.kind.ensures (same-unlike _ _ c.if-ne.ensures) in
+    subst (λ (xs : List (Option Edge)). Goes f c.args.work.now c.push_return.new.work c.args.layout.n c.args.layout.width (λ b. c.args.from) c.args.first c.args.copy.stmt.0 (present xs) c.push_return.result)
+    (sym (slots-return f c.args.copy.base c.args.copy.stmt.0 back ∙ ap (λ (b : Base). return_slots f b c.args.copy.stmt.0) c.in-Zero.is)) c.push_return.ensures
 
 pub returns-in-N : goal.returns-in-N
 unfolding return_slots present concat_map
 returns-in-N c =
     let f = flow_of c.args.file.now in
-    let back = returned c.requires.3 c.kind.ensures (same-unlike _ _ c.if-ne.ensures) in
-    subst (λ (xs : List (Option Edge)). Goes f c.args.work.now c.args.work.now c.args.n c.args.width (λ b. c.args.from) c.args.first c.args.i.0 (present xs) c.args.first)
-    (sym (slots-return f c.args.base c.args.i.0 back ∙ ap (λ (b : Base). return_slots f b c.args.i.0) c.in-N.is)) (goes_sent c.requires.7 sent-none)
+    let back = returned c.requires.2 c.kind.ensures (same-unlike _ _ c.if-ne.ensures) in
+    subst (λ (xs : List (Option Edge)). Goes f c.args.work.now c.args.work.now c.args.layout.n c.args.layout.width (λ b. c.args.from) c.args.first c.args.copy.stmt.0 (present xs) c.args.first)
+    (sym (slots-return f c.args.copy.base c.args.copy.stmt.0 back ∙ ap (λ (b : Base). return_slots f b c.args.copy.stmt.0) c.in-N.is)) (goes_sent c.requires.6 sent-none)

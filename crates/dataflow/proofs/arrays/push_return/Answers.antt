@@ -1,10 +1,11 @@
 -- Where the row brings something to what was sent, it goes to all continuations; else they hold it, and only join the queue. By what the RETURNs with one leader share.
 use Prim.Native.Nat.{ℕ, ◌+◌, ◌*◌, ◌<◌, ◌≤◌}
-use mathlib.Core.Bool.{true}
+use mathlib.Core.Bool.{Bool, true, false, not}
 use mathlib.Core.List.{List}
 use mathlib.Core.Path.{◌≡◌, refl, sym, subst}
 use native.Mathlib.Omega.{arith}
 use lib.ListN.{length, get_or}
+use Rattle.words.specs.Clauses.Change.{Unioned}
 use Rattle.words.proofs.Unioned.{union_same}
 use Rattle.flow.specs.declared.Base.TheVariants.{Zero}
 use Rattle.flow.specs.Flow.{Flow}
@@ -12,53 +13,74 @@ use Rattle.flow.specs.Format.{flow_of}
 use Rattle.theory.specs.Body.{kind, is_return}
 use Rattle.statements.specs.Clauses.Layout.{bodies_at, queue_at, max_width}
 use Rattle.statements.specs.Clauses.Ready.{Ready, Keeps}
-use Rattle.statements.proofs.Keeps.{keeps_widen, ready-most, ready-size}
+use Rattle.statements.proofs.Keeps.{keeps_widen, ready-size}
 use Rattle.calls.specs.Clauses.Held.{Linked}
 use Rattle.calls.specs.Clauses.Slots.{present, return_slots}
-use Rattle.solve.specs.Clauses.Layout.{nodes_end, area_end}
+use Rattle.solve.specs.Clauses.Layout.{sent_row_at, area_end}
+use Rattle.solve.specs.declared.Queue.{Queue}
+use Rattle.solve.specs.Clauses.Waiting.{Waits}
+use Rattle.solve.specs.Clauses.Pushed.{Source}
 use Rattle.solve.proofs.Room.{row_from, nodes-within, sent-apart, solver_room}
 use Rattle.solve.proofs.Growing.{source_fits, union_at}
-use Rattle.dataflow.specs.Clauses.Sent.{Sent, MembersHold}
+use Rattle.dataflow.specs.Clauses.Sent.{Sent, Goes, Shared, MembersHold}
 use Rattle.dataflow.proofs.Kept.{ready_stays, linked-stays}
-use Rattle.dataflow.proofs.Sharing.{noted-keeps, noted-waits, brings-nothing, goes_returned, goes_sent}
+use Rattle.dataflow.proofs.Sharing.{noted-keeps, noted-waits, brings-nothing, goes_returned}
 use Rattle.dataflow.proofs.arrays.push_return.Goals as goal
 
 -- the leader is a statement
 low : {f : Flow} {ws : List ℕ} {n i l : ℕ} → Linked f ws n → i < n → is_return (kind f i) ≡ true → l ≡ get_or ws (bodies_at n + i) 0 → l < n
 low {n = n} {i = i} h below r e = subst (λ (l : ℕ). l < n) (sym e) (h.leaders i below r).below
 
-room : {s ws : List ℕ} {n w i : ℕ} → Ready s ws n → i < n → w ≤ max_width → area_end n w ≤ length ws
-room r below thin = solver_room r (omega arith) thin
+-- what was sent is noted for the leader, behind the queue
+module _ {s ws us : List ℕ} {n w i lead sent from : ℕ} {grew : Bool} (ready : Ready s ws n) (linked : Linked (flow_of s) ws n) (shared : Shared (flow_of s) ws n w) (below : i < n) (is : is_return (kind (flow_of s) i) ≡ true)
+    (thin : w ≤ max_width) (source : Source n w from) (leads : lead ≡ get_or ws (bodies_at n + i) 0) (at : sent ≡ sent_row_at n w lead) (u : Unioned ws us sent from (3 * w) grew) where
+  room : area_end n w ≤ length ws
+  room = solver_room ready (omega arith) thin
 
--- what is noted lies behind the queue
-wide : (n w : ℕ) {ws us : List ℕ} → Keeps (nodes_end n w) (area_end n w) ws us → Keeps (queue_at n) (area_end n w) ws us
-wide n w k = keeps_widen (let far = row_from n w (2 * n) in omega arith) (omega arith) k
+  noted : Unioned ws us (sent_row_at n w lead) from (3 * w) grew
+  noted = union_at at refl u
+
+  keeps : Keeps (queue_at n) (area_end n w) ws us
+  keeps = keeps_widen (let far = row_from n w (2 * n) in omega arith) (omega arith) (noted-keeps (ready-size ready) linked shared below is room source leads noted)
+
+  waits : {queue : Queue} → ((q : List ℕ) × Waits ws n w queue q) → (q : List ℕ) × Waits us n w queue q
+  waits q = (q.0, noted-waits (ready-size ready) linked shared below is room source leads noted q.1)
+
+  -- where the row brought nothing, the continuations hold it
+  held : not grew ≡ true → MembersHold us n w i from
+  held e =
+      let same = union_same noted (unlike grew e) in
+      subst (λ (v : List ℕ). MembersHold v n w i from) (sym same) (brings-nothing (ready-size ready) linked shared below is room source leads noted same)
+    where
+      unlike : (b : Bool) → not b ≡ true → b ≡ false
+      unlike false e = refl
+      unlike true e = sym e
+
+  goes : {vs : List ℕ} {queue r : Queue} → Sent (flow_of s) us vs n w (λ b. from) queue i (present (return_slots (flow_of s) Zero i)) r
+      → Goes (flow_of s) ws vs n w (λ b. from) queue i (present (return_slots (flow_of s) Zero i)) r
+  goes = goes_returned (ready-size ready) linked shared below is room source leads noted
 
 pub sent_row-requires : goal.sent_row-requires
-sent_row-requires c = (ready-most c.requires.1, c.requires.0, low c.requires.2 c.requires.4 c.requires.3 c.leader-lead.ensures)
+sent_row-requires c = (low c.requires.1 c.requires.3 c.requires.2 c.leader-lead.ensures)
 
-pub union-requires : goal.union-requires
-union-requires c = let at = c.sent_row.ensures in (omega (arith, sent-apart c.args.n c.args.width (low c.requires.2 c.requires.4 c.requires.3 c.leader-lead.ensures), room c.requires.1 c.requires.4 c.requires.0), omega (arith, source_fits c.args.n c.args.width c.args.from c.requires.5, nodes-within c.args.n c.args.width, room c.requires.1 c.requires.4 c.requires.0))
+pub union-grew-requires : goal.union-grew-requires
+union-grew-requires c =
+    let at = c.sent_row.ensures in
+    let fits = solver_room c.requires.0 (omega (arith, c.requires.3)) c.args.layout.narrow in
+    (omega (arith, sent-apart c.args.layout.n c.args.layout.width (low c.requires.1 c.requires.3 c.requires.2 c.leader-lead.ensures), fits), omega (arith, source_fits c.args.layout.n c.args.layout.width c.args.from c.requires.4, nodes-within c.args.layout.n c.args.layout.width, fits))
 
 pub push_members-requires : goal.push_members-requires
 push_members-requires c =
-    let union = union_at c.sent_row.ensures refl c.union.ensures in
-    let keeps = wide c.args.n c.args.width (noted-keeps (ready-size c.requires.1) c.requires.2 c.requires.6 c.requires.4 c.requires.3 (room c.requires.1 c.requires.4 c.requires.0) c.requires.5 c.leader-lead.ensures union) in
-    (c.requires.0, ready_stays keeps c.requires.1, linked-stays keeps c.requires.2, c.requires.3, c.requires.4, c.requires.5, (c.requires.7.0, noted-waits (ready-size c.requires.1) c.requires.2 c.requires.6 c.requires.4 c.requires.3 (room c.requires.1 c.requires.4 c.requires.0) c.requires.5 c.leader-lead.ensures union c.requires.7.1))
-
-pub returns-then-union : goal.returns-then-union
-returns-then-union c = goes_returned (ready-size c.requires.1) c.requires.2 c.requires.6 c.requires.4 c.requires.3 (room c.requires.1 c.requires.4 c.requires.0) c.requires.5 c.leader-lead.ensures (union_at c.sent_row.ensures refl c.union.ensures) c.push_members.ensures
-
-pub join_members-requires : goal.join_members-requires
-join_members-requires c =
-    let union = union_at c.sent_row.ensures refl c.union.ensures in
-    let keeps = wide c.args.n c.args.width (noted-keeps (ready-size c.requires.1) c.requires.2 c.requires.6 c.requires.4 c.requires.3 (room c.requires.1 c.requires.4 c.requires.0) c.requires.5 c.leader-lead.ensures union) in
-    let e = union_same (union_at c.sent_row.ensures c.if-union.false c.union.ensures) refl in
-    let hold = brings-nothing (ready-size c.requires.1) c.requires.2 c.requires.6 c.requires.4 c.requires.3 (room c.requires.1 c.requires.4 c.requires.0) c.requires.5 c.leader-lead.ensures (union_at c.sent_row.ensures refl c.union.ensures) e in
-    (c.requires.0, ready_stays keeps c.requires.1, linked-stays keeps c.requires.2, c.requires.3, c.requires.4, c.requires.5, subst (λ (ws : List ℕ). MembersHold ws c.args.n c.args.width c.args.i.0 c.args.from) (sym e) hold, (c.requires.7.0, noted-waits (ready-size c.requires.1) c.requires.2 c.requires.6 c.requires.4 c.requires.3 (room c.requires.1 c.requires.4 c.requires.0) c.requires.5 c.leader-lead.ensures union c.requires.7.1))
+    let kept = keeps c.requires.0 c.requires.1 c.requires.5 c.requires.3 c.requires.2 c.args.layout.narrow c.requires.4 c.leader-lead.ensures c.sent_row.ensures c.union-grew.ensures in (
+      ready_stays kept c.requires.0,
+      linked-stays kept c.requires.1,
+      c.requires.2,
+      c.requires.3,
+      c.requires.4,
+      held c.requires.0 c.requires.1 c.requires.5 c.requires.3 c.requires.2 c.args.layout.narrow c.requires.4 c.leader-lead.ensures c.sent_row.ensures c.union-grew.ensures,
+      waits c.requires.0 c.requires.1 c.requires.5 c.requires.3 c.requires.2 c.args.layout.narrow c.requires.4 c.leader-lead.ensures c.sent_row.ensures c.union-grew.ensures c.requires.6,
+    )
 
 pub returns : goal.returns
 returns c =
-    goes_sent c.requires.6
-    (subst (λ (ws : List ℕ). Sent (flow_of c.args.file.now) ws c.join_members.new.work c.args.n c.args.width (λ b. c.args.from) c.args.first c.args.i.0 (present (return_slots (flow_of c.args.file.now) Zero c.args.i.0)) c.join_members.result)
-    (union_same (union_at c.sent_row.ensures c.if-union.false c.union.ensures) refl) c.join_members.ensures)
+    goes c.requires.0 c.requires.1 c.requires.5 c.requires.3 c.requires.2 c.args.layout.narrow c.requires.4 c.leader-lead.ensures c.sent_row.ensures c.union-grew.ensures c.push_members.ensures

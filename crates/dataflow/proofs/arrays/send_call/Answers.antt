@@ -36,10 +36,10 @@ in_row : (row : ℕ) {m k size : ℕ} → k < m → row + (m + 63) / 64 ≤ size
 in_row row l r = omega arith
 
 pub enters_again-again-requires : goal.enters_again-again-requires
-enters_again-again-requires c = let call = c.call_of-call.ensures in in_row c.call_of-call.result.row (continuation-in c.args.i.0 c.requires.1.ready call.continues) call.room
+enters_again-again-requires c = let call = c.call_of-call.ensures in in_row c.call_of-call.result.row (continuation-in c.args.copy.stmt.0 c.requires.1.ready call.continues) call.room
 
 pub call_rows-requires : goal.call_rows-requires
-call_rows-requires c = (c.requires.0, c.requires.1, c.requires.2, c.requires.3, c.requires.4, c.requires.5, ap (λ (v : Node). v.stmt) c.requires.6, c.requires.7, c.requires.8, c.enters_again-again.ensures ∙ again-is c.args.base c.call_of-call.ensures (continuation-in c.args.i.0 c.requires.1.ready c.call_of-call.ensures.continues) ∙ ap (λ (v : Node). enters_again (flow_of c.args.file.now) v.base c.args.i.0) c.requires.6)
+call_rows-requires c = (c.requires.0, c.requires.1, c.requires.2, c.requires.3, c.requires.4, c.requires.5, ap (λ (v : Node). v.stmt) c.requires.6, c.requires.7, c.requires.8, c.enters_again-again.ensures ∙ again-is c.args.copy.base c.call_of-call.ensures (continuation-in c.args.copy.stmt.0 c.requires.1.ready c.call_of-call.ensures.continues) ∙ ap (λ (v : Node). enters_again (flow_of c.args.file.now) v.base c.args.copy.stmt.0) c.requires.6)
 
 -- while the rows are made, only words behind the queue are written
 beside : (n w : ℕ) {ws vs : List ℕ} → Keeps (set_row n) (mask_row_at n w 0) ws vs → Keeps (queue_at n) (mask_row_at n w 0) ws vs
@@ -52,7 +52,7 @@ push_call-requires c =
     let linked = linked-stays keeps c.requires.2 in
     let call = call_stays keeps (ready-size c.requires.1.ready) c.requires.7 c.call_of-call.ensures in
     let f = flow_of c.args.file.now in
-    let i = c.args.i.0 in (
+    let i = c.args.copy.stmt.0 in (
       narrow c.requires.1 c.requires.0,
       indexed_stays keeps c.requires.1,
       c.requires.5,
@@ -66,10 +66,10 @@ pub returns : goal.returns
 returns c =
     let f = flow_of c.args.file.now in
     let n = c.args.h.statements in
-    let says = call_says f c.args.i.0 c.requires.8 in
+    let says = call_says f c.args.copy.stmt.0 c.requires.8 in
     let rows = c.call_rows in
     let shared = beside_shared c.args.work.now rows.new.work n c.args.width rows.ensures.keeps c.requires.9 in
     sends c.requires.6 refl rows.ensures
     (goes_sent shared
-    (subst (λ (xs : List (Option Edge)). Sent f rows.new.work c.push_call.new.work n c.args.width (edge_row n c.args.width) c.args.first c.args.i.0 (present xs) c.push_call.result)
-    (sym (slots-call f c.args.base c.args.i.0 c.call_of-call.result.continuation.0 c.call_of-call.ensures.continues says.2)) c.push_call.ensures))
+    (subst (λ (xs : List (Option Edge)). Sent f rows.new.work c.push_call.new.work n c.args.width (edge_row n c.args.width) c.args.first c.args.copy.stmt.0 (present xs) c.push_call.result)
+    (sym (slots-call f c.args.copy.base c.args.copy.stmt.0 c.call_of-call.result.continuation.0 c.call_of-call.ensures.continues says.2)) c.push_call.ensures))

@@ -16,7 +16,6 @@ use Rattle.solve.specs.Clauses.Pushed.{Source}
 use Rattle.solve.proofs.Room.{row_first}
 use Rattle.dataflow.proofs.Kept.{ready_stays, linked-stays}
 use Rattle.dataflow.proofs.Sends.{prepared_plain, beside_waits, beside_shared, sends}
-use Rattle.dataflow.proofs.Headers.{narrow}
 use Rattle.dataflow.proofs.arrays.send_edges.Goals as goal
 
 -- the copy is that of d, whose statement is one of the n
@@ -27,21 +26,12 @@ copy_is d r e = e ∙ sym (ap (λ (n : ℕ). node_in n d) (ready-size r))
 below : {n d : ℕ} (v : Node) → v ≡ node_in n d → d < 2 * n → v.stmt < n
 below {n} {d} v e l = subst (λ (v : Node). v.stmt < n) (sym e) (node-below n d (omega arith))
 
-pub offset-place-requires : goal.offset-place-requires
-offset-place-requires c = (c.requires.1.ready, below (at c.copy_of-copy.result.base c.copy_of-copy.result.stmt.0) c.copy_of-copy.ensures c.requires.4)
-
-pub is_call-requires : goal.is_call-requires
-is_call-requires c = (c.requires.1.ready, c.requires.2, below (at c.copy_of-copy.result.base c.copy_of-copy.result.stmt.0) c.copy_of-copy.ensures c.requires.4, c.offset-place.ensures)
-
 pub send_call-requires : goal.send_call-requires
 send_call-requires c =
     (c.requires.0, c.requires.1, c.requires.2, c.requires.3, c.requires.4, c.offset-place.ensures, copy_is c.args.d.0 c.requires.1.ready c.copy_of-copy.ensures, below (at c.copy_of-copy.result.base c.copy_of-copy.result.stmt.0) c.copy_of-copy.ensures c.requires.4, sym c.is_call.ensures ∙ c.if-is_call.true, c.requires.5, c.requires.6)
 
 pub returns-then-is_call : goal.returns-then-is_call
 returns-then-is_call c = c.send_call.ensures
-
-pub plain_row-from-requires : goal.plain_row-from-requires
-plain_row-from-requires c = (c.requires.0, c.requires.1, c.requires.3, c.requires.4, c.offset-place.ensures, below (at c.copy_of-copy.result.base c.copy_of-copy.result.stmt.0) c.copy_of-copy.ensures c.requires.4)
 
 -- while the row is made, only words behind the queue are written
 beside : (n w : ℕ) {ws vs : List ℕ} → Keeps (set_row n) (mask_row_at n w 0) ws vs → Keeps (queue_at n) (mask_row_at n w 0) ws vs
@@ -55,7 +45,6 @@ source n w d l (inr e) = inr (d, l, e)
 pub push_plain-requires : goal.push_plain-requires
 push_plain-requires c =
     let keeps = beside c.args.h.statements c.args.width c.plain_row-from.ensures.0.keeps in (
-      narrow c.requires.1 c.requires.0,
       ready_stays keeps c.requires.1.ready,
       linked-stays keeps c.requires.2,
       c.offset-place.ensures,

@@ -10,7 +10,7 @@ use Rattle.flow.specs.Format.{flow_of}
 use Rattle.theory.specs.Doubled.{doubled}
 use Rattle.statements.specs.Clauses.Layout.{queue_at, set_words}
 use Rattle.statements.specs.Clauses.Ready.{Indexed, Keeps}
-use Rattle.statements.proofs.Keeps.{ready-most, keeps-trans, keeps_widen, ready-size}
+use Rattle.statements.proofs.Keeps.{keeps-trans, keeps_widen, ready-size}
 use Rattle.statements.proofs.WellFormed.{well_formed}
 use Rattle.solve.specs.declared.Queue.{Queue}
 use Rattle.solve.specs.Clauses.Layout.{nodes_end, area_end, state_at, waits_in}
@@ -27,12 +27,6 @@ use Rattle.dataflow.proofs.arrays.visit.Goals as goal
 room : {s ws : List ℕ} {h : Header} {w : ℕ} → Indexed s h ws → w ≡ set_words h.arrays → 0 < h.statements → nodes_end h.statements w ≤ length ws
 room x e some = nodes-room x.ready some (narrow x e)
 
-pub take-d-requires : goal.take-d-requires
-take-d-requires c = (ready-most c.requires.1.ready, narrow c.requires.1 c.requires.0, room c.requires.1 c.requires.0 c.requires.4, c.requires.5, (c.requires.6.state.waiting, c.requires.6.solving.waits))
-
-pub rest-queue-requires : goal.rest-queue-requires
-rest-queue-requires c = (ready-most c.requires.1.ready, c.requires.5, c.requires.6.solving.waits.front)
-
 -- the front of a state that is under way is the number taken
 below : {s ws vs : List ℕ} {h : Header} {w d : ℕ} {queue : Queue} → Indexed s h ws → w ≡ set_words h.arrays → 0 < queue.len → Underway (flow_of s) ws h.statements w queue → Taken ws vs h.statements w queue d
     → d < 2 * h.statements
@@ -45,7 +39,7 @@ taken-room : {s ws vs : List ℕ} {h : Header} {w d : ℕ} {queue : Queue} → I
 taken-room x e some taken = omega (arith, room x e some, taken.kept.size)
 
 pub settle-requires : goal.settle-requires
-settle-requires c = (ready-most c.requires.1.ready, narrow c.requires.1 c.requires.0, taken-room c.requires.1 c.requires.0 c.requires.4 c.take-d.ensures, below c.requires.1 c.requires.0 c.requires.5 c.requires.6 c.take-d.ensures)
+settle-requires c = (taken-room c.requires.1 c.requires.0 c.requires.4 c.take-d.ensures, below c.requires.1 c.requires.0 c.requires.5 c.requires.6 c.take-d.ensures)
 
 -- what is kept while the front is taken and settled
 beside : {s ws vs us : List ℕ} {h : Header} {w d : ℕ} {queue : Queue} → Indexed s h ws → w ≡ set_words h.arrays → 0 < h.statements → 0 < queue.len → Underway (flow_of s) ws h.statements w queue

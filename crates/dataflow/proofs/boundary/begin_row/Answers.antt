@@ -1,37 +1,13 @@
 -- The arrays are reset, and step where there is a handler. By what the masks at the entry are.
 use Prim.Native.Nat.{ℕ}
 use mathlib.Core.List.{List}
-use mathlib.Core.Logic.{inr}
 use mathlib.Core.Path.{refl}
-use native.Mathlib.Omega.{arith}
 use Rattle.flow.specs.Format.{flow_of}
-use Rattle.statements.proofs.Keeps.{ready-most}
-use Rattle.solve.proofs.Room.{key-room, solver_room, nodes-within}
-use Rattle.dataflow.proofs.Sets.{steps-at, entry-apart}
+use Rattle.dataflow.proofs.Sets.{steps-at}
 use Rattle.dataflow.proofs.Kept.{key-stays, key_says}
 use Rattle.dataflow.proofs.Running.{reset-keeps, begun_unkeyed, begun_keyed}
-use Rattle.dataflow.proofs.Headers.{arrays_told, arrays-few, narrow, handled, unhandled}
+use Rattle.dataflow.proofs.Headers.{arrays_told, handled, unhandled}
 use Rattle.dataflow.proofs.boundary.begin_row.Goals as goal
-
-pub set_row-requires : goal.set_row-requires
-set_row-requires c = ready-most c.requires.1.ready
-
-pub out_row-requires : goal.out_row-requires
-out_row-requires c = (ready-most c.requires.1.ready, narrow c.requires.1 c.requires.0)
-
-pub reset_row-requires : goal.reset_row-requires
-reset_row-requires c =
-    let width = narrow c.requires.1 c.requires.0 in
-    (arrays-few c.requires.1, width, entry-apart c.args.work.now c.args.h.statements c.args.width c.args.row (solver_room c.requires.1.ready c.requires.3 width) c.requires.4 c.requires.5 c.set_row.ensures c.out_row.ensures)
-
-pub step_key-requires : goal.step_key-requires
-step_key-requires c =
-    let n : ℕ = c.args.h.statements in
-    let w : ℕ = c.args.width in
-    let end = nodes-within n w in
-    let high = c.requires.5 in
-    let width = narrow c.requires.1 c.requires.0 in
-    (ready-most c.requires.1.ready, width, omega (arith, key-room c.requires.1.ready c.requires.3 width, c.reset_row.ensures.size), omega arith, omega arith, inr refl)
 
 pub returns-else-is_some : goal.returns-else-is_some
 returns-else-is_some c =

@@ -6,5 +6,5 @@ use Rattle.dataflow.proofs.door.edges_end.Goals as goal
 
 pub overflow_add-result : goal.overflow_add-result
 overflow_add-result c =
-    let n = c.args.n in
-    omega (arith, c.returns_row.ensures, c.row_words.ensures, queue-below c.requires, row-words-le n)
+    let n = c.args.layout.n in
+    omega (arith, c.returns_row.ensures, c.row_words.ensures, queue-below c.args.layout.few, row-words-le n)

@@ -3,15 +3,8 @@ use native.Mathlib.Omega.{arith}
 use Prim.Native.Nat.{◌-◌}
 use mathlib.Core.Path.{ap₂, ◌∙◌}
 use Rattle.words.specs.Clauses.Change.{zeroed}
-use Rattle.statements.proofs.Keeps.{ready-most}
 use Rattle.dataflow.proofs.Phases.{used-room, linked}
 use Rattle.dataflow.proofs.door.link.Goals as goal
-
-pub queue-queue-requires : goal.queue-queue-requires
-queue-queue-requires c = ready-most c.requires.0.indexed.ready
-
-pub edges_end-requires : goal.edges_end-requires
-edges_end-requires c = ready-most c.requires.0.indexed.ready
 
 pub overflow_sub-edges_end : goal.overflow_sub-edges_end
 overflow_sub-edges_end c = omega (arith, c.queue-queue.ensures, c.edges_end.ensures)

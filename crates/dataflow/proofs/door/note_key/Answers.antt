@@ -11,14 +11,8 @@ use Rattle.dataflow.proofs.HandlerNoted.{few, narrow, handler-below, key_fits, k
 use Rattle.calls.proofs.Checked.{handler-at, handler-none}
 use Rattle.dataflow.proofs.door.note_key.Goals as goal
 
-pub set_words-requires : goal.set_words-requires
-set_words-requires c = few c.requires.0
-
-pub key-key-requires : goal.key-key-requires
-key-key-requires c = (ready-most c.requires.0.indexed.ready, omega (arith, c.set_words.ensures, narrow c.requires.0))
-
-pub touched-requires : goal.touched-requires
-touched-requires c = ready-most c.requires.0.indexed.ready
+pub set_words-width-requires : goal.set_words-width-requires
+set_words-width-requires c = few c.requires.0
 
 pub overflow_add-work : goal.overflow_add-work
 overflow_add-work c = let low = handler-below c.requires.0 c.in-Some.e.0 (handler-at c.requires.0.indexed c.in-Some.e c.in-Some.is) in omega (arith, c.touched.ensures, low, ready-most c.requires.0.indexed.ready)
@@ -32,17 +26,17 @@ bounds-work-touched c = let low = handler-below c.requires.0 c.in-Some.e.0 (hand
 pub offset_bounds-work-key : goal.offset_bounds-work-key
 offset_bounds-work-key c =
     let most = ready-most c.requires.0.indexed.ready in
-    let place = c.key-key.ensures ∙ ap (λ (w : ℕ). key_at c.args.h.statements w) c.set_words.ensures in
+    let place = c.key-key.ensures ∙ ap (λ (w : ℕ). key_at c.args.h.statements w) c.set_words-width.ensures in
     omega (arith, place, end_below most (narrow c.requires.0) (le_refl c.args.h.statements), most)
 
 pub bounds-work-key : goal.bounds-work-key
 bounds-work-key c =
-    let place = c.key-key.ensures ∙ ap (λ (w : ℕ). key_at c.args.h.statements w) c.set_words.ensures in
+    let place = c.key-key.ensures ∙ ap (λ (w : ℕ). key_at c.args.h.statements w) c.set_words-width.ensures in
     omega (arith, place, key_fits c.requires.0 _ (handler-at c.requires.0.indexed c.in-Some.e c.in-Some.is))
 
 pub returns-in-Some : goal.returns-in-Some
 returns-in-Some c =
-    let place = c.key-key.ensures ∙ ap (λ (w : ℕ). key_at c.args.h.statements w) c.set_words.ensures in
+    let place = c.key-key.ensures ∙ ap (λ (w : ℕ). key_at c.args.h.statements w) c.set_words-width.ensures in
     key-made c.requires.0 c.requires.1 c.in-Some.e.0 (handler-at c.requires.0.indexed c.in-Some.e c.in-Some.is)
     (ap₂ (λ (k t : ℕ). set c.args.work.now k (get_or c.args.work.now (t + c.in-Some.e.0) 0)) place c.touched.ensures)
 

@@ -4,23 +4,15 @@ use mathlib.Core.Logic.{inl, inr}
 use mathlib.Core.Path.{sym, subst, ◌∙◌}
 use Rattle.flow.specs.Format.{flow_of}
 use Rattle.theory.specs.Doubled.{statement_effects}
-use Rattle.statements.proofs.Keeps.{ready-most}
 use Rattle.statements.proofs.WellFormed.{well_formed}
 use Rattle.dataflow.specs.Clauses.Transfer.{Acted}
 use Rattle.dataflow.proofs.Acted.{acts_not}
-use Rattle.dataflow.proofs.Headers.{narrow}
 use Rattle.dataflow.proofs.transfer.act_row.Goals as goal
-
-pub out_row-requires : goal.out_row-requires
-out_row-requires c = (ready-most c.requires.1.ready, narrow c.requires.1 c.requires.0)
 
 pub returns-then-acts : goal.returns-then-acts
 returns-then-acts c =
     let a = c.args in
     (subst (λ (r : ℕ). Acted (flow_of a.file.now) a.work.now c.transfer.new.work a.h.statements a.width a.d.0 (statement_effects (flow_of a.file.now) a.i.0) r) (sym c.out_row.ensures) c.transfer.ensures, inl c.out_row.ensures)
-
-pub mask_row-requires : goal.mask_row-requires
-mask_row-requires c = (ready-most c.requires.1.ready, narrow c.requires.1 c.requires.0, c.requires.2)
 
 pub returns : goal.returns
 returns c =

@@ -1,4 +1,4 @@
--- `dataflow::transfer::below_word` meets its contract: no bit, the lowest bits, or all of them, by how many arrays stand at or above the word's first.
+-- `dataflow::transfer::below_word` meets its contract: the lowest bits, or all of them, by how many arrays stand at or above the word's first.
 -- Assumes nothing.
 use Prim.Native.Nat.{ℕ, ◌+◌, ◌-◌, ◌*◌, ◌%◌, ◌^◌, ◌<◌}
 use mathlib.Core.Bool.{cond}
@@ -13,14 +13,11 @@ use Rattle.words.specs.Clauses.Row.{bit}
 use Rattle.words.proofs.Bit.{bit_of_zero, bit_not, bit_high, one_shl}
 use Rattle.dataflow.proofs.transfer.below_word.Goals as goal
 
-pub returns-then-count-k : goal.returns-then-count-k
-returns-then-count-k c j l = bit_of_zero j ∙ sym (ap (λ b. cond b 1 0) (le-ltb (64 * c.args.k + j) c.args.count (omega arith)))
-
 pub returns-then-rest-lt64 : goal.returns-then-rest-lt64
 returns-then-rest-lt64 c j l = at (dec_lt j m)
   where
     m : ℕ
-    m = c.args.count - 64 * c.args.k
+    m = c.saturating_sub-rest.result
 
     word : (1 * 2 ^ m % 2 ^ 64) - 1 ≡ 2 ^ m - 1 - 0
     word = ap (λ (x : ℕ). x - 1) (one_shl m (omega arith)) ∙ sym (sub-zero (2 ^ m - 1))

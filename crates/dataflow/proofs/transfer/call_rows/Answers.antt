@@ -2,7 +2,7 @@
 use Prim.Native.Nat.{ℕ, ◌*◌}
 use native.Mathlib.Nat.{le_refl}
 use native.Mathlib.Omega.{arith}
-use Rattle.statements.proofs.Keeps.{ready-most, keeps_widen}
+use Rattle.statements.proofs.Keeps.{keeps_widen}
 use Rattle.solve.proofs.Room.{key-room, row_from, row_first, nodes-within}
 use Rattle.dataflow.proofs.Kept.{key-stays, key_says}
 use Rattle.dataflow.proofs.Sends.{prepared_keyed, prepared_unkeyed}
@@ -13,7 +13,7 @@ pub key_rows-requires : goal.key_rows-requires
 key_rows-requires c =
     let at = c.requires.7 in
     let width = narrow c.requires.1 c.requires.0 in
-    (ready-most c.requires.1.ready, width, omega (arith, key-room c.requires.1.ready (omega arith) width, c.own_rows.ensures.keeps.size))
+    (omega (arith, key-room c.requires.1.ready (omega arith) width, c.own_rows.ensures.keeps.size))
 
 pub returns-then-is_some : goal.returns-then-is_some
 returns-then-is_some c =

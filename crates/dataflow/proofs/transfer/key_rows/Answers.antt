@@ -11,8 +11,8 @@ use Rattle.dataflow.proofs.transfer.key_rows.Goals as goal
 
 pub returns : goal.returns
 returns c =
-    let n : ℕ = c.args.n in
-    let w : ℕ = c.args.width in
+    let n : ℕ = c.args.layout.n in
+    let w : ℕ = c.args.layout.width in
     let ws : List ℕ = c.args.work.now in
     let us : List ℕ = c.step_key.new.work in
     let vs : List ℕ = c.step_key-2.new.work in

@@ -9,7 +9,7 @@ use Rattle.dataflow.specs.Clauses.Transfer.{SetGains}
 use Rattle.dataflow.proofs.Sets.{gains-item}
 use Rattle.dataflow.proofs.transfer.note_item.Goals as goal
 
-pub returns-then-x-eq1 : goal.returns-then-x-eq1
-returns-then-x-eq1 c =
-    subst (λ (vs : List ℕ). SetGains c.args.work.now vs c.args.set c.args.width (λ a. eqb c.args.x.array a && eqb c.args.x.flag 1)) (sym c.insert.ensures.slice)
-    (gains-item c.args.work.now c.args.set c.args.width c.args.x.array c.args.x.flag c.requires.1 c.requires.2 c.if-x-eq1.true)
+pub returns-then-x : goal.returns-then-x
+returns-then-x c =
+    subst (λ (vs : List ℕ). SetGains c.args.work.now vs c.args.set c.args.width (λ a. eqb c.args.x.array a && c.args.x.flag)) (sym c.insert.ensures.slice)
+    (gains-item c.args.work.now c.args.set c.args.width c.args.x.array c.args.x.flag c.requires.1 c.requires.2 c.if-x.true)

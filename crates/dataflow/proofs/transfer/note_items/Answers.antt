@@ -14,7 +14,7 @@ use Rattle.theory.specs.Doubled.{dims}
 use Rattle.words.specs.Clauses.Row.{has}
 use Rattle.words.proofs.Zeroed.{zeroed-has, length-zeroed}
 use Rattle.theory.specs.Body.{kind}
-use Rattle.theory.proofs.Lists.{get_or-In}
+use Rattle.theory.proofs.Lists.{get_or-In, says_one}
 use Rattle.flow.specs.Clauses.Answers.{FitFile}
 use Rattle.statements.specs.Clauses.Ready.{RecordOf, Keeps, no_item}
 use Rattle.statements.proofs.Keeps.{keeps-refl, keeps-trans, keeps-zeroed}
@@ -57,9 +57,9 @@ note_item-requires c =
 pub loop-k-preserved : goal.loop-k-preserved
 loop-k-preserved c =
     let x = c.item in
-    gathering_more dims (tabulate (item_count c.args.file.now c.args.p) (item_at c.args.file.now c.args.p)) (λ a. eqb x.result.array a && eqb x.result.flag 1) no_item c.loop-k.invariant (omega (arith, items-count c.requires.1, c.item_count-count.ensures))
+    gathering_more dims (tabulate (item_count c.args.file.now c.args.p) (item_at c.args.file.now c.args.p)) (λ a. eqb x.result.array a && x.result.flag) no_item c.loop-k.invariant (omega (arith, items-count c.requires.1, c.item_count-count.ensures))
     c.note_item.ensures
-    (λ a. ap₂ (λ i f. eqb i a && eqb f 1) x.ensures.0 x.ensures.1 ∙ ap (dims a) (sym (item-is c.requires.1 c.loop-k.k (search rules))))
+    (λ a. ap₂ (λ i f. eqb i a && f) x.ensures.0 (sym (says_one x.result.flag) ∙ ap (λ f. eqb f 1) x.ensures.1) ∙ ap (dims a) (sym (item-is c.requires.1 c.loop-k.k (search rules))))
 
 pub returns : goal.returns
 returns c =

@@ -7,7 +7,7 @@ use native.Mathlib.Nat.{le_refl}
 use native.Mathlib.Omega.{arith}
 use Rattle.masks.specs.declared.Effect.TheVariants.{Touched}
 use Rattle.flow.specs.Format.{flow_of}
-use Rattle.statements.proofs.Keeps.{ready-most, keeps_widen}
+use Rattle.statements.proofs.Keeps.{keeps_widen}
 use Rattle.statements.proofs.WellFormed.{well_formed}
 use Rattle.solve.specs.Clauses.Layout.{out_row, mask_row_at, key_at}
 use Rattle.solve.specs.Clauses.Rows.{RowIs, Beside, mask_at, step_where, member}
@@ -32,9 +32,6 @@ pub returns-then-is_none : goal.returns-then-is_none
 returns-then-is_none c =
     (acts_unkeyed (flow_of c.args.file.now) c.args.i.0 (unhandled c.requires.1 (sym c.if-is_none.ensures)) c.act_row-own.ensures.0, c.act_row-own.ensures.1)
 
-pub out_row-out-requires : goal.out_row-out-requires
-out_row-out-requires c = (ready-most c.requires.1.ready, narrow c.requires.1 c.requires.0)
-
 pub step_key-requires : goal.step_key-requires
 step_key-requires c =
     let n : ℕ = c.args.h.statements in
@@ -45,7 +42,7 @@ step_key-requires c =
     let at = c.requires.5 in
     let width = narrow c.requires.1 c.requires.0 in
     let own = c.act_row-own.ensures.1 in
-    (ready-most c.requires.1.ready, width, omega (arith, key-room c.requires.1.ready (omega arith) width, c.act_row-own.ensures.0.keeps.size), omega arith, own-fits n w c.requires.3 own, beside n w c.args.d.0 out own)
+    (omega (arith, key-room c.requires.1.ready (omega arith) width, c.act_row-own.ensures.0.keeps.size), omega arith, own-fits n w c.requires.3 own, beside n w c.args.d.0 out own)
 
 pub returns : goal.returns
 returns c =

@@ -12,6 +12,6 @@ pub returns : goal.returns
 unfolding both_words
 returns c =
     let a = c.args in
-    let zero = c.mask_row-zero.ensures ∙ ap (mask_row_at a.n a.width) (c.node.ensures ∙ zero-add a.i) in
-    let other = c.mask_row-other.ensures ∙ ap (mask_row_at a.n a.width) c.node-2.ensures in
+    let zero = c.mask_row-zero.ensures ∙ ap (mask_row_at a.layout.n a.layout.width) (c.node.ensures ∙ zero-add a.i) in
+    let other = c.mask_row-other.ensures ∙ ap (mask_row_at a.layout.n a.layout.width) c.node-2.ensures in
     ap₂ (λ (x y : ℕ). bit_or (get_or a.work.now (x + a.k) 0) (get_or a.work.now (y + a.k) 0)) zero other

@@ -5,4 +5,4 @@ use Rattle.dataflow.specs.Clauses.Bytes.{both_copies}
 use Rattle.dataflow.proofs.write.write_row.Given as goal
 
 abbrev pub invariant-loop-k : goal.invariant-loop-k
-invariant-loop-k l = l.masks ≡ noted l.initial.masks l.at (min (64 * l.k) l.arrays) (both_copies l.work l.n l.width l.i)
+invariant-loop-k l = l.out ≡ noted l.initial.out 0 (min (64 * l.k) l.arrays) (both_copies l.work l.n l.width l.i)

@@ -2,14 +2,14 @@
 use native.Mathlib.Omega.{arith}
 use Prim.Native.Nat.{ℕ, ◌<◌, ◌+◌, ◌*◌}
 use mathlib.Core.List.{List, [], ◌∷◌}
-use mathlib.Core.Path.{◌≡◌, ◌∙◌, ap, subst}
+use mathlib.Core.Path.{◌≡◌, ◌∙◌, ap}
 use lib.ListN.{length}
-use Rattle.std.specs.Prelude.{Ok, Err}
+use Rattle.std.specs.Prelude.{Err}
 use Rattle.flow.specs.Format.{Check, verdict, fit, each, u8_at, present, dim_checks, item_checks, data_place, data_count, element_place, elements_end}
 use Rattle.flow.specs.Clauses.Answers.{Reached, answer_of}
 use Rattle.flow.proofs.Tests.{tests}
-use Rattle.flow.proofs.Verdicts.{StopsAt, refusal_at, all_fit, stops_at, fit_none}
-use Rattle.flow.proofs.Answers.{refused-first, refused_element, passed-elements, one_more}
+use Rattle.flow.proofs.Verdicts.{StopsAt, refusal_at, all_fit}
+use Rattle.flow.proofs.Answers.{refused_element, one_more}
 use Rattle.flow.proofs.check.check_items.Goals as goal
 
 -- the data of the record at p, which begin at `at`: the count was read
@@ -37,20 +37,6 @@ module _ {s : List ℕ} {p at count : ℕ} (r : Reached s p at (data_place s p))
 
   flag : (k : ℕ) {x : ℕ} → x ≡ u8_at s (at + 1 + 2 * k + 1) → x ≡ u8_at s (element_place s p k + 1)
   flag k e = e ∙ ap (λ (b : ℕ). u8_at s (b + 1 + 2 * k + 1)) r.there
-
-  passes : verdict (each count (item_checks s p)) ≡ fit → Ok (at + 1 + 2 * count) ≡ answer_of (verdict (dim_checks s p)) (elements_end s p)
-  unfolding dim_checks front
-  passes h = passed-elements front (data_count s p) (item_checks s p) _ _ (omega (arith, counted, r.there)) front_fits (subst (λ n. verdict (each n (item_checks s p)) ≡ fit) counted h)
-
-pub returns-then-file-at : goal.returns-then-file-at
-unfolding dim_checks
-returns-then-file-at c =
-    let s = c.args.file.now in
-    let front = present s c.args.p (data_place s c.args.p + 1) ∷ [] in
-    refused-first front _ _ (stops_at 0 front (omega (arith, tests)))
-
-pub loop-k-init : goal.loop-k-init
-loop-k-init c = fit_none _
 
 pub returns-then-file-q : goal.returns-then-file-q
 unfolding item_checks
@@ -81,8 +67,3 @@ loop-k-preserved c =
     let array = array c.requires c.if-file-at.false c.u8_at-count.ensures c.loop-k.k c.u8_at.ensures in
     let flag = flag c.requires c.if-file-at.false c.u8_at-count.ensures c.loop-k.k c.u8_at-in-loop-k.ensures in
     one_more c.loop-k.k (item_checks c.args.file.now c.args.p) c.loop-k.invariant (omega (arith, tests, array, flag))
-
-pub returns : goal.returns
-returns c =
-    let all : c.loop-k.k ≡ c.u8_at-count.result = omega arith in
-    passes c.requires c.if-file-at.false c.u8_at-count.ensures (rw (← all) c.loop-k.invariant)

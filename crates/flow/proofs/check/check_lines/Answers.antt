@@ -11,7 +11,7 @@ use Rattle.std.specs.Prelude.{Ok, Err}
 use Rattle.flow.specs.declared.Refusal.{Refusal}
 use Rattle.flow.specs.declared.Refusal.TheVariants.{Record, Order, Target}
 use Rattle.flow.specs.Format as format
-use Rattle.flow.specs.Format.{verdict, fit, each, u16_at, letter_l, line_record_checks, line_count, count_lines, lines_place, line_place, line_number, line_first, key_place}
+use Rattle.flow.specs.Format.{verdict, fit, each, u16_at, letter_l, line_record_checks, line_count, count_lines, statements_of, lines_place, line_place, line_number, line_first, key_place}
 use Rattle.flow.specs.Clauses.Answers.{answer_of}
 use Rattle.flow.proofs.Numbers.{le_at-lt}
 use Rattle.flow.proofs.Tests.{tests, rises_first, rises_next, marked-within}
@@ -57,9 +57,11 @@ module _ {s : List ℕ} {at least k : ℕ} (inv : Passing s least k) (place : at
   more : line_count s ≡ k + 1 + count_lines (length s - (k + 1)) s (line_place s (k + 1))
   more = one-counted s k inv.counted here (omega (arith, inside))
 
+  abbrev Refused : (ℕ → Refusal) → Type 0
+  Refused R = Err (R (at + 6 * k)) ≡ answer_of (verdict (each (line_count s) (line_record_checks s))) (key_place s)
+
   -- it is unfit by its check j
-  refuse : (j : ℕ) (R : ℕ → Refusal) → refusal_at j (line_record_checks s k) ≡ R (line_place s k) → StopsAt j (line_record_checks s k)
-      → Err (R (at + 6 * k)) ≡ answer_of (verdict (each (line_count s) (line_record_checks s))) (key_place s)
+  refuse : (j : ℕ) (R : ℕ → Refusal) → refusal_at j (line_record_checks s k) ≡ R (line_place s k) → StopsAt j (line_record_checks s k) → Refused R
   refuse j R e u =
       ap (λ (p : ℕ). Err (R (p + 6 * k))) place ∙ ap Err (sym e)
       ∙ refused_by (each (line_count s) (line_record_checks s)) _
@@ -73,11 +75,34 @@ module _ {s : List ℕ} {at least k : ℕ} (inv : Passing s least k) (place : at
   first : {x : ℕ} → x ≡ u16_at s (at + 6 * k + 4) → x ≡ line_first s k
   first e = e ∙ ap (λ (p : ℕ). u16_at s (p + 6 * k + 4)) place
 
-  falling : {x : ℕ} → x ≡ u16_at s (at + 6 * k + 2) → x < least → (eqb k 0 || ltb (line_number s (k - 1)) (line_number s k)) ≡ false
-  falling e low = inv.rises.follows (line_number s k) ∙ lt-leb _ _ (omega (arith, number e))
+  -- its line comes before the one that may stand there
+  falls : {x : ℕ} → x ≡ u16_at s (at + 6 * k + 2) → x < least → at + 6 * k + 4 ≤ length s → Refused Order
+  unfolding line_record_checks
+  falls e low l =
+      refuse 1 Order refl (omega (arith, tests, place), inv.rises.follows (line_number s k) ∙ lt-leb _ _ (omega (arith, number e)))
 
-  rising : {x : ℕ} → x ≡ u16_at s (at + 6 * k + 2) → least ≤ x → (eqb k 0 || ltb (line_number s (k - 1)) (line_number s k)) ≡ true
-  rising e high = inv.rises.follows (line_number s k) ∙ le-leb _ _ (omega (arith, number e))
+  -- or may stand there
+  module _ {x : ℕ} (e : x ≡ u16_at s (at + 6 * k + 2)) (high : least ≤ x) (l : at + 6 * k + 4 ≤ length s) where
+    rising : (eqb k 0 || ltb (line_number s (k - 1)) (line_number s k)) ≡ true
+    rising = inv.rises.follows (line_number s k) ∙ le-leb _ _ (omega (arith, number e))
+
+    short : length s < at + 6 * k + 6 → Refused Record
+    unfolding line_record_checks
+    short h = refuse 2 Record refl (omega (arith, tests, place), (rising, omega (arith, tests, place)))
+
+    module _ {y : ℕ} (e' : y ≡ u16_at s (at + 6 * k + 4)) (l' : at + 6 * k + 6 ≤ length s) where
+      astray : statements_of s ≤ y → Refused Target
+      unfolding line_record_checks
+      astray h = refuse 3 Target refl (omega (arith, tests, place), (rising, omega (arith, tests, place, first e')))
+
+      passing : y < statements_of s → Passing s (x + 1) (k + 1)
+      unfolding line_record_checks
+      passing h = record {
+        counted = more;
+        within = omega (arith, place);
+        fits = one_more k (line_record_checks s) inv.fits (omega (arith, tests, place), (rising, omega (arith, tests, place, first e')));
+        rises = rises_next (line_number s) k _ (number e);
+      }
 
 pub loop-q-init : goal.loop-q-init
 loop-q-init c = record { counted = none-counted c.args.file.now; within = omega arith; fits = fit_none _; rises = rises_first _ }
@@ -90,51 +115,29 @@ returns-then-file-q c =
     refuse c.loop-q.invariant place mark 0 Record refl (omega (arith, tests, place))
 
 pub returns-then-line-least : goal.returns-then-line-least
-unfolding line_record_checks
 returns-then-line-least c =
-    let place = c.requires.2 in
     let mark = sym c.marked.ensures ∙ c.loop-q-test.true in
-    let inv = c.loop-q.invariant in
-    refuse inv place mark 1 Order refl (omega (arith, tests, place), falling inv place mark c.u16_at-line.ensures c.if-line-least.true)
+    falls c.loop-q.invariant c.requires.2 mark c.u16_at-line.ensures c.if-line-least.true c.if-file-q.false
 
 pub returns-then-file-q-2 : goal.returns-then-file-q-2
-unfolding line_record_checks
 returns-then-file-q-2 c =
-    let place = c.requires.2 in
     let mark = sym c.marked.ensures ∙ c.loop-q-test.true in
-    let inv = c.loop-q.invariant in
-    let rising = rising inv place mark c.u16_at-line.ensures c.if-line-least.false in
-    refuse inv place mark 2 Record refl (omega (arith, tests, place), (rising, omega (arith, tests, place)))
+    short c.loop-q.invariant c.requires.2 mark c.u16_at-line.ensures c.if-line-least.false c.if-file-q.false c.if-file-q-2.true
 
 pub returns-then-u16_at-n : goal.returns-then-u16_at-n
-unfolding line_record_checks
 returns-then-u16_at-n c =
-    let place = c.requires.2 in
     let mark = sym c.marked.ensures ∙ c.loop-q-test.true in
-    let inv = c.loop-q.invariant in
-    let rising = rising inv place mark c.u16_at-line.ensures c.if-line-least.false in
-    let first = first inv place mark c.u16_at.ensures in
-    refuse inv place mark 3 Target refl (omega (arith, tests, place), (rising, omega (arith, tests, place, first, c.u16_at-n.ensures)))
+    astray c.loop-q.invariant c.requires.2 mark c.u16_at-line.ensures c.if-line-least.false c.if-file-q.false c.u16_at.ensures c.if-file-q-2.false
+    (omega (arith, c.u16_at-n.ensures))
 
 pub overflow_add-least : goal.overflow_add-least
 overflow_add-least c = omega (arith, c.u16_at-line.ensures, le_at-lt 2 c.args.file.now (c.args.at + 6 * c.loop-q.k + 2) c.type_inv.file)
 
 pub loop-q-preserved : goal.loop-q-preserved
-unfolding line_record_checks
 loop-q-preserved c =
-    let s = c.args.file.now in
-    let place = c.requires.2 in
     let mark = sym c.marked.ensures ∙ c.loop-q-test.true in
-    let inv = c.loop-q.invariant in
-    let k = c.loop-q.k in
-    let rising = rising inv place mark c.u16_at-line.ensures c.if-line-least.false in
-    let first = first inv place mark c.u16_at.ensures in
-    record {
-      counted = more inv place mark;
-      within = omega (arith, place);
-      fits = one_more k (line_record_checks s) inv.fits (omega (arith, tests, place), (rising, omega (arith, tests, place, first, c.u16_at-n.ensures)));
-      rises = rises_next (line_number s) k _ (number inv place mark c.u16_at-line.ensures);
-    }
+    passing c.loop-q.invariant c.requires.2 mark c.u16_at-line.ensures c.if-line-least.false c.if-file-q.false c.u16_at.ensures c.if-file-q-2.false
+    (omega (arith, c.u16_at-n.ensures))
 
 pub returns : goal.returns
 returns c =

@@ -6,12 +6,11 @@ use Prim.Native.Nat.{ℕ, ◌≤◌, ◌+◌}
 use borrow.Author.Tests.{leb-true}
 use lib.ListN.{length}
 use Rattle.std.specs.Prelude.{Err}
-use Rattle.std.proofs.lemmas.Result.{err_from_is_err_and}
 use Rattle.flow.specs.declared.Refusal.{Refusal}
 use Rattle.flow.specs.Format.{Check, verdict, fit, each, references_place, reference_count_checks, reference_count, reference_checks, name_checks, data_checks, rest_checks, names_place, data_place}
 use Rattle.flow.specs.Clauses.Answers.{Reached, answer_of}
 use Rattle.flow.proofs.Verdicts.{all_hold, fit-left, fit-right, elements-within}
-use Rattle.flow.proofs.Answers.{Through, verdict-passed, verdict-refused, refused-first, onward}
+use Rattle.flow.proofs.Answers.{Through, verdict-passed, verdict-refused, refused-first, onward, handed_on}
 use Rattle.flow.proofs.check.check_rest.Goals as goal
 
 module _ (s : List ℕ) (p : ℕ) where
@@ -50,8 +49,7 @@ module _ (s : List ℕ) (p : ℕ) where
 pub returns-in_err-names_at : goal.returns-in_err-names_at
 unfolding references
 returns-in_err-names_at c =
-    let p = err_from_is_err_and c.from_residual.result c.from_residual.ensures.1 in
-    rw (p.1, p.2) (in-references c.args.file.now c.args.p _ c.in_err-names_at.ensures)
+    handed_on c.from_residual.ensures.1 (in-references c.args.file.now c.args.p _ c.in_err-names_at.ensures)
 
 pub check_names-requires : goal.check_names-requires
 unfolding references
@@ -63,8 +61,7 @@ unfolding references
 returns-in_err-data_at c =
     let s = c.args.file.now in
     let q = c.args.p in
-    let p = err_from_is_err_and c.from_residual-in_err-data_at.result c.from_residual-in_err-data_at.ensures.1 in
-    rw (p.1, p.2)
+    handed_on c.from_residual-in_err-data_at.ensures.1
     (refused-first (name_checks s q) (data_checks s q) _ (verdict-refused _ _ c.in_err-data_at.ensures)
     ∙ after-references s q _ (verdict-passed _ _ _ (sym c.in_ok-names_at.was ∙ c.check_references.ensures)).is_fit)
 

@@ -6,7 +6,6 @@ use mathlib.Core.List.{List}
 use mathlib.Core.Path.{◌≡◌, refl, sym, ◌∙◌, ap, subst}
 use lib.ListN.{length}
 use Rattle.std.specs.Prelude.{Option, Ok, None}
-use Rattle.std.proofs.lemmas.Result.{err_from_is_err_and}
 use Rattle.flow.specs.declared.Refusal.{Refusal}
 use Rattle.flow.specs.declared.Refusal.TheVariants.{Record, Target}
 use Rattle.flow.specs.Format.{verdict, fit, unfit, each, start_checks, successor_checks, rest_checks, record_checks, statement_checks, record_place, record_end, successors_place, successor_count, successor_at, references_place, lines_place, u8_at, u16_at, statements_of}
@@ -14,7 +13,7 @@ use Rattle.flow.specs.Clauses.Answers.{Reached, answer_of}
 use Rattle.flow.proofs.Records.{end_fits}
 use Rattle.flow.proofs.Tests.{tests}
 use Rattle.flow.proofs.Verdicts.{StopsAt, refusal_at, unfit-at, fit_none, fit-more}
-use Rattle.flow.proofs.Answers.{verdict-passed, verdict-refused, refused_by, passed_by, one_more}
+use Rattle.flow.proofs.Answers.{verdict-passed, verdict-refused, refused_by, passed_by, one_more, handed_on}
 use Rattle.flow.proofs.RecordVerdict.{successors, start-within, successors-within, in_start, in_successors, after-successors}
 use Rattle.flow.proofs.check.check_statements.Invariants.{records_of, Records}
 use Rattle.flow.proofs.check.check_statements.Goals as goal
@@ -98,8 +97,7 @@ records-init c = record { place = refl; within = c.requires; fits = fit_none _; 
 pub returns-in_err-successors : goal.returns-in_err-successors
 returns-in_err-successors c =
     let s = c.args.file.now in
-    let p = err_from_is_err_and c.from_residual.result c.from_residual.ensures.1 in
-    rw (p.1, p.2)
+    handed_on c.from_residual.ensures.1
     (refused_by (statement_checks s) _
     (refuse c.records.invariant c.records-test.true c.u16_at-n.ensures (in_start s c.records.p (verdict-refused _ _ c.in_err-successors.ensures))))
 
@@ -127,8 +125,7 @@ returns-in_err-p c =
     let s = c.args.file.now in
     let b = begun (sym c.in_ok-successors.was ∙ c.check_start.ensures) c.u8_at-count.ensures in
     let all : c.loop-k.k ≡ c.u8_at-count.result = omega arith in
-    let p = err_from_is_err_and c.from_residual-in_err-p.result c.from_residual-in_err-p.ensures.1 in
-    rw (p.1, p.2)
+    handed_on c.from_residual-in_err-p.ensures.1
     (refused_by (statement_checks s) _
     (refuse c.records.invariant c.records-test.true c.u16_at-n.ensures (left-to-rest b all c.loop-k.invariant.0 ∙ verdict-refused _ _ c.in_err-p.ensures)))
 

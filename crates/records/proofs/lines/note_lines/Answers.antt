@@ -11,7 +11,7 @@ use Rattle.flow.specs.Format.{u16_at, lines_place, line_count, line_number, line
 use Rattle.flow.specs.Clauses.Answers.{FitFile}
 use Rattle.records.specs.Clauses.Fields.{part_of}
 use Rattle.records.proofs.Files.{line-fits}
-use Rattle.records.proofs.LineParts.{part_none, part_below, lines-few, line_small, first_small, parts-met}
+use Rattle.records.proofs.LineParts.{part_none, part_below, lines-few, line_small, first_small, met_made, parts-met}
 use Rattle.records.proofs.lines.note_lines.Goals as goal
 
 -- record r of the file's lines, of which the first stands at `at`
@@ -59,13 +59,14 @@ overflow_mul-k c =
 pub bounds-work-k : goal.bounds-work-k
 bounds-work-k c = let l = line (here c.requires.0 c.requires.1 c.loop-r-test.true) c.requires.2 c.type_inv.file c.u16_at.ensures in omega (arith, c.requires.4)
 
-pub overflow_mul-work : goal.overflow_mul-work
-overflow_mul-work c = let h = here c.requires.0 c.requires.1 c.loop-r-test.true in omega arith
+pub extended-requires : goal.extended-requires
+extended-requires c = let h = here c.requires.0 c.requires.1 c.loop-r-test.true in omega arith
 
-pub overflow_add-work-in-loop-r : goal.overflow_add-work-in-loop-r
-overflow_add-work-in-loop-r c =
+pub part_word-requires : goal.part_word-requires
+part_word-requires c =
     let h = here c.requires.0 c.requires.1 c.loop-r-test.true in
-    omega (arith, first_small c.loop-r.r (get_or c.loop-r.work (c.args.base + part_of c.args.n c.u16_at.result) 0) (omega arith))
+    let is = c.extended.ensures in
+    (rw is.0 (first_small c.part_records.result.start c.part_records.result.end c.loop-r.r (omega arith) (omega arith)), omega arith)
 
 pub bounds-work-k-in-loop-r : goal.bounds-work-k-in-loop-r
 bounds-work-k-in-loop-r c = let l = line (here c.requires.0 c.requires.1 c.loop-r-test.true) c.requires.2 c.type_inv.file c.u16_at.ensures in omega (arith, c.requires.4)
@@ -76,4 +77,5 @@ loop-r-preserved c =
     let h = here c.requires.0 c.requires.1 c.loop-r-test.true in
     let l = line h c.requires.2 c.type_inv.file c.u16_at.ensures in
     let part : part_of a.n c.u16_at.result ≡ part_of a.n (line_number a.file.now c.loop-r.r) = ap (part_of a.n) l.is in
-    rw c.first_of-first.ensures (parts-met c.loop-r.invariant h.few c.requires.4 (omega (arith, l.inside, part)) (ap (λ (k : ℕ). a.base + k) part))
+    rw (met_made _ _ c.part_records.ensures c.extended.ensures c.part_word.ensures)
+    (parts-met c.loop-r.invariant h.few c.requires.4 (omega (arith, l.inside, part)) (ap (λ (k : ℕ). a.base + k) part))

@@ -7,18 +7,18 @@ use Rattle.solve.proofs.Growing.{source_fits, grown_by, waits_unioned, union_at,
 use Rattle.solve.proofs.push.push.Goals as goal
 
 pub union-grew-requires : goal.union-grew-requires
-union-grew-requires c = let at = c.mask_row.ensures in (omega (arith, row_fits c.args.n c.args.width c.requires.3, c.requires.2), omega (arith, source_fits c.args.n c.args.width c.args.from c.requires.4, c.requires.2))
+union-grew-requires c = let at = c.mask_row.ensures in (omega (arith, row_fits c.args.layout.n c.args.layout.width c.requires.1, c.requires.0), omega (arith, source_fits c.args.layout.n c.args.layout.width c.args.from c.requires.2, c.requires.0))
 
 pub enqueue-requires : goal.enqueue-requires
 enqueue-requires c =
     let u = union_at c.mask_row.ensures refl c.union-grew.ensures in
     let long = c.union-grew.auto.ws in
-    let waits = waits_unioned c.args.work.now c.args.n c.args.width c.args.from c.args.d.0 c.requires.2 c.requires.3 c.requires.4 (λ i. (c.slice_known-1.given i).fits) u c.requires.5.1 in
-    (c.requires.0, c.requires.1, omega (arith, c.requires.2), c.requires.3, (c.requires.5.0, waits))
+    let waits = waits_unioned c.args.work.now c.args.layout.n c.args.layout.width c.args.from c.args.d.0 c.requires.0 c.requires.1 c.requires.2 (λ i. (c.slice_known-1.given i).fits) u c.requires.3.1 in
+    (omega (arith, c.requires.0), c.requires.1, (c.requires.3.0, waits))
 
 pub returns : goal.returns
 returns c =
     let u = union_at c.mask_row.ensures refl c.union-grew.ensures in
-    pushed c.requires.3
-    (grown_by c.args.work.now c.args.n c.args.width c.args.from c.args.d.0 c.requires.2 c.requires.3 c.requires.4 (λ i. (c.slice_known-1.given i).fits) c.union-grew.result u)
+    pushed c.requires.1
+    (grown_by c.args.work.now c.args.layout.n c.args.layout.width c.args.from c.args.d.0 c.requires.0 c.requires.1 c.requires.2 (λ i. (c.slice_known-1.given i).fits) c.union-grew.result u)
     c.enqueue.ensures

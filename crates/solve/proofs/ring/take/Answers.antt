@@ -7,31 +7,31 @@ use Rattle.solve.proofs.Waiting.{front_below, taken}
 use Rattle.solve.proofs.ring.take.Goals as goal
 
 pub state-at-requires : goal.state-at-requires
-state-at-requires c = (c.requires.0, c.requires.1, rw c.queue.ensures (front_below c.requires.4.0 c.requires.4.1 c.requires.3))
+state-at-requires c = (rw c.queue.ensures (front_below c.requires.2.0 c.requires.2.1 c.requires.1))
 
 pub offset_bounds-work-at : goal.offset_bounds-work-at
 offset_bounds-work-at c =
-    let below = front_below c.requires.4.0 c.requires.4.1 c.requires.3 in
+    let below = front_below c.requires.2.0 c.requires.2.1 c.requires.1 in
     let at = rw c.queue.ensures at c.state-at.ensures in
-    omega (arith, node-below c.requires.0 c.requires.1 (le_of_lt below))
+    omega (arith, node-below c.args.layout.few c.args.layout.narrow (le_of_lt below))
 
 pub bounds-work-at : goal.bounds-work-at
 bounds-work-at c =
-    let below = front_below c.requires.4.0 c.requires.4.1 c.requires.3 in
+    let below = front_below c.requires.2.0 c.requires.2.1 c.requires.1 in
     let at = rw c.queue.ensures at c.state-at.ensures in
-    omega (arith, row_fits c.args.n c.args.width below, c.requires.2)
+    omega (arith, row_fits c.args.layout.n c.args.layout.width below, c.requires.0)
 
 pub offset_bounds-work-at-2 : goal.offset_bounds-work-at-2
 offset_bounds-work-at-2 c =
-    let below = front_below c.requires.4.0 c.requires.4.1 c.requires.3 in
+    let below = front_below c.requires.2.0 c.requires.2.1 c.requires.1 in
     let at = rw c.queue.ensures at c.state-at.ensures in
-    omega (arith, node-below c.requires.0 c.requires.1 (le_of_lt below))
+    omega (arith, node-below c.args.layout.few c.args.layout.narrow (le_of_lt below))
 
 pub bounds-work-at-2 : goal.bounds-work-at-2
 bounds-work-at-2 c =
-    let below = front_below c.requires.4.0 c.requires.4.1 c.requires.3 in
+    let below = front_below c.requires.2.0 c.requires.2.1 c.requires.1 in
     let at = rw c.queue.ensures at c.state-at.ensures in
-    omega (arith, row_fits c.args.n c.args.width below, c.requires.2)
+    omega (arith, row_fits c.args.layout.n c.args.layout.width below, c.requires.0)
 
 pub returns : goal.returns
-returns c = taken c.requires.2 (front_below c.requires.4.0 c.requires.4.1 c.requires.3) c.queue.ensures c.state-at.ensures
+returns c = taken c.requires.0 (front_below c.requires.2.0 c.requires.2.1 c.requires.1) c.queue.ensures c.state-at.ensures c.taken.ensures

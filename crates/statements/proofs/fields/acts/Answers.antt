@@ -4,4 +4,4 @@ use Rattle.statements.proofs.ByNumber.{noted_acts}
 use Rattle.statements.proofs.fields.acts.Goals as goal
 
 pub returns : goal.returns
-returns c = noted_acts c.requires.0 c.requires.1
+returns c = noted_acts c.requires.0 c.requires.1 c.from.ensures

@@ -6,4 +6,4 @@ use Rattle.statements.proofs.WorkArea.{row_below}
 use Rattle.sure.proofs.layout.word.Goals as goal
 
 pub overflow_add-result : goal.overflow_add-result
-overflow_add-result c = omega (arith, row_below c.requires.0 (le_refl c.args.n))
+overflow_add-result c = omega (arith, row_below c.args.layout.few (le_refl c.args.layout.n))

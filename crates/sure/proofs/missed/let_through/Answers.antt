@@ -1,27 +1,20 @@
 -- `missed::let_through` meets its contract: the complement of the references, and with the first word of the body's set where one is asked.
 -- Assumes nothing.
-use Prim.Native.Nat.{◌+◌}
-use mathlib.Core.Path.{ap}
 use native.Mathlib.Omega.{arith}
-use lib.ListN.{get_or}
-use Rattle.statements.proofs.Keeps.{ready-most}
+use Rattle.sure.proofs.Reading.{asks_body, asks_none}
 use Rattle.sure.proofs.Sets.{through-free, through-body}
 use Rattle.sure.proofs.missed.let_through.Goals as goal
 
-pub sure-requires : goal.sure-requires
-sure-requires c = ready-most c.requires.0
+pub set_of-requires : goal.set_of-requires
+set_of-requires c =
+    let asks = asks_body c.args.work.now c.args.layout.n c.args.i.0 c.sure.ensures c.body_of.ensures c.in-Some.b c.in-Some.is in
+    (c.requires.1, omega (arith, asks, c.requires.3))
 
-pub returns-then-body-eq0 : goal.returns-then-body-eq0
-returns-then-body-eq0 c =
-    let body = ap (λ z. get_or c.args.work.now (z + c.args.i.0) 0) c.sure.ensures in
-    through-free c.references_word-others.ensures body c.if-body-eq0.true
+pub returns-in-Some : goal.returns-in-Some
+returns-in-Some c =
+    let asks = asks_body c.args.work.now c.args.layout.n c.args.i.0 c.sure.ensures c.body_of.ensures c.in-Some.b c.in-Some.is in
+    through-body c.references_word-others.ensures c.in-Some.b.0 asks c.set_of.ensures.0
 
-pub set-requires : goal.set-requires
-set-requires c =
-    let body = ap (λ z. get_or c.args.work.now (z + c.args.i.0) 0) c.sure.ensures in
-    (ready-most c.requires.0, omega (arith, c.if-body-eq0.false, c.requires.3))
-
-pub returns : goal.returns
-returns c =
-    let body = ap (λ z. get_or c.args.work.now (z + c.args.i.0) 0) c.sure.ensures in
-    through-body c.references_word-others.ensures body c.if-body-eq0.false c.set.ensures
+pub returns-in-None : goal.returns-in-None
+returns-in-None c =
+    through-free c.references_word-others.ensures (asks_none c.args.work.now c.args.layout.n c.args.i.0 c.sure.ensures c.body_of.ensures c.in-None.is)

@@ -7,4 +7,4 @@ use Rattle.sure.specs.Clauses.Missing.{Gathered}
 use Rattle.sure.proofs.missed.listed_set.Given as goal
 
 abbrev pub invariant-loop-k : goal.invariant-loop-k
-invariant-loop-k l = Gathered l.work l.n (take l.k (successors (flow_of l.file) l.i.0)) (l.missed ∷ l.returns ∷ [])
+invariant-loop-k l = Gathered l.work l.layout.n (take l.k (successors (flow_of l.file) l.i.0)) (l.missed ∷ l.returns ∷ [])

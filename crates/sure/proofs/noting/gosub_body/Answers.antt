@@ -4,7 +4,7 @@ use mathlib.Core.Path.{sym, ◌∙◌, ap}
 use Rattle.flow.specs.Format.{flow_of}
 use Rattle.flow.specs.Clauses.Answers.{statement_in}
 use Rattle.sure.specs.Clauses.Noting.{body_of}
-use Rattle.statements.proofs.Told.{continues-to, continues_nowhere}
+use Rattle.statements.proofs.StatementIn.{statement_in-some, statement_in-none}
 use Rattle.sure.proofs.Bodies.{no_gosub, no_continuation, gosub-enters}
 use Rattle.sure.proofs.noting.gosub_body.Goals as goal
 
@@ -14,10 +14,10 @@ returns-then-not-is_gosub c =
 
 pub returns-in_err-continuation : goal.returns-in_err-continuation
 returns-in_err-continuation c =
-    let none = c.offset-p.ensures.continuation ∙ continues_nowhere _ (sym c.continuation.ensures ∙ c.in_err-continuation.was) in
+    let none = c.offset-p.ensures.continuation ∙ statement_in-none _ (sym c.continuation.ensures ∙ c.in_err-continuation.was) in
     c.from_residual.ensures ∙ sym (ap (λ l. statement_in (body_of l)) (no_continuation (flow_of c.args.file.now) c.args.c.0 none))
 
 pub returns : goal.returns
 returns c =
-    let at = c.offset-p.ensures.continuation ∙ continues-to _ _ (sym c.continuation.ensures ∙ c.in_ok-continuation.was) in
+    let at = c.offset-p.ensures.continuation ∙ statement_in-some _ _ (sym c.continuation.ensures ∙ c.in_ok-continuation.was) in
     c.entered.ensures ∙ sym (ap statement_in (gosub-enters (flow_of c.args.file.now) c.args.c.0 (sym c.is_gosub.ensures ∙ c.if-not-is_gosub.false) at))

@@ -4,4 +4,4 @@ use Rattle.sure.proofs.Bodies.{BodiesUpTo}
 use Rattle.sure.proofs.noting.note_bodies.Given as goal
 
 abbrev pub invariant-loop-c : goal.invariant-loop-c
-invariant-loop-c l = BodiesUpTo (flow_of l.file) l.initial.work l.work l.n l.c l.found
+invariant-loop-c l = BodiesUpTo (flow_of l.file) l.initial.work l.work l.h.statements l.c l.found

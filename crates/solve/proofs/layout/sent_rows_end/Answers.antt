@@ -1,8 +1,0 @@
--- `sent_rows_end` meets its contract: no place is too large (`end_below`).
--- Assumes nothing.
-use native.Mathlib.Omega.{arith}
-use Rattle.solve.proofs.Room.{end_below}
-use Rattle.solve.proofs.layout.sent_rows_end.Goals as goal
-
-pub overflow_add-result : goal.overflow_add-result
-overflow_add-result c = omega (arith, end_below c.requires.0 c.requires.1 c.requires.2)

@@ -1,9 +1,0 @@
--- `state` meets its contract: the place is not too large (`node-below`).
--- Assumes nothing.
-use native.Mathlib.Nat.{le_of_lt}
-use native.Mathlib.Omega.{arith}
-use Rattle.solve.proofs.Room.{node-below}
-use Rattle.solve.proofs.layout.state.Goals as goal
-
-pub overflow_add-result : goal.overflow_add-result
-overflow_add-result c = omega (arith, node-below c.requires.0 c.requires.1 (le_of_lt c.requires.2))
