@@ -106,3 +106,46 @@ fn each_of_them_says_what_fails_if_it_is_wrong() {
         "without a row: {without:?}; a row of no such definition: {beside:?}"
     );
 }
+
+/// The functions whose contracts a page names (`contract of ..`, `contracts of ..`), the last of them with the crate that stands behind it.
+fn contracts_named(page: &str) -> Vec<(String, Option<String>)> {
+    let mut named = Vec::new();
+    for rest in page.split("contract").skip(1) {
+        let rest = rest.strip_prefix('s').unwrap_or(rest);
+        let Some(mut rest) = rest.strip_prefix(" of ") else { continue };
+        let mut functions = Vec::new();
+        while let Some((function, behind)) = rest.strip_prefix('`').and_then(|r| r.split_once('`')) {
+            functions.push(function.to_string());
+            rest = behind.strip_prefix(", ").or(behind.strip_prefix(" and ")).unwrap_or(behind);
+        }
+        let place = rest.strip_prefix(" (").and_then(|r| r.split([')', '/', ',', ' ']).next());
+        let krate = place.filter(|place| root().join("crates").join(place).is_dir());
+        let last = functions.len();
+        let with_place = |(k, f): (usize, String)| (f, krate.filter(|_| k + 1 == last).map(str::to_string));
+        named.extend(functions.into_iter().enumerate().map(with_place));
+    }
+    named
+}
+
+#[test]
+fn each_contract_that_a_page_names_is_that_of_a_function() {
+    let sources: Vec<_> =
+        of_crates("src", "rt").into_iter().map(|file| (fs::read_to_string(&file).unwrap(), file)).collect();
+    let stands = |function: &str, krate: &Option<String>| {
+        let starts = [format!("fn {function}("), format!("fn {function}<")];
+        sources
+            .iter()
+            .filter(|(_, file)| {
+                krate.as_ref().is_none_or(|k| file.starts_with(root().join("crates").join(k)))
+            })
+            .any(|(text, _)| starts.iter().any(|start| text.contains(start)))
+    };
+    for page in ["README.md", "docs/PROOFS.md", "docs/DEFINITIONS.md", "docs/DECISIONS.md", "docs/ROADMAP.md"] {
+        let named = contracts_named(&fs::read_to_string(root().join(page)).unwrap());
+        // A definition that a contract cites may stand behind its function.
+        let is_function = |f: &str| !f.ends_with("..") && f.starts_with(char::is_lowercase);
+        let gone: Vec<_> = named.iter().filter(|(f, krate)| is_function(f) && !stands(f, krate)).collect();
+        assert!(gone.is_empty(), "{page} names contracts of no function: {gone:?}");
+        assert!(page != "docs/DEFINITIONS.md" || named.len() > 50, "the contracts of {page} were not found");
+    }
+}

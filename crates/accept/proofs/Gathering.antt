@@ -61,10 +61,12 @@ le-same (suc k) q s i at same =
     omega arith
 
 -- a number of w bytes is below 256 ^ w
-pub le-small : (w : ℕ) (s : List ℕ) (at : ℕ) → ((a : ℕ) → get_or s a 0 < 256) → le_at w s at < 256 ^ w
+pub le-small : (w : ℕ) (s : List ℕ) (at : ℕ) → ((a : ℕ) → a < w → get_or s (at + a) 0 < 256) → le_at w s at < 256 ^ w
 unfolding le_at
 le-small zero s at h = omega arith
-le-small (suc w) s at h = omega (arith, h at, le-small w s (at + 1) h, pow-suc 256 w)
+le-small (suc w) s at h =
+    let first : get_or s at 0 < 256 = subst (λ (x : ℕ). get_or s x 0 < 256) (omega arith) (h 0 (omega arith)) in
+    omega (arith, first, le-small w s (at + 1) (λ a l. subst (λ (x : ℕ). get_or s x 0 < 256) (omega (arith, add-one a)) (h (suc a) (omega arith))), pow-suc 256 w)
 
 -- the bytes from group g on
 pub le-last : (s : List ℕ) (g : ℕ) → 8 * g ≤ length s → let q : List ℕ = between (8 * g) (length s) s in le_at (length q) q 0 ≡ le_at (length s - 8 * g) s (8 * g)

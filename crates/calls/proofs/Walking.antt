@@ -12,13 +12,14 @@ use native.Mathlib.Nat.{le_refl}
 use native.Mathlib.Numerals.{add-one}
 use native.Mathlib.Omega.{arith}
 use borrow.Author.Tests.{eqb-true, eqb-false}
+use lib.Dec.{eqb}
 use lib.ListN.{length, get_or, set, take, length-set}
 use lib.Seq.{take-suc, get_or-set_same, get_or-set_other}
 use Rattle.words.specs.Clauses.Row.{has}
 use Rattle.words.specs.Clauses.Change.{Inserted, inserted}
 use Rattle.words.proofs.Row.{has-lt, has-cong}
 use Rattle.words.proofs.Tally.{tally-cong, tally-suc, tally-le}
-use Rattle.words.proofs.Inserted.{length_inserted, inserted-other, insert_same, insert_other, insert_again}
+use Rattle.words.proofs.Inserted.{length_inserted, inserted-other, insert_same, insert_other}
 use Rattle.flow.specs.Flow.{Flow}
 use Rattle.theory.specs.Lists.{In}
 use Rattle.theory.specs.Reach.{Reach}
@@ -203,24 +204,23 @@ module _ {ws : List ℕ} {n e top i : ℕ} (s : Stack ws n e top) (le : e < n) (
       go j l g (yes q) = inr (Memᴰ.head q, record { place = top; within = omega arith; is = top_is ∙ sym q })
       go j l g (no d) = inl (sym (row_same j l ∙ insert_other ws (row_at n e) i j in_row d) ∙ g)
 
--- what the code makes of the row, which starts at base, and whether i is new there
-module _ {ws us : List ℕ} {n e top i base : ℕ} {r : Bool} (s : Stack ws n e top) (le : e < n) (li : i < n) (q : base ≡ row_at n e) (x : Inserted ws us base i r) where
-  made : Inserted ws us (row_at n e) i r
-  made = subst (λ (b : ℕ). Inserted ws us b i r) q x
+-- what the code finds in the row, which starts at base, and makes of it
+module _ {ws : List ℕ} {n e top i base : ℕ} {r : Bool} (s : Stack ws n e top) (le : e < n) (li : i < n)
+    (q : base ≡ row_at n e) (x : r ≡ eqb (has ws base i) 1) where
+  found : r ≡ eqb (has ws (row_at n e) i) 1
+  found = x ∙ ap (λ b. eqb (has ws b i) 1) q
 
-  pub meet_old : r ≡ false → Met ws us n e top top (i ∷ [])
-  meet_old h =
-      let there : has ws (row_at n e) i ≡ 1 = omega (arith, has-lt ws (row_at n e) i, eqb-false (has ws (row_at n e) i) 0 (sym made.fresh ∙ h)) in
-      rw (made.slice, insert_again ws (row_at n e) i there) (met-old s le li there)
+  pub meet_old : r ≡ true → Met ws ws n e top top (i ∷ [])
+  meet_old h = met-old s le li (eqb-true _ 1 (sym found ∙ h))
 
-  is-new : r ≡ true → has ws (row_at n e) i ≡ 0
-  is-new h = eqb-true (has ws (row_at n e) i) 0 (sym made.fresh ∙ h)
+  is-new : r ≡ false → has ws (row_at n e) i ≡ 0
+  is-new h = omega (arith, has-lt ws (row_at n e) i, eqb-false (has ws (row_at n e) i) 1 (sym found ∙ h))
 
-  pub meet_room : r ≡ true → top < n
+  pub meet_room : r ≡ false → top < n
   meet_room h = not_full s le li (is-new h)
 
-  pub meet_new : {queue : ℕ} → r ≡ true → queue ≡ queue_at n → Met ws (set us (queue + top) i) n e top (top + 1) (i ∷ [])
-  meet_new h p = rw (made.slice, p) (met-new s le li (is-new h))
+  pub meet_new : {us : List ℕ} {queue : ℕ} {b : Bool} → r ≡ false → Inserted ws us base i b → queue ≡ queue_at n → Met ws (set us (queue + top) i) n e top (top + 1) (i ∷ [])
+  meet_new h m p = rw (m.slice ∙ ap (λ b. inserted ws b i) q, p) (met-new s le li (is-new h))
 
 -- The walk
 

@@ -15,9 +15,12 @@ fn meet(work: &mut [u64], layout: Layout, e: StmtId, top: usize, i: StmtId) -> u
     requires { Stack work.old layout.n e.0 top × (e.0 < layout.n) × (i.0 < layout.n) }
     ensures { Met work.old work.new layout.n e.0 top result (i.0 ∷ []) }
 {
-    if !words::insert(work, layout.row(e), i.0) {
+    let row = layout.row(e);
+    // A statement that was met before is only looked up: a word that each edge writes is waited for at the next.
+    if words::contains(work, row, i.0) {
         return top;
     }
+    words::insert(work, row, i.0);
     work[layout.queue() + top] = i.0 as u64;
     top + 1
 }

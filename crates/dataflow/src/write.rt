@@ -36,7 +36,10 @@ fn write_bytes(out: &mut [u8], word: u64)
     requires { length out.old ≤ 8 }
     ensures { out.new ≡ tabulate (length out.old) (byte_of word) }
 {
-    out.copy_from_slice(&word.to_le_bytes()[..out.len()]);
+    // By the shift: a copy of so many bytes as there happen to be is a call of `memcpy`, which a program without the C library may not have.
+    for k in 0..out.len() {
+        out[k] = ((word >> (8 * k)) % 256) as u8;
+    }
 }
 
 // The masks of the first arrays of a word of each set. Eight bytes of a word become one store, so the last, short group stands apart.

@@ -11,3 +11,4 @@ pub mod Reading
 pub mod WithoutKey
 pub mod Cases
 pub mod AreaVerdict
+pub mod Lent

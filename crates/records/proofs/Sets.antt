@@ -3,16 +3,22 @@
 use Prim.Native.Nat.{ℕ, zero, suc, ◌+◌, ◌*◌, ◌/◌, ◌%◌, ◌^◌, ◌<◌, max}
 use native.Mathlib.Omega.{arith}
 use native.Mathlib.Nat.{eq-or-lt_of_le, le_of_suc-le-suc}
-use mathlib.Core.Logic.{⊎_elim}
+use mathlib.Core.Logic.{⊎_elim, ◌↔◌}
 use mathlib.Core.Bool.{Bool, true, false, cond}
-use mathlib.Core.Path.{◌≡◌, refl}
+use mathlib.Core.List.Memᴰ
+use mathlib.Core.List.{List, Memᴰ}
+use mathlib.Core.Path.{◌≡◌, refl, sym}
 use lib.Bits.{or_lt}
 use lib.Dec.{eqb, lit<}
 use lib.Pow.{pow-lt}
 use borrow.Author.Tests.{eqb-true, eqb-false, eq-eqb}
 use Rattle.words.specs.Clauses.Row.{bit}
 use Rattle.words.proofs.Bit.{bit-lt, bit-or, bit_of_zero, bit-pow-same, bit-pow-other}
+use Rattle.flow.specs.Flow.{statement}
+use Rattle.flow.specs.Format.{tabulate, flow_of, record_place, statements_of, reference_count, reference_at}
 use Rattle.records.specs.Clauses.Fields.{bit_in, set_word}
+use Rattle.records.proofs.Tabulated.{member_of, member-at}
+use Rattle.records.proofs.Statements.{says}
 
 bit_in-lt : (w a : ℕ) → bit_in w a < 2 ^ 64
 bit_in-lt w a = go (eqb (a / 64) w)
@@ -66,3 +72,19 @@ module _ (f : ℕ → ℕ) (w j : ℕ) (l : j < 64) where
       go false e found =
           let not-before = eqb-false (bit (set_word n f w) j) 1 e in
           (n, omega arith, bit-only w j (f n) l (omega (arith, more n, bit-lt (set_word n f w) j)))
+
+-- the words of a statement's references are the set of those references in the flow
+pub references-set : (s : List ℕ) (i w j : ℕ) → i < statements_of s → j < 64
+    → (bit (set_word (reference_count s (record_place s i)) (reference_at s (record_place s i)) w) j ≡ 1)
+    ↔ Memᴰ (64 * w + j) (statement (flow_of s) i).references
+references-set s i w j m l =
+    rw (says s i m).references (λ h. here (bit-has (reference_at s p) w j l (reference_count s p) h), λ h. there (member_of (reference_at s p) (reference_count s p) h))
+  where
+    p : ℕ
+    p = record_place s i
+
+    here : (k : ℕ) × (k < reference_count s p) × (reference_at s p k ≡ 64 * w + j) → Memᴰ (64 * w + j) (tabulate (reference_count s p) (reference_at s p))
+    here r = Memᴰ.cast (sym r.2) (member-at (reference_at s p) (reference_count s p) r.0 r.1)
+
+    there : (k : ℕ) × (k < reference_count s p) × (64 * w + j ≡ reference_at s p k) → bit (set_word (reference_count s p) (reference_at s p) w) j ≡ 1
+    there r = has-bit (reference_at s p) w j l (reference_count s p) r.0 r.1 (sym r.2)

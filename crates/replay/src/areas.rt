@@ -1,6 +1,7 @@
 // The lent areas: filled before a call, and compared after it.
 
-use crate::case::States;
+use crate::case::{Elements, States};
+use crate::reader::Reader;
 
 // What an area holds before a call, so that a byte that must stay is seen to stay.
 pub const FILLED_BYTE: u8 = 0xa5;
@@ -25,35 +26,36 @@ pub fn is_all<T: Copy + PartialEq>(area: &[T], value: T) -> bool {
     area.iter().all(|x| *x == value)
 }
 
-// What a case stores of an element.
-pub trait Stored<T>: Copy {
-    fn value(self) -> T;
+// An element as a case stores it.
+pub trait Stored: Copy + PartialEq {
+    fn read(reader: &mut Reader<'_>) -> Self;
 }
 
-impl Stored<u8> for u8 {
-    fn value(self) -> u8 {
-        self
+impl Stored for u8 {
+    fn read(reader: &mut Reader<'_>) -> Self {
+        reader.read_u8()
     }
 }
 
-// Words are stored little-endian.
-impl Stored<u64> for [u8; 8] {
-    fn value(self) -> u64 {
-        u64::from_le_bytes(self)
+impl Stored for u64 {
+    fn read(reader: &mut Reader<'_>) -> Self {
+        reader.read_u64()
     }
 }
 
 // Whether the area begins with what must be written, and is as it was filled behind it.
-pub fn holds<T: Copy + PartialEq, S: Stored<T>>(area: &[T], written: &[S], filled: T) -> bool {
-    if area.len() < written.len() {
+pub fn holds<T: Stored>(area: &[T], written: Elements<'_>, filled: T) -> bool {
+    if area.len() < written.count {
         return false;
     }
-    let (start, rest) = area.split_at(written.len());
-    start
-        .iter()
-        .zip(written)
-        .all(|(x, stored)| *x == stored.value())
-        && is_all(rest, filled)
+    let (start, rest) = area.split_at(written.count);
+    let mut reader = Reader::new(written.stored);
+    for x in start {
+        if *x != T::read(&mut reader) {
+            return false;
+        }
+    }
+    is_all(rest, filled)
 }
 
 // What the areas of every case are taken from.

@@ -1,5 +1,5 @@
 // The stored cases: what is asked of the library, and what it must answer.
-ghost use Rattle.std.specs.Prelude.{◌≤◌, length};
+ghost use Rattle.std.specs.Prelude.{◌≤◌, ◌<◌, ◌^◌, length};
 
 use crate::reader::Reader;
 
@@ -21,10 +21,10 @@ impl<'a, 'f> Case<'a, 'f> {
         ensures { length reader.new.rest.now ≤ length reader.old.rest.now }
     {
         let size = read_file(reader, file);
-        let file = &file[..size];
+        // Of a file too short for a header the bytes behind it say how long the answers are.
         let counts = Counts::of(file);
         Case {
-            file,
+            file: &file[..size],
             lengths: Lengths::read(reader),
             states: match read_refusal(reader) {
                 None => Ok(States::read(reader, counts)),
@@ -59,25 +59,24 @@ impl Lengths {
     }
 }
 
-// Words stand as they are stored, 8 bytes each.
 #[derive(Clone, Copy)]
 pub struct States<'a> {
     pub visits: u64,
-    pub masks: &'a [u8],
-    pub live_in: &'a [[u8; 8]],
-    pub live_out: &'a [[u8; 8]],
+    pub masks: Elements<'a>,
+    pub live_in: Elements<'a>,
+    pub live_out: Elements<'a>,
 }
 
 impl<'a> States<'a> {
     fn read(reader: &mut Reader<'a>, counts: Counts) -> Self
         ensures { length reader.new.rest.now ≤ length reader.old.rest.now }
     {
-        let masks = usize::from(counts.statements) * usize::from(counts.arrays);
+        let statements = usize::from(counts.statements);
         States {
             visits: u64::from(reader.read_u32()),
-            masks: reader.take(masks),
-            live_in: read_words(reader, counts.statements),
-            live_out: read_words(reader, counts.statements),
+            masks: Elements::read(reader, statements * usize::from(counts.arrays), 1),
+            live_in: Elements::read(reader, statements, 8),
+            live_out: Elements::read(reader, statements, 8),
         }
     }
 }
@@ -86,7 +85,7 @@ impl<'a> States<'a> {
 pub struct Interference<'a> {
     // The most names that are live at once.
     pub most_live: u64,
-    pub rows: &'a [[u8; 8]],
+    pub rows: Elements<'a>,
 }
 
 impl<'a> Interference<'a> {
@@ -100,8 +99,27 @@ impl<'a> Interference<'a> {
                 return Err(refused);
             }
         }
-        let rows = read_words(reader, u16::from(counts.names));
+        let rows = Elements::read(reader, usize::from(counts.names), 8);
         answer.map(|most_live| Interference { most_live, rows })
+    }
+}
+
+// How many bytes or words must be written, and those of them that are stored: a byte past the end of what is stored is 0.
+#[derive(Clone, Copy)]
+pub struct Elements<'a> {
+    pub count: usize,
+    pub stored: &'a [u8],
+}
+
+impl<'a> Elements<'a> {
+    fn read(reader: &mut Reader<'a>, count: usize, width: usize) -> Self
+        requires { (count < 2 ^ 32) × (width ≤ 8) }
+        ensures { length reader.new.rest.now ≤ length reader.old.rest.now }
+    {
+        Elements {
+            count,
+            stored: reader.take(count * width),
+        }
     }
 }
 
@@ -157,33 +175,34 @@ fn read_file(reader: &mut Reader<'_>, file: &mut [u8]) -> usize
         }
         let block_size = reader.read_u16();
         let block = reader.take(usize::from(block_size));
-        for _ in 0..times {
-            size += append(block, &mut file[size..]);
-        }
+        size = repeat(block, times, file, size);
     }
     size
 }
 
-// Copies the block as far as there is room, and answers how many bytes that were.
-fn append(block: &[u8], room: &mut [u8]) -> usize
-    ensures { result ≤ length room.old }
+// Writes the block that often from `start` on, as far as there is room, and answers where it ends.
+// Byte by byte: blocks are short, and a copy of each would be a call for each time that it is repeated.
+fn repeat(block: &[u8], times: u16, file: &mut [u8], start: usize) -> usize
+    requires { start ≤ length file.old }
+    ensures { result ≤ length file.new }
 {
-    let n = block.len().min(room.len());
-    room[..n].copy_from_slice(&block[..n]);
-    n
+    let mut size = start;
+    for _ in 0..times {
+        for &byte in block {
+            if size == file.len() {
+                return size;
+            }
+            file[size] = byte;
+            size += 1;
+        }
+    }
+    size
 }
 
 fn read_length(reader: &mut Reader<'_>) -> usize
     ensures { length reader.new.rest.now ≤ length reader.old.rest.now }
 {
     reader.read_u32() as usize
-}
-
-fn read_words<'a>(reader: &mut Reader<'a>, n: u16) -> &'a [[u8; 8]]
-    ensures { length reader.new.rest.now ≤ length reader.old.rest.now }
-{
-    let (words, _) = reader.take(8 * usize::from(n)).as_chunks::<8>();
-    words
 }
 
 // The number 0 stands for no refusal.

@@ -8,6 +8,7 @@ use native.Mathlib.Decide.{ℕ_discrete}
 use native.Mathlib.Omega.{arith}
 use lib.Bits.{bit_or, or_lt}
 use lib.ListN.{length, get_or, set, length-set}
+use lib.Pow.{pow-lt}
 use lib.Seq.{get_or-set_same, get_or-set_other, set-get_or}
 use Rattle.words.specs.Clauses.Row.{bit, has, Words, members}
 use Rattle.words.specs.Clauses.Change.{joined, inserted}
@@ -34,6 +35,10 @@ words-joined ws at bits w h = words-set ws at (bit_or (get_or ws at 0) bits) w (
 pub length_inserted : (ws : List ℕ) (base i : ℕ) → length (inserted ws base i) ≡ length ws
 unfolding inserted
 length_inserted ws base i = length-joined ws (base + i / 64) (2 ^ (i % 64))
+
+pub words-inserted : (ws : List ℕ) (base i : ℕ) → Words ws → Words (inserted ws base i)
+unfolding inserted
+words-inserted ws base i w = words-joined ws (base + i / 64) (2 ^ (i % 64)) w (pow-lt {j = 64} (omega arith))
 
 -- a word that does not hold i stays
 pub inserted-other : (ws : List ℕ) (base i x : ℕ) → x ≢ base + i / 64 → get_or (inserted ws base i) x 0 ≡ get_or ws x 0

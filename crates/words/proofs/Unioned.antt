@@ -13,10 +13,15 @@ use lib.Dec.{eqb}
 use Rattle.words.specs.Clauses.Row.{bit, has, Words, members}
 use Rattle.words.specs.Clauses.Change.{joined, Joined, Unioned, rewritten, unioned, ReadFirst, differs}
 use Rattle.words.proofs.Bit.{bit-or}
+use Rattle.words.proofs.Tally.{tally-cong, tally-mono}
 use Rattle.words.proofs.Inserted.{length-joined, joined_word, joined-other}
-use Rattle.words.proofs.Rewritten.{rewritten-other, rewritten-word, words-rewritten, differs-cong, rewritten-same, differs-members}
+use Rattle.words.proofs.Rewritten.{length-rewritten, rewritten-other, rewritten-word, words-rewritten, differs-cong, rewritten-same, differs-members}
 
 module _ (ws : List ℕ) (to from width : ℕ) where
+  pub length-unioned : length (unioned ws to from width) ≡ length ws
+  unfolding unioned
+  length-unioned = length-rewritten _ ws to width
+
   pub words-unioned : Words ws → Words (unioned ws to from width)
   unfolding unioned
   words-unioned w = words-rewritten _ ws to width w (λ vs k h. or_lt 64 (get_or vs (to + k) 0) (get_or vs (from + k) 0) (h (to + k)) (h (from + k)))
@@ -48,9 +53,26 @@ module _ (ws : List ℕ) (to from width : ℕ) where
     grows : (i : ℕ) → i < 64 * width → has ws to i ≤ has (unioned ws to from width) to i
     grows i l = omega (arith, unioned-has i l)
 
+    pub unioned-members : members ws to width ≤ members (unioned ws to from width) to width
+    unfolding members
+    unioned-members = tally-mono (has ws to) (has (unioned ws to from width) to) (64 * width) grows
+
     -- where it differs, it has more members
     unioned-grew : Words ws → differs ws (unioned ws to from width) to width ≡ true → members ws to width < members (unioned ws to from width) to width
     unioned-grew w e = differs-members ws (unioned ws to from width) to width w (words-unioned w) grows e
+
+    -- a row that has all that the other has stays
+    pub unioned-within : Words ws → ((i : ℕ) → i < 64 * width → has ws from i ≤ has ws to i) → unioned ws to from width ≡ ws
+    unfolding members
+    unioned-within w h = at (differs ws (unioned ws to from width) to width) refl
+      where
+        same : members (unioned ws to from width) to width ≡ members ws to width
+        same =
+            tally-cong (has (unioned ws to from width) to) (has ws to) (64 * width) (λ i l. omega (arith, unioned-has i l, h i l))
+
+        at : (b : Bool) → differs ws (unioned ws to from width) to width ≡ b → unioned ws to from width ≡ ws
+        at true e = absurd (omega (arith, same, unioned-grew w e))
+        at false e = unioned-same e
 
 -- a union that did not grow changed nothing
 pub union_same : {ws vs : List ℕ} {to from width : ℕ} {r : Bool} → Unioned ws vs to from width r → r ≡ false → vs ≡ ws

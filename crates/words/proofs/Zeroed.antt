@@ -7,16 +7,21 @@ use Prim.Native.Nat.{ℕ, ◌+◌, ◌-◌, ◌*◌, ◌/◌, ◌%◌, ◌≤◌
 use native.Mathlib.Nat.{zero-add}
 use native.Mathlib.Omega.{arith}
 use lib.ListN.{length, get_or, replicate, length-replicate, get_or-replicate}
+use lib.Pow.{pow_pos}
 use lib.Seq.{ext_get_or}
-use Rattle.words.specs.Clauses.Row.{bit, has}
+use Rattle.words.specs.Clauses.Row.{bit, has, Words}
 use Rattle.words.specs.Clauses.Change.{zeroed}
 use Rattle.words.proofs.Bit.{bit_of_zero}
-use Rattle.words.proofs.Rewritten.{length-rewritten, rewritten-other, rewritten-word}
+use Rattle.words.proofs.Rewritten.{length-rewritten, rewritten-other, rewritten-word, words-rewritten}
 
 module _ (ws : List ℕ) (base width : ℕ) where
   pub length-zeroed : length (zeroed ws base width) ≡ length ws
   unfolding zeroed
   length-zeroed = length-rewritten _ ws base width
+
+  pub words-zeroed : Words ws → Words (zeroed ws base width)
+  unfolding zeroed
+  words-zeroed w = words-rewritten _ ws base width w (λ vs k h. pow_pos 64)
 
   pub zeroed-other : (x : ℕ) → ((k : ℕ) → k < width → x ≢ base + k) → get_or (zeroed ws base width) x 0 ≡ get_or ws x 0
   unfolding zeroed

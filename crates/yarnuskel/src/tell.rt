@@ -27,6 +27,7 @@ pub fn tell(answer: Result<u64, Refusal>, place: &mut u64, found: &mut u64) -> u
     ensures place_after { place.new ≡ place_of_answer answer }
     ensures found_after { found.new ≡ found_of_answer answer }
 {
+    let number = tell_refusal(answer, place);
     *found = answer.unwrap_or(0);
-    tell_refusal(answer, place)
+    number
 }

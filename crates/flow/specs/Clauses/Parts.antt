@@ -1,6 +1,6 @@
 -- "One reader, the file and how far it has read": it reads a part of the file at a time, in file order.
--- Of each part, where it begins and ends, its checks, and what a reader that has come to it answers.
-use Rattle.std.specs.Prelude.{ℕ, ◌+◌, ◌≤◌, ◌≡◌, List, [], ◌++◌, length, Result}
+-- Of each part, where it begins and ends, its checks, and what a reader that has come to it answers and where it stands then.
+use Rattle.std.specs.Prelude.{ℕ, ◌+◌, ◌≤◌, ◌≡◌, List, [], ◌++◌, length, Result, Ok, Err}
 use Rattle.flow.specs.declared.Part.{Part}
 use Rattle.flow.specs.declared.Part.TheVariants.{Header, Statements, Lines, Key, End}
 use Rattle.flow.specs.declared.Refusal.{Refusal}
@@ -64,6 +64,11 @@ answer_before s part = answer_of (verdict (checks_before s part)) (part_start s 
 
 abbrev pub answer_through : List ℕ → Part → Result ℕ Refusal
 answer_through s part = answer_of (verdict (checks_before s part ++ part_checks s part)) (part_end s part)
+
+-- a reader moves past a part that is fit, and stays where it is at one that is not
+abbrev pub place_after : Result ℕ Refusal → ℕ → ℕ
+place_after (Ok q) at = q
+place_after (Err r) at = at
 
 -- a file that is fit was read: the lines stand at `lines_at`, the key at `key_at` and the end at `end_at`
 pub record Read (s : List ℕ) (lines_at key_at end_at : ℕ) : Type 0 where

@@ -13,7 +13,7 @@ use Rattle.accept.proofs.rows.short_word.Goals as goal
 small : (s : List ℕ) → ((a : ℕ) → get_or s a 0 < 256) → length s < 8 → (k : ℕ) → 0 < k → le_at (length s - k) s k < 256 ^ 6
 small s byte short k some =
     let few : length s - k ≤ 6 = omega arith in
-    omega (arith, le-small (length s - k) s k byte, pow-le-pow_right {n = 256} (lit< tt) few)
+    omega (arith, le-small (length s - k) s k (λ a l. byte (k + a)), pow-le-pow_right {n = 256} (lit< tt) few)
 
 pub loop-k-init : goal.loop-k-init
 unfolding le_at

@@ -6,6 +6,3 @@ invariant-loop-reader l = (length l.reader.rest.now ≤ length l.fn.reader.rest.
 
 abbrev pub decreases-loop-reader : goal.decreases-loop-reader
 decreases-loop-reader l = length l.reader.rest.now
-
-abbrev pub invariant-loop : goal.invariant-loop
-invariant-loop l = l.size ≤ length l.file
