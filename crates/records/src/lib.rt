@@ -181,16 +181,11 @@ pub fn record_end(file: &[u8], p: usize) -> usize
     ensures { result ≡ record_end file.now p }
 {
     let at = data_place(file, p);
-    // No `match`, as in `check_data` of flow.
-    let kind = kind(file, p);
-    if kind == Kind::Dim {
-        at + 1 + 2 * u8_at(file, at)
-    } else if kind == Kind::Gosub {
-        at + 4
-    } else if kind == Kind::OnGosub {
-        at + 3 + 2 * u8_at(file, at)
-    } else {
-        at
+    match kind(file, p) {
+        Kind::Dim => at + 1 + 2 * u8_at(file, at),
+        Kind::Gosub => at + 4,
+        Kind::OnGosub => at + 3 + 2 * u8_at(file, at),
+        _ => at,
     }
 }
 
